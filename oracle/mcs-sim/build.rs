@@ -36,8 +36,8 @@ fn main() {
     let tim = read(&root.join("tim.rs"));
     let tim = before(&tim, COUNT, STOP);
     let tim = before(&tim, AFTER, HANDLED);
-    // A module of its own, because the file's `//!` lines may only open one.
-    fs::write(out.join("tim.rs"), format!("pub mod tim {{\n{tim}{VIEW}}}\n")).unwrap();
+    // Wrapped in its module, because the file's `//!` lines may only open one.
+    fs::write(out.join("tim.rs"), format!("pub mod tim {{ // added: a module of its own\n{tim}{VIEW}}} // added\n")).unwrap();
 }
 
 fn read(path: &Path) -> String {
