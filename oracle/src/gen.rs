@@ -77,21 +77,21 @@ impl Gen {
             return self.heavy();
         }
         match self.rng.below(1000) {
-            0..=259 => self.deliver(),
-            260..=449 => self.aimed_write(),
-            450..=489 => {
+            0..=379 => self.deliver(),
+            380..=529 => self.aimed_write(),
+            530..=539 => {
                 self.pilot();
                 self.choose()
             }
-            490..=609 => self.read(),
-            610..=649 => self.peek(),
-            650..=709 => self.set_pin(),
-            710..=759 => self.drive(),
-            760..=769 => Call::ResetPins { cycle: self.when(), book: self.pin_reset_book() },
-            770..=784 => Call::Reset { timer: self.timer(), cycle: self.when(), book: self.book() },
-            785..=809 => self.clock(),
-            810..=819 => self.enable(),
-            820..=929 => self.query(),
+            540..=639 => self.read(),
+            640..=679 => self.peek(),
+            680..=729 => self.set_pin(),
+            730..=779 => self.drive(),
+            780..=784 => self.reset_pins(),
+            785..=794 => Call::Reset { timer: self.timer(), cycle: self.when(), book: self.book() },
+            795..=814 => self.clock(),
+            815..=824 => self.enable(),
+            825..=929 => self.query(),
             930..=949 => Call::Clear { irq: self.irq() },
             950..=957 => Call::Setup(self.bad_setup()),
             _ => self.wild(),
@@ -139,6 +139,12 @@ impl Gen {
         }
     }
 
+    /// Any cycle but one that would make thousands of events due.
+    fn near(&mut self) -> u64 {
+        let cycle = self.when();
+        if cycle > LIMIT { cycle } else { cycle.min(self.board.last() + 500) }
+    }
+
     fn timer(&mut self) -> u32 {
         self.index(self.board.specs().len() as u32, &[8, 9, 255, 256, 1 << 16, u32::MAX])
     }
@@ -165,6 +171,12 @@ impl Gen {
             37 => self.rng.pick(&[1 << 16, 1 << 32, (1 << 32) + 2, u64::MAX]),
             _ => 1000,
         }
+    }
+
+    fn reset_pins(&mut self) -> Call {
+        let call = Call::ResetPins { cycle: self.when(), book: self.pin_reset_book() };
+        self.route_all();
+        call
     }
 
     fn pin_reset_book(&mut self) -> u64 {
@@ -238,7 +250,8 @@ impl Gen {
         let pins = match self.rng.below(10) {
             0 => self.rng.pick(&[128, 128, 127, 64, 33, 32, 31]),
             1 => 1,
-            _ => 1 + self.rng.small(16),
+            2..=4 => 1 + self.rng.small(16),
+            _ => 4 + self.rng.small(10),
         };
         let lines = match self.rng.below(3) {
             0 => self.rng.pick(&[0, 1, 32, 239, 240, 241, 255, 256, 256]),
@@ -285,10 +298,15 @@ impl Gen {
         }
     }
 
+    /// Function 1 of the pins takes the channels that drive in turn; the other functions are mixed.
     fn signals(&mut self, s: &mut Setup) {
+        let drivers = s.timers.iter().filter(|t| (2..=4).contains(&t.number));
+        let drivers: Vec<u32> = drivers.flat_map(|t| (0..t.channels).map(|c| 16 * (t.number + 10) + c + 2)).collect();
+        let first = self.rng.below(drivers.len() as u64) as usize;
         for pin in 0..s.pins {
             for f in 0..16 {
                 let signal = match self.rng.below(16) {
+                    _ if f == 1 && !drivers.is_empty() => drivers[(first + pin as usize) % drivers.len()],
                     0..=3 => {
                         let t = self.rng.pick(&s.timers).number;
                         16 * (if (2..=5).contains(&t) { t } else { 2 } + 10) + self.rng.small(4) + 2
@@ -356,10 +374,7 @@ impl Gen {
             let clock = self.clock();
             self.plan.push_back(clock);
         }
-        for _ in 0..2 + self.board.pins().min(12) {
-            let pin = self.route();
-            self.plan.push_back(pin);
-        }
+        self.route_all();
         for _ in 0..self.setup.timers.len() {
             if !self.rng.one_in(4) {
                 self.pilot();
@@ -492,9 +507,22 @@ impl Gen {
         (0..n).map(|i| (first + i) % n).find(|&t| self.board.booked(t) != u64::MAX)
     }
 
+    /// The timer that a machine would serve next.
+    fn first_booked(&self) -> Option<usize> {
+        let n = self.board.specs().len();
+        (0..n).filter(|&t| self.board.booked(t) != u64::MAX).min_by_key(|&t| self.board.booked(t))
+    }
+
     fn deliver(&mut self) -> Call {
         let book = self.book();
-        let some = if self.rng.one_in(20) { None } else { self.running() };
+        let some = match self.rng.below(20) {
+            0 => None,
+            1..=8 => self.running(),
+            _ => self.first_booked(),
+        };
+        if some.is_none() && self.rng.one_in(2) {
+            self.pilot();
+        }
         let Some(t) = some else {
             return match (self.timer(), self.when(), self.board.specs().len()) {
                 (t, c, n) if (t as usize) < n && self.due(t as usize, c) > MANY => self.catch_up(t),
@@ -503,18 +531,19 @@ impl Gen {
         };
         let (last, booked, v) = (self.board.last(), self.board.booked(t), self.board.view(t, self.board.last()));
         let period = v.tick * (v.reload + 1);
-        let cycle = match self.rng.below(16) {
+        let cycle = match self.rng.below(20) {
             0..=5 => booked,
-            6 => booked.saturating_sub(1).max(last),
+            6 => booked.saturating_sub(1),
             7 | 8 => booked + self.rng.below(3 * v.tick),
             9..=11 => booked + self.rng.below(period),
-            12 => booked.saturating_add(period.saturating_mul(1 + self.rng.below(4))),
-            13 => booked.saturating_add(period.saturating_mul(self.rng.below(100))),
-            14 => last,
-            _ => self.when(),
+            12..=15 => booked.saturating_add(period.saturating_mul(1 + self.rng.below(4))),
+            16 => booked.saturating_add(period.saturating_mul(self.rng.below(100))),
+            17 | 18 => last,
+            _ => return Call::Deliver { timer: t as u32, cycle: self.near(), book },
         };
-        // A booking may lie too far out to be worth a jump: time must be left for the rest of the list.
-        let cycle = if cycle > last + (1 << 40) && !self.rng.one_in(100) { last + self.rng.below(100) } else { cycle };
+        // A booking far out is seldom worth the jump: the other timers would fall far behind.
+        let far = cycle > last + 20_000 && !self.rng.one_in(30);
+        let cycle = if far { last + self.rng.below(100) } else { cycle.max(last) };
         if self.due(t, cycle) > MANY {
             return self.catch_up(t as u32);
         }
@@ -609,7 +638,9 @@ impl Gen {
     fn set_pin(&mut self) -> Call {
         let mut call = self.route();
         if let Call::Pin { pin, mode, open_drain, function, cycle, book, .. } = &mut call {
-            *pin = self.pin();
+            if self.rng.one_in(8) {
+                *pin = self.pin();
+            }
             *mode = match self.rng.below(20) {
                 0..=12 => 2,
                 13 => 0,
@@ -618,7 +649,7 @@ impl Gen {
                 _ => self.rng.pick(&[4, 5, 6, 255, 256, 257, 258, u32::MAX]),
             };
             *open_drain = self.yes_no(5);
-            if self.rng.one_in(3) {
+            if self.rng.one_in(8) {
                 *function = self.rng.pick(&[0, 1, 7, 15, 16, 17, 31, 256, 257, u32::MAX]);
             }
             (*cycle, *book) = (self.when(), self.book());
@@ -626,10 +657,26 @@ impl Gen {
         call
     }
 
+    /// Plans the first pins' settings, some of them on another pin or function.
+    fn route_all(&mut self) {
+        for i in 0..self.setup.pins.min(12) {
+            let mut call = self.route();
+            if let Call::Pin { pin, function, .. } = &mut call {
+                if !self.rng.one_in(8) {
+                    (*pin, *function) = (i, 1);
+                }
+            }
+            self.plan.push_back(call);
+        }
+    }
+
     /// A pin in alternate mode, on a function of the table that has a timer's signal if there is one.
     fn route(&mut self) -> Call {
         let timers: Vec<u32> = self.setup.signals.iter().filter(|s| s.1 >= 16 * 12).map(|s| s.0).collect();
-        let entry = if timers.is_empty() { self.rng.small(256) } else { self.rng.pick(&timers) };
+        let entry = match self.rng.below(4) {
+            0 if !timers.is_empty() => self.rng.pick(&timers),
+            _ => self.rng.small(self.setup.pins) * 16 + 1,
+        };
         Call::Pin {
             pin: entry / 16,
             mode: 2,
@@ -671,10 +718,9 @@ impl Gen {
         let mut dividers = [1; 6];
         for d in &mut dividers {
             *d = match self.rng.below(12) {
-                0..=4 => 1,
-                5..=9 => self.rng.pick(&[2, 4, 8, 3, 5, 16]),
-                10 => self.rng.pick(&[64, 512, 8191]),
-                _ => 8192,
+                0..=5 => 1,
+                6..=10 => self.rng.pick(&[2, 4, 8, 3, 5, 16]),
+                _ => self.rng.pick(&[2, 2, 64, 512, 8191, 8192]),
             };
         }
         if self.rng.one_in(12) {
