@@ -291,6 +291,11 @@ impl Board {
         self.sys.pins.len()
     }
 
+    /// The signal selected on a pin, 0 if none.
+    pub fn signal(&self, pin: usize) -> u16 {
+        self.sys.pin_sig[pin]
+    }
+
     pub fn lines(&self) -> u32 {
         self.nvic.nirq
     }

@@ -1,12 +1,11 @@
 //! `oracle run`: a call list on standard input, its answers on standard output.
 //! `oracle gen SEED N`: N random calls.
 
-use std::io::{self, BufRead, BufWriter, Write};
+use std::io::{self, BufWriter, Write};
 use std::process::ExitCode;
 
-use oracle::calls::parse;
 use oracle::gen::Gen;
-use oracle::Board;
+use oracle::run;
 
 fn main() -> ExitCode {
     let args: Vec<String> = std::env::args().skip(1).collect();
@@ -32,21 +31,6 @@ fn main() -> ExitCode {
 fn usage() -> ExitCode {
     eprintln!("usage: oracle run < calls > answers\n       oracle gen SEED N > calls");
     ExitCode::FAILURE
-}
-
-fn run(input: impl BufRead, mut out: impl Write) -> io::Result<()> {
-    let mut board = Board::new();
-    for (i, line) in input.split(b'\n').enumerate() {
-        match parse(&line?) {
-            Ok(Some(call)) => writeln!(out, "{}", board.call(&call))?,
-            Ok(None) => {}
-            Err(reason) => {
-                writeln!(out, "line {}: {reason}", i + 1)?;
-                break;
-            }
-        }
-    }
-    out.flush()
 }
 
 fn gen(seed: u64, n: u64, mut out: impl Write) -> io::Result<()> {

@@ -1,0 +1,104 @@
+//! The text format: calls written and read back, and every way a line can be malformed.
+
+mod common;
+use common::play;
+use oracle::calls::{parse, Malformed};
+use oracle::gen::Gen;
+
+#[test]
+fn calls_read_back() {
+    for seed in 0..5 {
+        let mut gen = Gen::new(seed);
+        for _ in 0..20_000 {
+            let (call, _) = gen.step();
+            let line = call.to_string();
+            assert_eq!(parse(line.as_bytes()), Ok(Some(call)), "{line}");
+        }
+    }
+}
+
+#[test]
+fn generator_and_reader_agree() {
+    let mut gen = Gen::new(7);
+    let (calls, answers): (Vec<String>, Vec<String>) = (0..20_000).map(|_| gen.step()).map(|(c, a)| (c.to_string(), a.to_string())).unzip();
+    assert_eq!(play(&calls.join("\n")), answers);
+    let again: Vec<String> = { let mut g = Gen::new(7); (0..20_000).map(|_| g.step().0.to_string()).collect() };
+    assert_eq!(again, calls);
+}
+
+#[test]
+fn malformed_lines() {
+    use Malformed::*;
+    let cases: &[(&str, Malformed)] = &[
+        ("jump", UnknownWord),
+        ("Next", UnknownWord),
+        ("12", UnknownWord),
+        ("next 1", Surplus),
+        ("next x", Surplus),
+        ("level", Missing),
+        ("level 1 2", Surplus),
+        ("level -1", NotANumber),
+        ("level +1", NotANumber),
+        ("level 1_0", NotANumber),
+        ("level 1.0", NotANumber),
+        ("level 1a", NotANumber),
+        ("level 0x", NotANumber),
+        ("level 0xg", NotANumber),
+        ("level x1", NotANumber),
+        ("level 1\r2", NotANumber),
+        ("level \r\r", NotANumber),
+        ("level 4294967296", TooLarge),
+        ("level 0x100000000", TooLarge),
+        ("level 99999999999999999999", TooLarge),
+        ("level 99999999999999999999z", NotANumber),
+        ("time 18446744073709551616", TooLarge),
+        ("time 0x10000000000000000", TooLarge),
+        ("drive 0 4 0 0 0", TooLarge),
+        ("drive 0 3 0 0", Missing),
+        ("drive 0 3 0 0 0 0", Surplus),
+        ("drive 4294967296 4", TooLarge),
+        ("read 0 0 x 4294967296", NotANumber),
+        ("write 0 0 4 4294967296 0 4", TooLarge),
+        ("deliver 0 0", Missing),
+        ("clock 0 0 1 1 1 1 1 1", Missing),
+        ("clock 0 0 1 1 1 1 1 1 0 0", Surplus),
+        ("setup 0 0 1 0", Missing),
+        ("setup 0 0 1 0 0", Missing),
+        ("setup 0 0 1 0 4294967295 1 2 3", Missing),
+        ("setup 0 0 1 0 4294967296", TooLarge),
+        ("setup 0 0 1 0 1 2 32 4 1 3 0", Missing),
+        ("setup 0 0 1 0 1 2 32 4 1 3 0 0", Missing),
+        ("setup 0 0 1 0 0 16 1", Missing),
+        ("setup 0 0 1 0 0 16 16 1", TooLarge),
+        ("setup 0 0 1 0 0 16 16", TooLarge),
+        ("setup 0 0 1 0 0 16 1 4294967296", TooLarge),
+        ("setup 0 0 1 0 0 0 0 1", TooLarge),
+        ("setup 0 0 1 0 0 16 1 x", NotANumber),
+    ];
+    for &(line, reason) in cases {
+        assert_eq!(parse(line.as_bytes()), Err(reason), "{line:?}");
+    }
+}
+
+#[test]
+fn accepted_lines() {
+    for line in ["", "   ", "\t", "\r", "# setup", "  # x\r", "#"] {
+        assert_eq!(parse(line.as_bytes()), Ok(None), "{line:?}");
+    }
+    for line in ["level 10", " level\t10 ", "level 0xA", "level 0Xa\r", "level 0x0000000000000000000a#c", "level 00000000000000000000000010 # c"] {
+        assert_eq!(parse(line.as_bytes()), Ok(Some(oracle::Call::Level { pin: 10 })), "{line:?}");
+    }
+    assert!(parse(b"level 1 \xff").is_err());
+    assert!(parse(b"setup 0 0 1 0 0 4294967295 4294967294 4294967295").is_ok());
+}
+
+/// The malformed line is the last thing told, with its number among all lines.
+#[test]
+fn a_malformed_line_ends_the_run() {
+    assert_eq!(play("next\n\n# c\r\nnext\nlevel\nnext\n"), ["0 18446744073709551615 0", "0 18446744073709551615 0", "line 5: missing number"]);
+    assert_eq!(play("foo"), ["line 1: unknown word"]);
+    assert_eq!(play("level 1 2"), ["line 1: surplus number"]);
+    assert_eq!(play("level z"), ["line 1: not a number"]);
+    assert_eq!(play("level 4294967296"), ["line 1: number too large"]);
+    assert!(play("").is_empty());
+}
