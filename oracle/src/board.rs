@@ -49,6 +49,12 @@ pub struct Board {
     last: u64,
 }
 
+// Boards may be handed to threads, for runs side by side.
+const _: fn() = || {
+    fn send<T: Send>() {}
+    send::<Board>();
+};
+
 impl Default for Board {
     fn default() -> Self {
         Self::new()
@@ -289,6 +295,12 @@ impl Board {
 
     pub fn pins(&self) -> usize {
         self.sys.pins.len()
+    }
+
+    /// The clock tree: SYSCLK, HCLK and the dividers, as in `Call::Clock`.
+    pub fn tree(&self) -> (u64, u64, [u32; 6]) {
+        let t = &self.sys.clk;
+        (t.sysclk_hz.to_bits(), t.hclk_hz.to_bits(), [t.ppre1, t.ppre2, t.ppre3, t.ppre4, t.tim1, t.tim2])
     }
 
     /// The signal selected on a pin, 0 if none.

@@ -73,7 +73,7 @@ impl Gen {
             return Call::Setup(self.good_setup());
         }
         self.left -= 1;
-        if self.rng.one_in(6_000) {
+        if self.rng.one_in(5_000) {
             return self.heavy();
         }
         match self.rng.below(1000) {
@@ -560,13 +560,16 @@ impl Gen {
         }
     }
 
-    /// A delivery of about 100,001 events, of exactly as many where only updates come.
+    /// A delivery of about 100,001 events; of a timer without channels, of exactly as many or one more or less.
     fn heavy(&mut self) -> Call {
-        let Some(t) = self.running() else { return Call::Next };
-        let (last, booked) = (self.board.last(), self.board.booked(t));
-        let v = self.board.view(t, last);
-        let late = (v.tick * (v.reload + 1)).saturating_mul(self.rng.pick(&[99_999, 100_000, 100_001]));
-        let cycle = booked.saturating_add(late);
+        let n = self.board.specs().len();
+        let plain = (0..n).find(|&t| self.board.specs()[t].channels == 0 && self.board.booked(t) != u64::MAX);
+        let Some(t) = plain.or_else(|| self.running()) else { return Call::Next };
+        let v = self.board.view(t, self.board.last());
+        // The counter at its base is the one that the next update is reckoned from.
+        let first = v.base + (v.reload + 1 - self.board.view(t, v.base).counter) * v.tick;
+        let late = (v.tick * (v.reload + 1)).saturating_mul(self.rng.pick(&[99_999, 100_000, 100_000, 100_001]));
+        let cycle = first.saturating_add(late).max(self.board.last());
         let book = self.rng.pick(&[4, 1000, 100_000, 500_000, u64::MAX]);
         if cycle > LIMIT { Call::Next } else { Call::Deliver { timer: t as u32, cycle, book } }
     }
@@ -670,11 +673,10 @@ impl Gen {
         }
     }
 
-    /// A pin in alternate mode, on a function of the table that has a timer's signal if there is one.
+    /// A pin in alternate mode, mostly on the function that has a driving channel.
     fn route(&mut self) -> Call {
-        let timers: Vec<u32> = self.setup.signals.iter().filter(|s| s.1 >= 16 * 12).map(|s| s.0).collect();
         let entry = match self.rng.below(4) {
-            0 if !timers.is_empty() => self.rng.pick(&timers),
+            0 if !self.setup.signals.is_empty() => self.rng.pick(&self.setup.signals).0,
             _ => self.rng.small(self.setup.pins) * 16 + 1,
         };
         Call::Pin {
@@ -714,19 +716,27 @@ impl Gen {
         Call::Drive { pin: self.pin(), kind, volts: self.volts(), cycle: self.when(), book: self.book() }
     }
 
+    fn divider(&mut self) -> u32 {
+        match self.rng.below(12) {
+            0..=5 => 1,
+            6..=10 => self.rng.pick(&[2, 4, 8, 3, 5, 16]),
+            _ => self.rng.pick(&[2, 2, 64, 512, 8191, 8192]),
+        }
+    }
+
+    /// A new tree, or the present one with at most one part changed: a timer is told of some changes only.
     fn clock(&mut self) -> Call {
-        let mut dividers = [1; 6];
-        for d in &mut dividers {
-            *d = match self.rng.below(12) {
-                0..=5 => 1,
-                6..=10 => self.rng.pick(&[2, 4, 8, 3, 5, 16]),
-                _ => self.rng.pick(&[2, 2, 64, 512, 8191, 8192]),
-            };
+        let (mut sys, mut hclk, mut dividers) = self.board.tree();
+        match self.rng.below(8) {
+            0..=3 => (sys, hclk, dividers) = (self.hz(), self.hz(), [(); 6].map(|_| self.divider())),
+            4 => sys = self.hz(),
+            5 => hclk = self.hz(),
+            6 => dividers[self.rng.below(6) as usize] = self.divider(),
+            _ => {}
         }
         if self.rng.one_in(12) {
             dividers[self.rng.below(6) as usize] = self.rng.pick(&[0, 8193, 8194, 65_536, 65_537, u32::MAX]);
         }
-        let (mut sys, mut hclk) = (self.hz(), self.hz());
         if self.rng.one_in(20) {
             *(if self.rng.one_in(2) { &mut sys } else { &mut hclk }) = self.bad_float();
         }
@@ -744,9 +754,13 @@ impl Gen {
         let value = if self.rng.one_in(4) { self.value() } else { u32::MAX };
         // A closed gate opens again before long, else the board would fall asleep.
         if value != u32::MAX && word < 9 {
-            for _ in 0..self.rng.below(6) {
-                let write = self.aimed_write();
-                self.plan.push_back(write);
+            for _ in 0..self.rng.below(8) {
+                let call = match self.rng.below(4) {
+                    0 => self.deliver(),
+                    1 => self.read(),
+                    _ => self.aimed_write(),
+                };
+                self.plan.push_back(call);
             }
             self.plan.push_back(Call::Enable { word, value: u32::MAX });
         }

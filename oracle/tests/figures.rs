@@ -62,11 +62,11 @@ fn pilot_edges() {
     let edges: Vec<(u64, u64)> = last.split(' ').skip(3).map(edge).collect();
     let level = |c: u64| edges.iter().rfind(|e| e.1 <= c).map_or(1, |e| e.0);
     let high = |from: u64, to: u64| (from..=to).map(level).sum::<u64>();
-    let (p, d) = (10u64, 3u64);
-    assert_eq!(high(110, 112), 3);
-    assert_eq!((3 * p).abs_diff(3 * d), 21);
-    assert_eq!(high(113, 119), 0);
-    assert_eq!((0 * p).abs_diff(7 * d), 21);
+    let (p, d) = (10, 3);
+    for (from, to, h) in [(110, 112, 3), (113, 119, 0)] {
+        assert_eq!(high(from, to), h);
+        assert_eq!((h * p).abs_diff((to - from + 1) * d), 21);
+    }
     assert_eq!(d * (p - d), 21);
 }
 
