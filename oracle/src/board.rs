@@ -284,6 +284,11 @@ impl Board {
         self.at(t, cycle, |timer, cx| timer.peek(offset, cx))
     }
 
+    /// A timer write without refusal 7, to see that the Rust cannot do what it refuses.
+    pub fn write_unchecked(&mut self, t: usize, offset: u32, size: u8, value: u32, cycle: u64) {
+        self.at(t, cycle, |timer, cx| timer.write(offset, size, value, cx));
+    }
+
     /// The cycle of the last changing call.
     pub fn last(&self) -> u64 {
         self.last

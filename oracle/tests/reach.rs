@@ -328,7 +328,7 @@ fn random_lists_reach_everything() {
             let (call, given) = gen.step();
             let before = Before::of(&board);
             let answer = board.call(&call);
-            assert_eq!(answer, given, "{call}");
+            assert!(answer == given, "{call}");
             reach.note(&call, &answer, &before, &mut board);
         }
     }
@@ -346,6 +346,52 @@ fn a_million_calls() {
             check(&call, &answer, gen.board());
         }
     }
+}
+
+/// Deliveries with four places, one after another, come to what one with all places does.
+#[test]
+fn short_books_lose_nothing() {
+    let mut stopped = 0;
+    for seed in 2001..=2005 {
+        let (mut gen, mut short, mut long) = (Gen::new(seed), Board::new(), Board::new());
+        for _ in 0..20_000 {
+            let (call, _) = gen.step();
+            let Call::Deliver { timer, cycle, book } = call else {
+                assert_eq!(short.call(&call), long.call(&call), "{call}");
+                continue;
+            };
+            let timers = long.specs().len() as u32;
+            if book < 4 || timer >= timers || far_behind(&long, timer as usize, cycle) {
+                continue;
+            }
+            let (all, once) = drain(&mut long, timer, cycle, u64::MAX);
+            let (parts, many) = drain(&mut short, timer, cycle, 4);
+            assert!(parts == all, "{call}");
+            stopped += (many > once) as u64;
+        }
+    }
+    assert!(stopped > 1000, "{stopped}");
+}
+
+/// Delivers until nothing is due: the answers joined, and how many there were.
+fn drain(board: &mut Board, timer: u32, cycle: u64, book: u64) -> (Answer, u64) {
+    let (mut sum, mut deliveries) = (Answer { number: 0, value: 0, entries: Vec::new() }, 0);
+    loop {
+        let answer = board.call(&Call::Deliver { timer, cycle, book });
+        sum.value += answer.value;
+        sum.entries.extend(answer.entries);
+        deliveries += 1;
+        if answer.number != 8 {
+            sum.number = answer.number;
+            return (sum, deliveries);
+        }
+    }
+}
+
+/// Thousands of events may be due (a preloaded reload may shorten the period): too many, four places at a time.
+fn far_behind(board: &Board, t: usize, cycle: u64) -> bool {
+    let v = board.view(t, board.last());
+    v.running && cycle.saturating_sub(v.base) > 5_000
 }
 
 /// What holds of every answer, whatever the call.

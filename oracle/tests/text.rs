@@ -21,9 +21,9 @@ fn calls_read_back() {
 fn generator_and_reader_agree() {
     let mut gen = Gen::new(7);
     let (calls, answers): (Vec<String>, Vec<String>) = (0..20_000).map(|_| gen.step()).map(|(c, a)| (c.to_string(), a.to_string())).unzip();
-    assert_eq!(play(&calls.join("\n")), answers);
+    assert!(play(&calls.join("\n")) == answers);
     let again: Vec<String> = { let mut g = Gen::new(7); (0..20_000).map(|_| g.step().0.to_string()).collect() };
-    assert_eq!(again, calls);
+    assert!(again == calls);
 }
 
 #[test]
