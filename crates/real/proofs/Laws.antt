@@ -1,6 +1,6 @@
 -- What the code's tests on a float tell of it: is it a number, is it finite. Assumes nothing.
 use mathlib.Core.Path.{_≡_, refl, ap, sym, subst}
-use mathlib.Core.Bool.{Bool, true, false}
+use mathlib.Core.Bool.{true, false}
 use lib.Dec.{T}
 use lib.Ieee as Ieee
 use lib.Ieee.{Float, binary64, nan, inf, fin}

@@ -1,0 +1,4 @@
+pub mod Pins
+pub mod Clock
+pub mod Figures
+pub mod Laws
