@@ -1,0 +1,2 @@
+pub mod Clk
+pub mod Laws
