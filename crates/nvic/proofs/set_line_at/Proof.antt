@@ -1,0 +1,58 @@
+-- `set_line_at` gives `setLine`: the word stored is a change of that line, and without such a line nothing is stored.
+use mathlib.Core.Path.{sym, _∙_}
+use lib.ListN.{length}
+use denote.Ref.{now}
+use Rattle.nvic.specs.Nvic.{lineSet, nvicOf}
+use Rattle.nvic.proofs.Laws.{inside, stored, no-line}
+use borrow.Author.Needs.{needs}
+use Rattle.nvic.proofs.set_line_at.Statement.{statement}
+use Rattle.nvic.proofs.set_line_at.Tie as tie
+
+has-line-requires : tie.Need-has-line-requires
+has-line-requires c κs = search needs
+
+mul-line-of : tie.Need-mul-line-of
+mul-line-of c = search needs
+
+slice-read-line-of : tie.Need-slice-read-line-of
+slice-read-line-of c = inside _ (c .before .before .before .before .args .nirq) (c .before .before .before .before .args .irq) (length (now (c .before .before .before .before .args .lines))) (c .before .before .has-line .ensures) (c .before .if1 .taken) (c .before .before .before .before .pre)
+
+line-of-requires : tie.Need-line-of-requires
+line-of-requires c κs = search needs
+
+set-line-requires : tie.Need-set-line-requires
+set-line-requires c κs = search needs
+
+word-of-requires : tie.Need-word-of-requires
+word-of-requires c κs = search needs
+
+mul-lines : tie.Need-mul-lines
+mul-lines c = search needs
+
+slice-write-lines : tie.Need-slice-write-lines
+slice-write-lines c = inside _ (c .before .before .before .before .before .before .before .args .nirq) (c .before .before .before .before .before .before .before .args .irq) (length (now (c .before .before .before .before .before .before .before .args .lines))) (c .before .before .before .before .before .has-line .ensures) (c .before .before .before .before .if1 .taken) (c .before .before .before .before .before .before .before .pre)
+
+same-length : tie.Need-same-length
+same-length c = search needs
+
+returns : tie.Need-returns
+returns c = stored (λ l. lineSet l (c .before .before .before .before .before .before .before .args .level)) (now (c .before .before .before .before .before .before .before .args .lines)) (c .before .before .before .before .before .before .before .args .nirq) (c .before .before .before .before .before .before .before .args .irq) (c .word-of .result) (sym (c .before .before .before .before .before .has-line .ensures) ∙ c .before .before .before .before .if1 .taken) (cc)
+
+returns-2 : tie.Need-returns-2
+returns-2 c = sym (no-line (λ l. lineSet l (c .before .before .before .args .level)) (nvicOf (c .before .before .before .args .nirq) (now (c .before .before .before .args .lines))) (c .before .before .before .args .irq) (sym (c .before .has-line .ensures) ∙ c .if1 .left))
+
+pub set-line-at-spec : {M : Type 1} → statement M
+set-line-at-spec =
+    tie.close
+    (tie.spec
+    has-line-requires
+    mul-line-of
+    slice-read-line-of
+    line-of-requires
+    set-line-requires
+    word-of-requires
+    mul-lines
+    slice-write-lines
+    same-length
+    returns
+    returns-2)
