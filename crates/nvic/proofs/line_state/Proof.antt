@@ -1,10 +1,8 @@
 -- `line_state` gives the state of `lineAt`: the word there, or 0 without such a line.
 use mathlib.Core.Path.{sym, _∙_}
 use lib.ListN.{length}
-use denote.Ref.{now}
-use native.Mathlib.Omega.{arith}
 use borrow.Author.Tests.{ltb-false}
-use Rattle.nvic.specs.Nvic.{nvicOf, stateOf}
+use Rattle.nvic.specs.Nvic.{nvicOf}
 use Rattle.nvic.proofs.Laws.{inside, word-at, absent}
 use borrow.Author.Needs.{needs}
 use Rattle.nvic.proofs.line_state.Statement.{statement}
@@ -17,7 +15,9 @@ mul-line-of : tie.Need-mul-line-of
 mul-line-of c = search needs
 
 shared-slice-read-line-of : tie.Need-shared-slice-read-line-of
-shared-slice-read-line-of c = inside _ (c .before .before .before .before .args .nirq) (c .before .before .before .before .args .irq) (length (now (c .before .before .before .before .args .lines))) (c .before .before .has-line .ensures) (c .before .if1 .taken) (c .before .before .before .before .pre)
+shared-slice-read-line-of c =
+    let s = c .before .before .before .before in
+    inside _ (s .args .nirq) (s .args .irq) (length (s .args .lines .now)) (c .before .before .has-line .ensures) (c .before .if1 .taken) (s .pre)
 
 line-of-requires : tie.Need-line-of-requires
 line-of-requires c κs = search needs
@@ -26,10 +26,14 @@ state-requires : tie.Need-state-requires
 state-requires c κs = search needs
 
 returns : tie.Need-returns
-returns c = rw (word-at (now (c .before .before .before .before .before .before .args .lines)) (c .before .before .before .before .before .before .args .nirq) (c .before .before .before .before .before .before .args .irq) (sym (c .before .before .before .before .has-line .ensures) ∙ c .before .before .before .if1 .taken)) (cc)
+returns c =
+    let s = c .before .before .before .before .before .before in
+    rw (word-at (s .args .lines .now) (s .args .nirq) (s .args .irq) (sym (c .before .before .before .before .has-line .ensures) ∙ c .before .before .before .if1 .taken)) (cc)
 
 returns-2 : tie.Need-returns-2
-returns-2 c = sym (absent (nvicOf (c .before .before .before .args .nirq) (now (c .before .before .before .args .lines))) (c .before .before .before .args .irq) (ltb-false _ _ (sym (c .before .has-line .ensures) ∙ c .if1 .left)))
+returns-2 c =
+    let s = c .before .before .before in
+    sym (absent (nvicOf (s .args .nirq) (s .args .lines .now)) (s .args .irq) (ltb-false _ _ (sym (c .before .has-line .ensures) ∙ c .if1 .left)))
 
 pub line-state-spec : {M : Type 1} → statement M
 line-state-spec =

@@ -1,7 +1,6 @@
 -- `set_line_at` gives `setLine`: the word stored is a change of that line, and without such a line nothing is stored.
 use mathlib.Core.Path.{sym, _∙_}
 use lib.ListN.{length}
-use denote.Ref.{now}
 use Rattle.nvic.specs.Nvic.{lineSet, nvicOf}
 use Rattle.nvic.proofs.Laws.{inside, stored, no-line}
 use borrow.Author.Needs.{needs}
@@ -15,7 +14,9 @@ mul-line-of : tie.Need-mul-line-of
 mul-line-of c = search needs
 
 slice-read-line-of : tie.Need-slice-read-line-of
-slice-read-line-of c = inside _ (c .before .before .before .before .args .nirq) (c .before .before .before .before .args .irq) (length (now (c .before .before .before .before .args .lines))) (c .before .before .has-line .ensures) (c .before .if1 .taken) (c .before .before .before .before .pre)
+slice-read-line-of c =
+    let s = c .before .before .before .before in
+    inside _ (s .args .nirq) (s .args .irq) (length (s .args .lines .now)) (c .before .before .has-line .ensures) (c .before .if1 .taken) (s .pre)
 
 line-of-requires : tie.Need-line-of-requires
 line-of-requires c κs = search needs
@@ -30,16 +31,22 @@ mul-lines : tie.Need-mul-lines
 mul-lines c = search needs
 
 slice-write-lines : tie.Need-slice-write-lines
-slice-write-lines c = inside _ (c .before .before .before .before .before .before .before .args .nirq) (c .before .before .before .before .before .before .before .args .irq) (length (now (c .before .before .before .before .before .before .before .args .lines))) (c .before .before .before .before .before .has-line .ensures) (c .before .before .before .before .if1 .taken) (c .before .before .before .before .before .before .before .pre)
+slice-write-lines c =
+    let s = c .before .before .before .before .before .before .before in
+    inside _ (s .args .nirq) (s .args .irq) (length (s .args .lines .now)) (c .before .before .before .before .before .has-line .ensures) (c .before .before .before .before .if1 .taken) (s .pre)
 
 same-length : tie.Need-same-length
 same-length c = search needs
 
 returns : tie.Need-returns
-returns c = stored (λ l. lineSet l (c .before .before .before .before .before .before .before .args .level)) (now (c .before .before .before .before .before .before .before .args .lines)) (c .before .before .before .before .before .before .before .args .nirq) (c .before .before .before .before .before .before .before .args .irq) (c .word-of .result) (sym (c .before .before .before .before .before .has-line .ensures) ∙ c .before .before .before .before .if1 .taken) (cc)
+returns c =
+    let s = c .before .before .before .before .before .before .before in
+    stored (λ l. lineSet l (s .args .level)) (s .args .lines .now) (s .args .nirq) (s .args .irq) (c .word-of .result) (sym (c .before .before .before .before .before .has-line .ensures) ∙ c .before .before .before .before .if1 .taken) (cc)
 
 returns-2 : tie.Need-returns-2
-returns-2 c = sym (no-line (λ l. lineSet l (c .before .before .before .args .level)) (nvicOf (c .before .before .before .args .nirq) (now (c .before .before .before .args .lines))) (c .before .before .before .args .irq) (sym (c .before .has-line .ensures) ∙ c .if1 .left))
+returns-2 c =
+    let s = c .before .before .before in
+    sym (no-line (λ l. lineSet l (s .args .level)) (nvicOf (s .args .nirq) (s .args .lines .now)) (s .args .irq) (sym (c .before .has-line .ensures) ∙ c .if1 .left))
 
 pub set-line-at-spec : {M : Type 1} → statement M
 set-line-at-spec =
