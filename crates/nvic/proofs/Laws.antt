@@ -2,7 +2,7 @@
 use mathlib.Core.Path.{_≡_, refl, sym, ap, _∙_}
 use mathlib.Core.Logic.{_≢_}
 use mathlib.Core.Bool.{Bool, true, false}
-use mathlib.Core.List.{List, [], _∷_, map}
+use mathlib.Core.List.{List, [], _∷_}
 use Prim.Native.Nat.{ℕ, zero, suc, _+_, _*_, _≤_, _<_}
 use native.Mathlib.Omega.{arith}
 use lib.Dec.{ltb, lit≤}
@@ -11,7 +11,7 @@ use lib.ListN.{length, getD, set, List·getD-map}
 use lib.Seq.{getD-set-same, getD-set-other}
 use borrow.Author.Tests.{ltb-true, lt-ltb, le-ltb}
 use Rattle.nvic.specs.declared.Line.{Line}
-use Rattle.nvic.specs.Nvic.{Nvic, idle, stateOf, lineAt, onLine, setLine, lineOf, linesOf, nvicOf}
+use Rattle.nvic.specs.Nvic.{Nvic, idle, stateOf, lineAt, onLine, lineOf, linesOf, nvicOf}
 
 -- a word that is a line's state holds the line
 pub word-line : (l : Line) → lineOf (stateOf l) ≡ l

@@ -1,12 +1,12 @@
 -- Laws of booked events.
-use mathlib.Core.Path.{_≡_, refl, sym, ap, _∙_}
+use mathlib.Core.Path.{_≡_, refl, sym, _∙_}
 use mathlib.Core.Logic.{_⊎_, inl, inr, _≢_}
 use mathlib.Core.Bool.{Bool, true, false}
 use mathlib.Core.List.{List, [], _∷_, map}
 use Prim.Native.Nat.{ℕ, zero, suc, min, _-_, _≤_, _<_}
 use native.Mathlib.Omega.{arith}
 use lib.Dec.{leb}
-use lib.ListN.{length, getD, set, drop, length-map, drop-of-length-le}
+use lib.ListN.{length, getD, drop, length-map, drop-of-length-le}
 use lib.Seq.{drop-cons, getD-set-same, getD-set-other}
 use borrow.Author.Tests.{leb-true, leb-false}
 use Rattle.scheduler.specs.Booking.{never, cycleOf, book, least}
@@ -52,6 +52,12 @@ least-is (c ∷ m) = go (leb c (least m)) refl (least-is m)
     go true e ih = inl (0, (omega arith, omega (arith, leb-true c (least m) e)))
     go false e (inl ih) = inl (suc (ih .0), (omega arith, omega (arith, leb-false c (least m) e)))
     go false e (inr ih) = inr (omega (arith, leb-false c (least m) e))
+
+-- without a booking the least cycle is 2^64 − 1
+pub least-none : (m : List ℕ) → ((owner : ℕ) → owner < length m → cycleOf m owner ≡ never) → least m ≡ never
+unfolding least
+least-none [] h = refl
+least-none (c ∷ m) h = omega (arith, h 0 (omega arith), least-none m (λ owner l. h (suc owner) (omega arith)))
 
 -- booking changes one owner's cycle and no other's
 pub book-same : (m : List ℕ) (owner cycle : ℕ) → owner < length m → cycleOf (book m owner cycle) owner ≡ cycle
