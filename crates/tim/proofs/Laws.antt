@@ -1,0 +1,70 @@
+-- Bounds of what the timer's definitions give. Assumes nothing.
+use mathlib.Core.Path.{_≡_, refl, ap, sym}
+use mathlib.Core.Bool.{Bool, true, false, cond}
+use Prim.Native.Nat.{ℕ, _+_, _-_, _*_, _%_, _^_, _≤_, _<_}
+use lib.Dec.{ltb, eqb}
+use native.Mathlib.Omega.{arith}
+use native.Mathlib.Nat.{le-refl, le-trans, mul-le-mul, mod-lt}
+use borrow.Author.Tests.{ltb-true, eqb-false}
+use Rattle.tim.specs.declared.Timer.{Timer}
+use Rattle.tim.specs.declared.Ahead.{Ahead}
+use Rattle.tim.specs.declared.Next.the-variants.{Compare}
+use Rattle.tim.specs.declared.Due.the-variants.{At, Stopped}
+use Rattle.rm0440.specs.Bits.{UDIS}
+use Rattle.rm0440.specs.Update.{shadow}
+use Rattle.tim.specs.Timer.{down, Fit}
+use Rattle.tim.specs.Change.{reloaded, loaded, withFlag, UIF}
+use Rattle.tim.specs.Next.{updateSteps, compares, compareSteps, consider, nextSteps, nextEvent}
+
+-- an event that is considered can only be nearer
+consider-le : (t : Timer) (ch : ℕ) (best : Ahead) → consider t ch best .steps ≤ best .steps
+unfolding consider
+consider-le t ch best = go (compares t ch) (ltb (compareSteps t ch) (best .steps)) refl
+  where
+    go : (b l : Bool) → ltb (compareSteps t ch) (best .steps) ≡ l
+        → cond b (cond l (record { steps = compareSteps t ch; next = Compare ch }) best) best .steps ≤ best .steps
+    go false l e = le-refl (best .steps)
+    go true false e = le-refl (best .steps)
+    go true true e = omega (arith, ltb-true)
+
+update-le : (t : Timer) → t .count .cnt0 < 4294967296 → t .count .«arr_act» < 4294967296 → updateSteps t ≤ 4294967296
+update-le t c a = go (down t)
+  where
+    go : (b : Bool) → cond b (t .count .cnt0 + 1) (t .count .«arr_act» + 1 - t .count .cnt0) ≤ 4294967296
+    go true = omega arith
+    go false = omega arith
+
+-- the next event is at most 2^32 steps ahead
+pub steps-le : (t : Timer) → t .count .cnt0 < 4294967296 → t .count .«arr_act» < 4294967296 → nextSteps t .steps ≤ 4294967296
+unfolding nextSteps
+steps-le t c a =
+    le-trans (consider-le t 3 _)
+    (le-trans (consider-le t 2 _) (le-trans (consider-le t 1 _) (le-trans (consider-le t 0 _) (update-le t c a))))
+
+-- an update loads a prescaler that fits
+pub reloaded-psc : (t : Timer) → Fit t → reloaded t .count .«psc_act» < 65536
+unfolding reloaded
+reloaded-psc t f = go (UDIS (t .regs .cr1))
+  where
+    go : (b : Bool) → shadow b (withFlag (loaded t) UIF) t .count .«psc_act» < 65536
+    go true = f .pscAct-lt
+    go false = f .psc-lt
+
+-- the next event's cycle is below 2^64
+pub due-fits : (t : Timer) → Fit t → t .count .cnt0 < 4294967296 → t .count .«arr_act» < 4294967296
+    → t .count .base + nextSteps t .steps * t .count .tick < 2 ^ 64
+due-fits t f c a =
+    omega (arith, mul-le-mul {n₂ = 4294967296} {m₂ = 536870912} (steps-le t c a) (f .tick-le), f .base-lt)
+
+-- a running timer's next event
+pub next-runs : (t : Timer) → t .count .running ≡ true → At (t .count .base + nextSteps t .steps * t .count .tick) (nextSteps t .next) ≡ nextEvent t
+unfolding nextEvent
+next-runs t h = sym (ap (λ (b : Bool). cond b (At (t .count .base + nextSteps t .steps * t .count .tick) (nextSteps t .next)) Stopped) h)
+
+-- a bit that is not 0 is 1
+pub odd : (x : ℕ) → (x % 2 ≡ 0 → ⊥) → eqb (x % 2) 1 ≡ true
+odd x h = go (eqb (x % 2) 1) refl
+  where
+    go : (b : Bool) → eqb (x % 2) 1 ≡ b → b ≡ true
+    go true e = refl
+    go false e = absurd (h (omega (arith, mod-lt x {m = 2} (omega arith), eqb-false (x % 2) 1 e)))

@@ -1,0 +1,25 @@
+-- Reload, restart, settle, end.
+use Rattle.tim.proofs.Laws.{reloaded-psc}
+use Rattle.tim.specs.Change.{updated}
+use borrow.Author.Needs.{needs}
+use Rattle.tim.proofs.Timer.update.Statement.{statement}
+use Rattle.tim.proofs.Timer.update.Tie as tie
+
+reload-requires : tie.Need-reload-requires
+reload-requires c κs = search needs
+
+restart-requires : tie.Need-restart-requires
+restart-requires c κs = (rw (c .reload .ensures) (reloaded-psc (c .before .args .self) (c .before .pre .0)), c .before .pre .1)
+
+recompute-cc-done-after-update-requires : tie.Need-recompute-cc-done-after-update-requires
+recompute-cc-done-after-update-requires c κs = search needs
+
+end-requires : tie.Need-end-requires
+end-requires c κs = search needs
+
+returns : tie.Need-returns
+unfolding updated
+returns c = cc
+
+pub update-spec : {M : Type 1} → statement M
+update-spec = tie.close (tie.spec reload-requires restart-requires recompute-cc-done-after-update-requires end-requires returns)

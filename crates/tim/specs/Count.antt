@@ -1,0 +1,46 @@
+-- The counter without stepping (document 01, "Counter, without stepping"; the Rust's cnt_at and sync).
+use mathlib.Core.Bool.{Bool, cond}
+use Prim.Native.Nat.{ℕ, _+_, _-_, _*_, _/_, _%_, min}
+use lib.Dec.{leb}
+use Rattle.rm0440.specs.Counter.{stepsBetween}
+use Rattle.tim.specs.declared.Timer.{Timer}
+use Rattle.tim.specs.declared.Count.{Count}
+use Rattle.tim.specs.Timer.{withCount, down}
+
+-- the count after n steps up from cnt, with the period reload + 1
+unfoldable pub upFrom : ℕ → ℕ → ℕ → ℕ
+upFrom reload cnt n = cond (leb (cnt + n) reload) (cnt + n) ((cnt + n - (reload + 1)) % (reload + 1))
+
+-- the count after n steps down from cnt
+unfoldable pub downFrom : ℕ → ℕ → ℕ → ℕ
+downFrom reload cnt n = cond (leb n cnt) (cnt - n) (reload - (n - cnt - 1) % (reload + 1))
+
+-- whole steps from the reference to a cycle
+abbrev pub ticksAt : Timer → ℕ → ℕ
+ticksAt t c = stepsBetween (t .count .base) c (t .count .tick)
+
+-- the counter at a cycle; "including its clamp: counting down from a counter above reload reads as from reload"
+unfoldable pub cntAt : Timer → ℕ → ℕ
+cntAt t c =
+    cond (t .count .running)
+    (cond (down t)
+    (downFrom (t .count .«arr_act») (min (t .count .cnt0) (t .count .«arr_act»)) (ticksAt t c))
+    (upFrom (t .count .«arr_act») (t .count .cnt0) (ticksAt t c)))
+    (t .count .cnt0)
+
+abbrev pub atCount : Count → ℕ → ℕ → Count
+atCount k cnt base = record {
+  «psc_act» = k .«psc_act»;
+  «arr_act» = k .«arr_act»;
+  cnt0 = cnt;
+  base = base;
+  tick = k .tick;
+  running = k .running;
+}
+
+-- the reference moved to the last step at or before now: "keeps the part-step already elapsed, in cycles"
+unfoldable pub synced : Timer → ℕ → Timer
+synced t now =
+    cond (t .count .running)
+    (withCount t (atCount (t .count) (cntAt t now) (t .count .base + ticksAt t now * t .count .tick)))
+    t

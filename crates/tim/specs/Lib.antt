@@ -1,0 +1,5 @@
+pub mod Timer
+pub mod Count
+pub mod Next
+pub mod Change
+pub mod Regs

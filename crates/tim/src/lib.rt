@@ -1,0 +1,1172 @@
+// A general-purpose timer by value: the Rust's periph/tim.rs. It knows nothing of pins, lines or booking.
+ghost use mathlib.Core.Path.{_≡_};
+ghost use mathlib.Core.Bool.{Bool};
+ghost use Prim.Native.Nat.{ℕ, _+_, _-_, _*_, _/_, _%_, _<_, _≤_, min};
+ghost use lib.Dec.{eqb};
+ghost use lib.Bits.{bitAnd, bitOr};
+ghost use lib.ListN.{getD, set};
+ghost use Rattle.rm0440.specs.Counter.{stepCycles, restart};
+ghost use Rattle.rm0440.specs.Output as Out;
+ghost use Rattle.tim.specs.Timer as T;
+ghost use Rattle.tim.specs.Timer.{Fit, Ready, withCount};
+ghost use Rattle.tim.specs.Count.{upFrom, downFrom, ticksAt, cntAt, synced, atCount};
+ghost use Rattle.tim.specs.Next.{updateSteps, compares, compareSteps, ahead, consider, nextSteps, nextEvent};
+ghost use Rattle.tim.specs.Change as C;
+ghost use Rattle.tim.specs.Regs as R;
+
+// What set-up fixes: the timer's number, width, channel count, bus, interrupt and enable bit.
+pub struct Inst {
+    pub n: u32,
+    pub width: u32,
+    pub channels: u32,
+    pub apb: u32,
+    pub irq: u32,
+    pub en_reg: u32,
+    pub en_bit: u32,
+}
+
+// The registers as written.
+pub struct Regs {
+    pub cr1: u32,
+    pub cr2: u32,
+    pub smcr: u32,
+    pub dier: u32,
+    pub sr: u32,
+    pub ccer: u32,
+    pub psc: u32,
+    pub arr: u32,
+}
+
+// The channels: modes, compares as written and in use, those done in this period, and the latched references.
+pub struct Chan {
+    pub ccmr: [u32; 2],
+    pub ccr: [u32; 4],
+    pub ccr_act: [u32; 4],
+    pub cc_done: [bool; 4],
+    pub oc: [bool; 4],
+}
+
+// The counter: cnt0 at cycle base, a step every tick cycles.
+pub struct Count {
+    pub psc_act: u32,
+    pub arr_act: u32,
+    pub cnt0: u32,
+    pub base: u64,
+    pub tick: u32,
+    pub running: bool,
+}
+
+pub struct Timer {
+    pub inst: Inst,
+    pub regs: Regs,
+    pub chan: Chan,
+    pub count: Count,
+}
+
+// What the next event is.
+pub enum Next {
+    Update,
+    Compare(usize),
+}
+
+// How many steps ahead an event lies.
+pub struct Ahead {
+    pub steps: u64,
+    pub next: Next,
+}
+
+// The next event with its cycle, or none when the timer is stopped.
+pub enum Due {
+    At(u64, Next),
+    Stopped,
+}
+
+// What a register write leaves: the next timer, and whether the outputs are driven (at a count), the interrupt
+// line settled and the next event booked.
+pub struct Written {
+    pub timer: Timer,
+    pub drive: bool,
+    pub cnt: u32,
+    pub line: bool,
+    pub book: bool,
+}
+
+const KEPT: [u32; 17] = [
+    0x3ff,
+    0xffff_ffff,
+    0xffff_ffff,
+    0x5f5f,
+    0x1e5f,
+    0,
+    0xffff_ffff,
+    0xffff_ffff,
+    0x3333,
+    0xffff_ffff,
+    0xffff,
+    0xffff_ffff,
+    0,
+    0xffff_ffff,
+    0xffff_ffff,
+    0xffff_ffff,
+    0xffff_ffff,
+];
+
+// The bits that register reg (its offset / 4) keeps of a write.
+pub fn kept(reg: usize) -> u32
+    requires { ⌜ reg < 17 ⌝ }
+    ensures { λ r. ⌜ r ≡ getD R.keptTable reg 0 ⌝ }
+{
+    KEPT[reg]
+}
+
+fn count_up(reload: u32, cnt: u32, ticks: u64) -> u32
+    requires { ⌜ ticks < 9223372036854775808 ⌝ }
+    ensures { λ r. ⌜ r ≡ upFrom reload cnt ticks ⌝ }
+{
+    let sum = cnt as u64 + ticks;
+    let last = reload as u64;
+    if sum <= last {
+        return sum as u32;
+    }
+    let period = last + 1;
+    ((sum - period) % period) as u32
+}
+
+fn count_down(reload: u32, cnt: u32, ticks: u64) -> u32
+    requires { ⌜ cnt ≤ reload ⌝ }
+    ensures { λ r. ⌜ r ≡ downFrom reload cnt ticks ⌝ }
+{
+    let from = cnt as u64;
+    if ticks <= from {
+        return (from - ticks) as u32;
+    }
+    let last = reload as u64;
+    let period = last + 1;
+    (last - (ticks - from - 1) % period) as u32
+}
+
+fn lesser(a: u32, b: u32) -> u32
+    ensures { λ r. ⌜ r ≡ min a b ⌝ }
+{
+    if a <= b { a } else { b }
+}
+
+// Cycles per step.
+pub fn step_cycles(psc: u32, div: u32) -> u32
+    requires { ⌜ (psc < 65536) × (div ≤ 8192) ⌝ }
+    ensures { λ r. ⌜ r ≡ stepCycles psc div ⌝ }
+{
+    (psc + 1) * div
+}
+
+// Cycles of a number of steps: every product of the two is made here.
+pub fn cycles_of(steps: u64, tick: u32) -> u64
+    requires { ⌜ (steps ≤ 4294967296) × (tick ≤ 536870912) ⌝ }
+    ensures { λ r. ⌜ r ≡ steps * tick ⌝ }
+{
+    steps * tick as u64
+}
+
+fn cc_flag(ch: usize) -> u32
+    ensures { λ r. ⌜ r ≡ C.ccFlag ch ⌝ }
+{
+    if ch == 0 {
+        return 2;
+    }
+    if ch == 1 {
+        return 4;
+    }
+    if ch == 2 {
+        return 8;
+    }
+    16
+}
+
+fn at_match(mode: u32, latched: bool) -> bool
+    ensures { λ r. ⌜ r ≡ Out.atMatch mode latched ⌝ }
+{
+    if mode == 1 {
+        return true;
+    }
+    if mode == 2 {
+        return false;
+    }
+    if mode == 3 {
+        return !latched;
+    }
+    latched
+}
+
+fn pwm1(down: bool, cnt: u32, ccr: u32) -> bool
+    ensures { λ r. ⌜ r ≡ Out.pwm1 down cnt ccr ⌝ }
+{
+    if down {
+        return cnt <= ccr;
+    }
+    cnt < ccr
+}
+
+impl Timer {
+    pub const MAX16: u32 = 0xffff;
+
+    pub const MAX32: u32 = 0xffff_ffff;
+
+    pub const CR1_BASIC: u32 = 0x8f;
+
+    pub const SR_STAYS: u32 = 0xffff_e1a0;
+
+    fn fresh(inst: Inst, div: u32) -> Timer
+        requires { ⌜ div ≤ 8192 ⌝ }
+        ensures { λ r. ⌜ r ≡ C.resetState inst div ⌝ }
+    {
+        let top = max_of(inst);
+        Timer {
+            inst,
+            regs: Regs {
+                cr1: 0,
+                cr2: 0,
+                smcr: 0,
+                dier: 0,
+                sr: 0,
+                ccer: 0,
+                psc: 0,
+                arr: top,
+            },
+            chan: Chan {
+                ccmr: [0, 0],
+                ccr: [0, 0, 0, 0],
+                ccr_act: [0, 0, 0, 0],
+                cc_done: [false, false, false, false],
+                oc: [false, false, false, false],
+            },
+            count: Count {
+                psc_act: 0,
+                arr_act: top,
+                cnt0: 0,
+                base: 0,
+                tick: step_cycles(0, div),
+                running: false,
+            },
+        }
+    }
+
+    pub fn new(inst: Inst) -> Timer
+        ensures { λ r. ⌜ r ≡ C.resetState inst 1 ⌝ }
+    {
+        Timer::fresh(inst, 1)
+    }
+
+    pub fn reset(self, div: u32) -> Timer
+        requires { ⌜ div ≤ 8192 ⌝ }
+        ensures { λ r. ⌜ r ≡ C.resetState (self .inst) div ⌝ }
+    {
+        Timer::fresh(self.inst, div)
+    }
+
+    pub fn max(self) -> u32
+        ensures { λ r. ⌜ r ≡ T.max self ⌝ }
+    {
+        max_of(self.inst)
+    }
+
+    pub fn down(self) -> bool
+        ensures { λ r. ⌜ r ≡ T.down self ⌝ }
+    {
+        if self.inst.channels == 0 {
+            return false;
+        }
+        self.regs.cr1 / 16 % 2 == 1
+    }
+
+    // Whole steps from the reference to a cycle.
+    fn ticks_at(self, c: u64) -> u64
+        requires { ⌜ Fit self ⌝ }
+        ensures { λ r. ⌜ r ≡ ticksAt self c ⌝ }
+    {
+        if c <= self.count.base {
+            return 0;
+        }
+        (c - self.count.base) / self.count.tick as u64
+    }
+
+    // Counter value at cycle c.
+    pub fn cnt_at(self, c: u64) -> u32
+        requires { ⌜ (Fit self) × (c < 9223372036854775808) ⌝ }
+        ensures { λ r. ⌜ r ≡ cntAt self c ⌝ }
+    {
+        if !self.count.running {
+            return self.count.cnt0;
+        }
+        let ticks = self.ticks_at(c);
+        if self.down() {
+            let from = lesser(self.count.cnt0, self.count.arr_act);
+            return count_down(self.count.arr_act, from, ticks);
+        }
+        count_up(self.count.arr_act, self.count.cnt0, ticks)
+    }
+
+    // The cycle of the last step at or before now.
+    fn synced_base(self, now: u64) -> u64
+        requires { ⌜ Fit self ⌝ }
+        ensures { λ r. ⌜ r ≡ self .count .base + ticksAt self now * self .count .tick ⌝ }
+    {
+        if now <= self.count.base {
+            return self.count.base;
+        }
+        now - (now - self.count.base) % self.count.tick as u64
+    }
+
+    fn at_count(mut self, cnt: u32, base: u64) -> Timer
+        ensures { λ r. ⌜ r ≡ withCount self (atCount (self .count) cnt base) ⌝ }
+    {
+        self.count.cnt0 = cnt;
+        self.count.base = base;
+        self
+    }
+
+    // Re-bases the reference to the most recent counter step at or before now (keeps the sub-step phase).
+    pub fn sync(self, now: u64) -> Timer
+        requires { ⌜ (Fit self) × (now < 9223372036854775808) ⌝ }
+        ensures { λ r. ⌜ r ≡ synced self now ⌝ }
+    {
+        if !self.count.running {
+            return self;
+        }
+        self.at_count(self.cnt_at(now), self.synced_base(now))
+    }
+
+    // Channel ch's byte of CCMR1 or CCMR2.
+    fn ccmr_byte(self, ch: usize) -> u32
+        requires { ⌜ ch < 4 ⌝ }
+        ensures { λ r. ⌜ r ≡ T.ccmrByte self ch ⌝ }
+    {
+        let ccmr = self.chan.ccmr;
+        let w = ccmr[ch / 2];
+        (w >> (8 * (ch % 2))) % 256
+    }
+
+    pub fn oc_mode(self, ch: usize) -> u32
+        requires { ⌜ ch < 4 ⌝ }
+        ensures { λ r. ⌜ r ≡ T.ocMode self ch ⌝ }
+    {
+        self.ccmr_byte(ch) / 16 % 8
+    }
+
+    // Channel configured as output compare (CCxS = 0).
+    pub fn is_output(self, ch: usize) -> bool
+        requires { ⌜ ch < 4 ⌝ }
+        ensures { λ r. ⌜ r ≡ T.isOutput self ch ⌝ }
+    {
+        if ch < self.inst.channels as usize {
+            return self.ccmr_byte(ch) % 4 == 0;
+        }
+        false
+    }
+
+    // Steps to the update event.
+    fn update_steps(self) -> u64
+        ensures { λ r. ⌜ r ≡ updateSteps self ⌝ }
+    {
+        let cnt = self.count.cnt0 as u64;
+        if self.down() {
+            return cnt + 1;
+        }
+        let period = self.count.arr_act as u64 + 1;
+        if period <= cnt {
+            return 0;
+        }
+        period - cnt
+    }
+
+    // Channel ch's compare lies ahead of the counter in this period.
+    fn is_ahead(self, ch: usize) -> bool
+        requires { ⌜ ch < 4 ⌝ }
+        ensures { λ r. ⌜ r ≡ ahead self ch ⌝ }
+    {
+        let act = self.chan.ccr_act;
+        let ccr = act[ch];
+        if self.down() {
+            return ccr <= self.count.cnt0;
+        }
+        if self.count.cnt0 <= ccr {
+            return ccr <= self.count.arr_act;
+        }
+        false
+    }
+
+    // Channel ch still compares in this period.
+    fn does_compare(self, ch: usize) -> bool
+        requires { ⌜ ch < 4 ⌝ }
+        ensures { λ r. ⌜ r ≡ compares self ch ⌝ }
+    {
+        let done = self.chan.cc_done;
+        if done[ch] {
+            return false;
+        }
+        if self.is_output(ch) {
+            return self.is_ahead(ch);
+        }
+        false
+    }
+
+    fn compare_steps(self, ch: usize) -> u64
+        requires { ⌜ ch < 4 ⌝ }
+        ensures { λ r. ⌜ r ≡ compareSteps self ch ⌝ }
+    {
+        let act = self.chan.ccr_act;
+        let ccr = act[ch];
+        if self.down() {
+            return less(self.count.cnt0, ccr);
+        }
+        less(ccr, self.count.cnt0)
+    }
+
+    fn consider(self, ch: usize, best: Ahead) -> Ahead
+        requires { ⌜ ch < 4 ⌝ }
+        ensures { λ r. ⌜ r ≡ consider self ch best ⌝ }
+    {
+        if !self.does_compare(ch) {
+            return best;
+        }
+        let steps = self.compare_steps(ch);
+        if steps < best.steps {
+            return Ahead {
+                steps,
+                next: Next::Compare(ch),
+            };
+        }
+        best
+    }
+
+    fn next_steps(self) -> Ahead
+        ensures { λ r. ⌜ r ≡ nextSteps self ⌝ }
+    {
+        let update = Ahead {
+            steps: self.update_steps(),
+            next: Next::Update,
+        };
+        let a = self.consider(0, update);
+        let b = self.consider(1, a);
+        let c = self.consider(2, b);
+        self.consider(3, c)
+    }
+
+    // The next event after the reference: the update and every pending compare.
+    pub fn next_event(self) -> Due
+        requires { ⌜ Fit self ⌝ }
+        ensures { λ r. ⌜ r ≡ nextEvent self ⌝ }
+    {
+        if !self.count.running {
+            return Due::Stopped;
+        }
+        let first = self.next_steps();
+        let next = first.next;
+        Due::At(
+            self.count.base + cycles_of(first.steps, self.count.tick),
+            next,
+        )
+    }
+
+    // Channel ch's compare lies behind the counter.
+    fn is_behind(self, ch: usize) -> bool
+        requires { ⌜ ch < 4 ⌝ }
+        ensures { λ r. ⌜ r ≡ C.behind self ch ⌝ }
+    {
+        let act = self.chan.ccr_act;
+        let ccr = act[ch];
+        if self.down() {
+            return self.count.cnt0 < ccr;
+        }
+        ccr <= self.count.cnt0
+    }
+
+    fn is_done(self, ch: usize) -> bool
+        requires { ⌜ ch < 4 ⌝ }
+        ensures { λ r. ⌜ r ≡ C.doneNow self ch ⌝ }
+    {
+        if ch < self.inst.channels as usize {
+            return self.is_behind(ch);
+        }
+        false
+    }
+
+    fn is_done_after_update(self, ch: usize) -> bool
+        requires { ⌜ ch < 4 ⌝ }
+        ensures { λ r. ⌜ r ≡ C.doneAfterUpdate self ch ⌝ }
+    {
+        let act = self.chan.ccr_act;
+        let ccr = act[ch];
+        if ch < self.inst.channels as usize {
+            return self.count.arr_act < ccr;
+        }
+        false
+    }
+
+    fn with_done(mut self, done: [bool; 4]) -> Timer
+        ensures { λ r. ⌜ r ≡ C.withDone self done ⌝ }
+    {
+        let mut h = self.chan;
+        h.cc_done = done;
+        self.chan = h;
+        self
+    }
+
+    // Marks channels whose compare lies behind the counter as done for this period.
+    pub fn recompute_cc_done(self) -> Timer
+        ensures { λ r. ⌜ r ≡ C.recomputed self ⌝ }
+    {
+        let done = [
+            self.is_done(0),
+            self.is_done(1),
+            self.is_done(2),
+            self.is_done(3),
+        ];
+        self.with_done(done)
+    }
+
+    // After an update the counter restarts: every channel compares again, including a compare equal to the restart value.
+    pub fn recompute_cc_done_after_update(self) -> Timer
+        ensures { λ r. ⌜ r ≡ C.recomputedAfterUpdate self ⌝ }
+    {
+        let done = [
+            self.is_done_after_update(0),
+            self.is_done_after_update(1),
+            self.is_done_after_update(2),
+            self.is_done_after_update(3),
+        ];
+        self.with_done(done)
+    }
+
+    // The output reference of channel ch at a count.
+    pub fn ocref(self, ch: usize, cnt: u32) -> bool
+        requires { ⌜ ch < 4 ⌝ }
+        ensures { λ r. ⌜ r ≡ C.ocref self ch cnt ⌝ }
+    {
+        let mode = self.oc_mode(ch);
+        let act = self.chan.ccr_act;
+        let oc = self.chan.oc;
+        ref_of(mode, self.down(), cnt, act[ch], oc[ch])
+    }
+
+    // The level that channel ch drives at a count: OCxREF with CCxE and CCxP.
+    pub fn output(self, ch: usize, cnt: u32) -> bool
+        requires { ⌜ ch < 4 ⌝ }
+        ensures { λ r. ⌜ r ≡ C.output self ch cnt ⌝ }
+    {
+        if !self.is_output(ch) {
+            return false;
+        }
+        let bits = self.regs.ccer >> (4 * ch);
+        if bits % 2 == 0 {
+            return false;
+        }
+        let level = self.ocref(ch, cnt);
+        if bits / 2 % 2 == 1 {
+            return !level;
+        }
+        level
+    }
+
+    fn with_flag(mut self, flag: u32) -> Timer
+        ensures { λ r. ⌜ r ≡ C.withFlag self flag ⌝ }
+    {
+        let sr = self.regs.sr | flag;
+        self.regs.sr = sr;
+        self
+    }
+
+    // The active prescaler, reload and compares take the written ones.
+    fn load(mut self) -> Timer
+        ensures { λ r. ⌜ r ≡ C.loaded self ⌝ }
+    {
+        let mut h = self.chan;
+        let ccr = h.ccr;
+        h.ccr_act = ccr;
+        self.chan = h;
+        let psc = self.regs.psc;
+        let arr = self.regs.arr;
+        self.count.psc_act = psc;
+        self.count.arr_act = arr;
+        self
+    }
+
+    fn reload(self) -> Timer
+        ensures { λ r. ⌜ r ≡ C.reloaded self ⌝ }
+    {
+        if self.regs.cr1 / 2 % 2 == 1 {
+            return self;
+        }
+        self.load().with_flag(1)
+    }
+
+    // The count at which a period begins.
+    fn first_count(self) -> u32
+        ensures { λ r. ⌜ r ≡ restart (T.down self) (self .count .«arr_act») ⌝ }
+    {
+        if self.down() {
+            return self.count.arr_act;
+        }
+        0
+    }
+
+    fn restart(mut self, at: u64, div: u32) -> Timer
+        requires { ⌜ (self .count .«psc_act» < 65536) × (div ≤ 8192) ⌝ }
+        ensures { λ r. ⌜ r ≡ C.restarted self at div ⌝ }
+    {
+        let first = self.first_count();
+        let tick = step_cycles(self.count.psc_act, div);
+        self.count.cnt0 = first;
+        self.count.tick = tick;
+        self.count.base = at;
+        self
+    }
+
+    fn with_running(mut self, on: bool) -> Timer
+        ensures { λ r. ⌜ r ≡ C.withRunning self on ⌝ }
+    {
+        self.count.running = on;
+        self
+    }
+
+    fn end(self) -> Timer
+        ensures { λ r. ⌜ r ≡ C.ended self ⌝ }
+    {
+        if self.regs.cr1 / 8 % 2 == 1 {
+            return self.with_running(false);
+        }
+        self
+    }
+
+    // Update event at cycle at: reload shadow registers, restart the period.
+    pub fn update(self, at: u64, div: u32) -> Timer
+        requires { ⌜ (Fit self) × (div ≤ 8192) ⌝ }
+        ensures { λ r. ⌜ r ≡ C.updated self at div ⌝ }
+    {
+        let r = self.reload();
+        let s = r.restart(at, div);
+        let d = s.recompute_cc_done_after_update();
+        d.end()
+    }
+
+    // A match of channel ch: the reference that its mode latches, and its flag.
+    fn matched(mut self, ch: usize) -> Timer
+        requires { ⌜ ch < 4 ⌝ }
+        ensures { λ r. ⌜ r ≡ C.matched self ch ⌝ }
+    {
+        let mode = self.oc_mode(ch);
+        let mut h = self.chan;
+        let mut oc = h.oc;
+        let latched = at_match(mode, oc[ch]);
+        oc[ch] = latched;
+        h.oc = oc;
+        self.chan = h;
+        self.with_flag(cc_flag(ch))
+    }
+
+    // What a compare event of channel ch does.
+    pub fn compare(self, ch: usize) -> Timer
+        requires { ⌜ ch < 4 ⌝ }
+        ensures { λ r. ⌜ r ≡ C.compared self ch ⌝ }
+    {
+        let mut done = self.chan.cc_done;
+        done[ch] = true;
+        let m = self.matched(ch);
+        m.with_done(done)
+    }
+
+    fn run_from(mut self, now: u64, tick: u32) -> Timer
+        ensures { λ r. ⌜ r ≡ C.ranFrom self now tick ⌝ }
+    {
+        self.count.running = true;
+        self.count.tick = tick;
+        self.count.base = now;
+        self
+    }
+
+    pub fn start(self, now: u64, div: u32) -> Timer
+        requires { ⌜ (Fit self) × (div ≤ 8192) ⌝ }
+        ensures { λ r. ⌜ r ≡ C.started self now div ⌝ }
+    {
+        let t = self.run_from(now, step_cycles(self.count.psc_act, div));
+        t.recompute_cc_done()
+    }
+
+    pub fn stop(self, now: u64) -> Timer
+        requires { ⌜ (Fit self) × (now < 9223372036854775808) ⌝ }
+        ensures { λ r. ⌜ r ≡ C.stopped self now ⌝ }
+    {
+        let s = self.sync(now);
+        s.with_running(false)
+    }
+
+    fn with_tick(mut self, tick: u32) -> Timer
+        ensures { λ r. ⌜ r ≡ C.withTick self tick ⌝ }
+    {
+        self.count.tick = tick;
+        self
+    }
+
+    pub fn on_clock_change(self, now: u64, div: u32) -> Timer
+        requires { ⌜ (Fit self) × (now < 9223372036854775808) × (div ≤ 8192) ⌝ }
+        ensures { λ r. ⌜ r ≡ C.retimed self now div ⌝ }
+    {
+        let tick = step_cycles(self.count.psc_act, div);
+        let s = self.sync(now);
+        s.with_tick(tick)
+    }
+
+    // The update that EGR's UG makes.
+    pub fn generate_update(self, now: u64, div: u32) -> Timer
+        requires { ⌜ (Fit self) × (div ≤ 8192) ⌝ }
+        ensures { λ r. ⌜ r ≡ C.generated self now div ⌝ }
+    {
+        let l = self.load();
+        let s = l.restart(now, div);
+        let d = s.recompute_cc_done_after_update();
+        d.flag_generated()
+    }
+
+    // UIF, unless URS or UDIS.
+    fn flag_generated(self) -> Timer
+        ensures { λ r. ⌜ r ≡ C.flaggedGenerated self ⌝ }
+    {
+        if self.regs.cr1 / 4 % 2 == 1 {
+            return self;
+        }
+        if self.regs.cr1 / 2 % 2 == 1 {
+            return self;
+        }
+        self.with_flag(1)
+    }
+
+    fn with_cr1(mut self, v: u32) -> Timer
+        ensures { λ r. ⌜ r ≡ R.withCr1 self v ⌝ }
+    {
+        self.regs.cr1 = v;
+        self
+    }
+
+    fn with_cr2(mut self, v: u32) -> Timer
+        ensures { λ r. ⌜ r ≡ R.withCr2 self v ⌝ }
+    {
+        self.regs.cr2 = v;
+        self
+    }
+
+    fn with_smcr(mut self, v: u32) -> Timer
+        ensures { λ r. ⌜ r ≡ R.withSmcr self v ⌝ }
+    {
+        self.regs.smcr = v;
+        self
+    }
+
+    fn with_dier(mut self, v: u32) -> Timer
+        ensures { λ r. ⌜ r ≡ R.withDier self v ⌝ }
+    {
+        self.regs.dier = v;
+        self
+    }
+
+    fn with_sr(mut self, v: u32) -> Timer
+        ensures { λ r. ⌜ r ≡ R.withSr self v ⌝ }
+    {
+        self.regs.sr = v;
+        self
+    }
+
+    fn with_ccer(mut self, v: u32) -> Timer
+        ensures { λ r. ⌜ r ≡ R.withCcer self v ⌝ }
+    {
+        self.regs.ccer = v;
+        self
+    }
+
+    fn with_psc(mut self, v: u32) -> Timer
+        ensures { λ r. ⌜ r ≡ R.withPsc self v ⌝ }
+    {
+        self.regs.psc = v;
+        self
+    }
+
+    fn with_arr(mut self, v: u32) -> Timer
+        ensures { λ r. ⌜ r ≡ R.withArr self v ⌝ }
+    {
+        self.regs.arr = v;
+        self
+    }
+
+    fn with_arr_act(mut self, v: u32) -> Timer
+        ensures { λ r. ⌜ r ≡ R.withArrAct self v ⌝ }
+    {
+        self.count.arr_act = v;
+        self
+    }
+
+    fn with_ccmr(mut self, i: usize, v: u32) -> Timer
+        requires { ⌜ i < 2 ⌝ }
+        ensures { λ r. ⌜ r ≡ R.withCcmr self i v ⌝ }
+    {
+        let mut h = self.chan;
+        let mut a = h.ccmr;
+        a[i] = v;
+        h.ccmr = a;
+        self.chan = h;
+        self
+    }
+
+    fn with_ccr(mut self, ch: usize, v: u32) -> Timer
+        requires { ⌜ ch < 4 ⌝ }
+        ensures { λ r. ⌜ r ≡ R.withCcr self ch v ⌝ }
+    {
+        let mut h = self.chan;
+        let mut a = h.ccr;
+        a[ch] = v;
+        h.ccr = a;
+        self.chan = h;
+        self
+    }
+
+    fn with_ccr_act(mut self, ch: usize, v: u32) -> Timer
+        requires { ⌜ ch < 4 ⌝ }
+        ensures { λ r. ⌜ r ≡ R.withCcrAct self ch v ⌝ }
+    {
+        let mut h = self.chan;
+        let mut a = h.ccr_act;
+        a[ch] = v;
+        h.ccr_act = a;
+        self.chan = h;
+        self
+    }
+
+    // The bits that CR1 keeps: those of a basic timer without channels.
+    fn kept_cr1(self, v: u32) -> u32
+        ensures { λ r. ⌜ r ≡ R.keptCr1 self v ⌝ }
+    {
+        if self.inst.channels == 0 {
+            return v & Self::CR1_BASIC;
+        }
+        v & kept(0)
+    }
+
+    // A direction change settles again which compares are done.
+    fn turn(self, old: u32) -> Timer
+        ensures { λ r. ⌜ r ≡ R.turned old self ⌝ }
+    {
+        if old / 16 % 2 == self.regs.cr1 / 16 % 2 {
+            return self;
+        }
+        self.recompute_cc_done()
+    }
+
+    fn write_cr1(self, v: u32, now: u64, div: u32) -> Timer
+        requires { ⌜ Ready self now div ⌝ }
+        ensures { λ r. ⌜ r ≡ R.cr1Written self v now div ⌝ }
+    {
+        let old = self.regs.cr1;
+        let new = self.kept_cr1(v);
+        let s = self.sync(now);
+        let t = s.with_cr1(new);
+        if new % 2 == 1 {
+            if old % 2 == 1 {
+                return t.turn(old);
+            }
+            return t.start(now, div);
+        }
+        if old % 2 == 1 {
+            return t.stop(now);
+        }
+        t.turn(old)
+    }
+
+    fn egr_match(self, v: u32, ch: usize) -> Timer
+        requires { ⌜ ch < 4 ⌝ }
+        ensures { λ r. ⌜ r ≡ R.egrMatch v ch self ⌝ }
+    {
+        if (v >> (ch + 1)) % 2 == 0 {
+            return self;
+        }
+        if self.is_output(ch) {
+            return self.matched(ch);
+        }
+        self
+    }
+
+    fn egr_update(self, v: u32, now: u64, div: u32) -> Timer
+        requires { ⌜ Ready self now div ⌝ }
+        ensures { λ r. ⌜ r ≡ R.egrUpdate self v now div ⌝ }
+    {
+        let s = self.sync(now);
+        if v % 2 == 1 {
+            return s.generate_update(now, div);
+        }
+        s
+    }
+
+    fn write_egr(self, v: u32, now: u64, div: u32) -> Timer
+        requires { ⌜ Ready self now div ⌝ }
+        ensures { λ r. ⌜ r ≡ R.egrWritten self v now div ⌝ }
+    {
+        let t = self.egr_update(v, now, div);
+        let a = t.egr_match(v, 0);
+        let b = a.egr_match(v, 1);
+        let c = b.egr_match(v, 2);
+        c.egr_match(v, 3)
+    }
+
+    fn write_cnt(self, v: u32, now: u64) -> Timer
+        requires { ⌜ (Fit self) × (now < 9223372036854775808) ⌝ }
+        ensures { λ r. ⌜ r ≡ R.cntWritten self v now ⌝ }
+    {
+        let s = self.sync(now);
+        let t = s.at_count(v & self.max(), now);
+        t.recompute_cc_done()
+    }
+
+    fn write_arr(self, v: u32, now: u64) -> Written
+        requires { ⌜ (Fit self) × (now < 9223372036854775808) ⌝ }
+        ensures { λ r. ⌜ r ≡ R.arrWritten self v now ⌝ }
+    {
+        let arr = v & self.max();
+        let s = self.sync(now);
+        let t = s.with_arr(arr);
+        if self.regs.cr1 / 128 % 2 == 1 {
+            return only(t);
+        }
+        let a = t.with_arr_act(arr);
+        booked(a.recompute_cc_done())
+    }
+
+    // An immediate compare settles its own channel.
+    fn settle(self, ch: usize) -> Timer
+        requires { ⌜ ch < 4 ⌝ }
+        ensures { λ r. ⌜ r ≡ R.settled self ch ⌝ }
+    {
+        let mut done = self.chan.cc_done;
+        let behind = self.is_behind(ch);
+        done[ch] = behind;
+        self.with_done(done)
+    }
+
+    fn write_ccr(self, ch: usize, v: u32, now: u64) -> Written
+        requires { ⌜ (Fit self) × (now < 9223372036854775808) × (ch < 4) ⌝ }
+        ensures { λ r. ⌜ r ≡ R.ccrWritten self ch v now ⌝ }
+    {
+        let ccr = v & self.max();
+        let s = self.sync(now);
+        let t = s.with_ccr(ch, ccr);
+        if self.ccmr_byte(ch) / 8 % 2 == 1 {
+            return only(t);
+        }
+        let a = t.with_ccr_act(ch, ccr);
+        let cnt = a.cnt_at(now);
+        driven(a.settle(ch), cnt, true)
+    }
+
+    fn write_ccmr(self, i: usize, v: u32, now: u64) -> Written
+        requires { ⌜ (Fit self) × (now < 9223372036854775808) × (i < 2) ⌝ }
+        ensures { λ r. ⌜ r ≡ R.ccmrWritten self i v now ⌝ }
+    {
+        let s = self.sync(now);
+        let t = s.with_ccmr(i, v);
+        let cnt = t.cnt_at(now);
+        driven(t, cnt, true)
+    }
+
+    fn write_ccer(self, v: u32, now: u64) -> Written
+        requires { ⌜ (Fit self) × (now < 9223372036854775808) ⌝ }
+        ensures { λ r. ⌜ r ≡ R.ccerWritten self v now ⌝ }
+    {
+        let t = self.with_ccer(v & kept(8));
+        let cnt = t.cnt_at(now);
+        driven(t, cnt, false)
+    }
+
+    fn write_channel(self, off: u32, v: u32, now: u64) -> Written
+        requires { ⌜ (Fit self) × (now < 9223372036854775808) ⌝ }
+        ensures { λ r. ⌜ r ≡ R.channelWritten self off v now ⌝ }
+    {
+        if self.inst.channels == 0 {
+            return only(self);
+        }
+        match off {
+            0x18 => self.write_ccmr(0, v, now),
+            0x1c => self.write_ccmr(1, v, now),
+            0x20 => self.write_ccer(v, now),
+            0x34..=0x43 => self.write_ccr(((off - 0x34) / 4) as usize, v, now),
+            _ => only(self),
+        }
+    }
+
+    // A register write: the next timer, and what follows.
+    pub fn write_reg(self, off: u32, v: u32, now: u64, div: u32) -> Written
+        requires { ⌜ Ready self now div ⌝ }
+        ensures { λ r. ⌜ r ≡ R.regWritten self off v now div ⌝ }
+    {
+        match off {
+            0x00 => booked(self.write_cr1(v, now, div)),
+            0x04 => only(self.with_cr2(v)),
+            0x08 => only(self.with_smcr(v)),
+            0x0c => lined(self.with_dier(v & kept(3))),
+            0x10 => lined(self.with_sr(self.regs.sr & (v | Self::SR_STAYS))),
+            0x14 => generated(self.write_egr(v, now, div), now),
+            0x24 => counted(self.write_cnt(v, now)),
+            0x28 => only(self.with_psc(v & kept(10))),
+            0x2c => self.write_arr(v, now),
+            _ => self.write_channel(off, v, now),
+        }
+    }
+
+    fn read_channel(self, off: u32) -> u32
+        ensures { λ r. ⌜ r ≡ R.channelRead self off ⌝ }
+    {
+        if self.inst.channels == 0 {
+            return 0;
+        }
+        let ccmr = self.chan.ccmr;
+        let ccr = self.chan.ccr;
+        match off {
+            0x18 => ccmr[0],
+            0x1c => ccmr[1],
+            0x20 => self.regs.ccer,
+            0x34..=0x43 => ccr[((off - 0x34) / 4) as usize],
+            _ => 0,
+        }
+    }
+
+    // A register's value at a cycle.
+    pub fn read_reg(self, off: u32, now: u64) -> u32
+        requires { ⌜ (Fit self) × (now < 9223372036854775808) ⌝ }
+        ensures { λ r. ⌜ r ≡ R.regRead self off now ⌝ }
+    {
+        match off {
+            0x00 => self.regs.cr1,
+            0x04 => self.regs.cr2,
+            0x08 => self.regs.smcr,
+            0x0c => self.regs.dier,
+            0x10 => self.regs.sr,
+            0x24 => self.cnt_at(now),
+            0x28 => self.regs.psc,
+            0x2c => self.regs.arr,
+            _ => self.read_channel(off),
+        }
+    }
+
+    // Running upward with the counter above the active reload + 1: a write that leaves this is refused.
+    pub fn is_astray(self) -> bool
+        ensures { λ r. ⌜ r ≡ R.astray self ⌝ }
+    {
+        if !self.count.running {
+            return false;
+        }
+        if self.down() {
+            return false;
+        }
+        self.count.arr_act as u64 + 1 < self.count.cnt0 as u64
+    }
+}
+
+fn max_of(inst: Inst) -> u32
+    ensures { λ r. ⌜ r ≡ C.maxOf inst ⌝ }
+{
+    if inst.width == 32 {
+        Timer::MAX32
+    } else {
+        Timer::MAX16
+    }
+}
+
+// a - b, or 0.
+fn less(a: u32, b: u32) -> u64
+    ensures { λ r. ⌜ r ≡ a - b ⌝ }
+{
+    if a <= b {
+        return 0;
+    }
+    (a - b) as u64
+}
+
+fn ref_of(mode: u32, down: bool, cnt: u32, ccr: u32, latched: bool) -> bool
+    ensures { λ r. ⌜ r ≡ Out.ocref mode down cnt ccr latched ⌝ }
+{
+    if mode == 4 {
+        return false;
+    }
+    if mode == 5 {
+        return true;
+    }
+    if mode == 6 {
+        return pwm1(down, cnt, ccr);
+    }
+    if mode == 7 {
+        return !pwm1(down, cnt, ccr);
+    }
+    latched
+}
+
+fn only(timer: Timer) -> Written
+    ensures { λ r. ⌜ r ≡ R.only timer ⌝ }
+{
+    Written {
+        timer,
+        drive: false,
+        cnt: 0,
+        line: false,
+        book: false,
+    }
+}
+
+fn lined(timer: Timer) -> Written
+    ensures { λ r. ⌜ r ≡ R.lined timer ⌝ }
+{
+    Written {
+        timer,
+        drive: false,
+        cnt: 0,
+        line: true,
+        book: false,
+    }
+}
+
+fn booked(timer: Timer) -> Written
+    ensures { λ r. ⌜ r ≡ R.booked timer ⌝ }
+{
+    Written {
+        timer,
+        drive: false,
+        cnt: 0,
+        line: false,
+        book: true,
+    }
+}
+
+fn driven(timer: Timer, cnt: u32, book: bool) -> Written
+    ensures { λ r. ⌜ r ≡ R.driven timer cnt book ⌝ }
+{
+    Written {
+        timer,
+        drive: true,
+        cnt,
+        line: false,
+        book,
+    }
+}
+
+fn counted(timer: Timer) -> Written
+    ensures { λ r. ⌜ r ≡ R.counted timer ⌝ }
+{
+    driven(timer, timer.count.cnt0, true)
+}
+
+fn generated(timer: Timer, now: u64) -> Written
+    requires { ⌜ (Fit timer) × (now < 9223372036854775808) ⌝ }
+    ensures { λ r. ⌜ r ≡ R.generated timer now ⌝ }
+{
+    let cnt = timer.cnt_at(now);
+    Written {
+        timer,
+        drive: true,
+        cnt,
+        line: true,
+        book: true,
+    }
+}
