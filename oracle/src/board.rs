@@ -17,11 +17,12 @@ pub const LIMIT: u64 = 1 << 62;
 /// The one not-a-number that is ever shown.
 pub const NAN: u64 = 0x7ff8_0000_0000_0000;
 
-pub const WRONG_BOARD: u8 = 1;
-pub const NO_SUCH_POST: u8 = 2;
-pub const ODD_PLUG: u8 = 3;
+// Document 01's numbers.
+pub const BAD_SETUP: u8 = 1;
+pub const NO_SUCH_INDEX: u8 = 2;
+pub const BAD_SIZE: u8 = 3;
 pub const BAD_CLOCK: u8 = 4;
-pub const CLOCK_ASTRAY: u8 = 5;
+pub const BAD_CYCLE: u8 = 5;
 pub const BOOK_FULL: u8 = 6;
 pub const COUNTER_ASTRAY: u8 = 7;
 pub const BACKLOG: u8 = 8;
@@ -99,7 +100,7 @@ impl Board {
             }
             Call::Clock { sys, hclk, dividers, cycle } => self.clock(f64::from_bits(sys), f64::from_bits(hclk), dividers, cycle),
             Call::Enable { word, value } => {
-                *self.sys.enr.get_mut(word as usize).ok_or(NO_SUCH_POST)? = value;
+                *self.sys.enr.get_mut(word as usize).ok_or(NO_SUCH_INDEX)? = value;
                 Ok((0, 0))
             }
             Call::Pin { pin, mode, open_drain, out, pullup, pulldown, function, cycle, book } => {
@@ -252,7 +253,7 @@ impl Board {
     }
 
     fn check_cycle(&self, cycle: u64) -> Result<(), u8> {
-        if cycle > LIMIT || cycle < self.last { Err(CLOCK_ASTRAY) } else { Ok(()) }
+        if cycle > LIMIT || cycle < self.last { Err(BAD_CYCLE) } else { Ok(()) }
     }
 
     /// Admits a timer reset or a delivery, and with it moves the last changing cycle.
@@ -333,11 +334,11 @@ impl Board {
 }
 
 fn index(i: u32, len: usize) -> Result<usize, u8> {
-    if (i as usize) < len { Ok(i as usize) } else { Err(NO_SUCH_POST) }
+    if (i as usize) < len { Ok(i as usize) } else { Err(NO_SUCH_INDEX) }
 }
 
 fn check_size(size: u32) -> Result<u8, u8> {
-    if matches!(size, 1 | 2 | 4) { Ok(size as u8) } else { Err(ODD_PLUG) }
+    if matches!(size, 1 | 2 | 4) { Ok(size as u8) } else { Err(BAD_SIZE) }
 }
 
 fn check_places(book: u64, need: u64) -> Result<(), u8> {
@@ -364,7 +365,7 @@ fn check_setup(s: &Setup) -> Result<(), u8> {
         && s.len == s.pins * 16
         && good_signals(&s.signals);
     match good {
-        false => Err(WRONG_BOARD),
+        false => Err(BAD_SETUP),
         true if !frequency(f64::from_bits(s.hz)) => Err(BAD_CLOCK),
         true => Ok(()),
     }

@@ -7,6 +7,7 @@ use lib.Bits.{bitAnd, bitOr}
 use lib.ListN.{getD, set}
 use Rattle.rm0440.specs.Bits.{field, isSet, CEN, ARPE}
 use Rattle.rm0440.specs.Output as Out
+use Rattle.rm0440.specs.Registers.{keptMask}
 use Rattle.tim.specs.declared.Timer.{Timer}
 use Rattle.tim.specs.declared.Regs.{Regs}
 use Rattle.tim.specs.declared.Written.{Written}
@@ -15,16 +16,9 @@ use Rattle.tim.specs.Count.{cntAt, synced, atCount}
 use Rattle.tim.specs.Change.{behind, withDone, recomputed, started, stopped, matched}
 use Rattle.tim.specs.Change as C
 
--- "Bits kept on a write are a fixed table", by register index, offset / 4: CR1, CR2, SMCR, DIER, SR, EGR, CCMR1, CCMR2, CCER, CNT, PSC, ARR, -, CCR1 to CCR4.
--- CNT, ARR and CCR keep the timer's width of what stands here; of SR these are the bits that a written 0 clears.
-abbrev pub keptTable : List ℕ
-keptTable =
-    0x3ff ∷ 0xffff_ffff ∷ 0xffff_ffff ∷ 0x5f5f ∷ 0x1e5f ∷ 0 ∷ 0xffff_ffff ∷ 0xffff_ffff ∷ 0x3333 ∷ 0xffff_ffff ∷ 0xffff ∷ 0xffff_ffff ∷
-    0 ∷ 0xffff_ffff ∷ 0xffff_ffff ∷ 0xffff_ffff ∷ 0xffff_ffff ∷ []
-
 -- "CR1 3ff (8f without channels)"
 abbrev pub keptCr1 : Timer → ℕ → ℕ
-keptCr1 t v = bitAnd v (cond (eqb (t .inst .channels) 0) 0x8f 0x3ff)
+keptCr1 t v = bitAnd v (cond (eqb (t .inst .channels) 0) 0x8f (keptMask 0))
 
 -- "CNT, ARR, CCR the timer's width"
 abbrev pub keptWidth : Timer → ℕ → ℕ
@@ -32,7 +26,7 @@ keptWidth t v = bitAnd v (max t)
 
 -- "SR: a written 0 clears a bit of 1e5f; nothing sets one"
 abbrev pub keptSr : ℕ → ℕ → ℕ
-keptSr sr v = bitAnd sr (bitOr v (0xffff_ffff - 0x1e5f))
+keptSr sr v = bitAnd sr (bitOr v (0xffff_ffff - keptMask 4))
 
 -- ---- a register set to a value
 
@@ -142,7 +136,7 @@ unfoldable pub ccmrWritten : Timer → ℕ → ℕ → ℕ → Written
 ccmrWritten t i v now = let s = withCcmr (synced t now) i v in driven s (cntAt s now) true
 
 unfoldable pub ccerWritten : Timer → ℕ → ℕ → Written
-ccerWritten t v now = let s = withCcer t (bitAnd v 0x3333) in driven s (cntAt s now) false
+ccerWritten t v now = let s = withCcer t (bitAnd v (keptMask 8)) in driven s (cntAt s now) false
 
 -- channel of CCR1 to CCR4's offset
 abbrev pub ccrChannel : ℕ → ℕ
@@ -166,11 +160,11 @@ regWritten t off v now div =
     cond (eqb off 0x00) (booked (cr1Written t v now div))
     (cond (eqb off 0x04) (only (withCr2 t v))
     (cond (eqb off 0x08) (only (withSmcr t v))
-    (cond (eqb off 0x0c) (lined (withDier t (bitAnd v 0x5f5f)))
+    (cond (eqb off 0x0c) (lined (withDier t (bitAnd v (keptMask 3))))
     (cond (eqb off 0x10) (lined (withSr t (keptSr (t .regs .sr) v)))
     (cond (eqb off 0x14) (generated (egrWritten t v now div) now)
     (cond (eqb off 0x24) (counted (cntWritten t v now))
-    (cond (eqb off 0x28) (only (withPsc t (bitAnd v 0xffff)))
+    (cond (eqb off 0x28) (only (withPsc t (bitAnd v (keptMask 10))))
     (cond (eqb off 0x2c) (arrWritten t v now) (channelWritten t off v now)))))))))
 
 -- a register's value at a cycle; "Others, and EGR, read 0."

@@ -7,6 +7,7 @@ ghost use lib.Bits.{bitAnd, bitOr};
 ghost use lib.ListN.{getD, set};
 ghost use Rattle.rm0440.specs.Counter.{stepCycles, restart};
 ghost use Rattle.rm0440.specs.Output as Out;
+ghost use Rattle.rm0440.specs.Registers.{keptMask};
 ghost use Rattle.tim.specs.Timer as T;
 ghost use Rattle.tim.specs.Timer.{Fit, Ready, withCount};
 ghost use Rattle.tim.specs.Count.{upFrom, downFrom, ticksAt, cntAt, synced, atCount};
@@ -114,7 +115,7 @@ const KEPT: [u32; 17] = [
 // The bits that register reg (its offset / 4) keeps of a write.
 pub fn kept(reg: usize) -> u32
     requires { ⌜ reg < 17 ⌝ }
-    ensures { λ r. ⌜ r ≡ getD R.keptTable reg 0 ⌝ }
+    ensures { λ r. ⌜ r ≡ keptMask reg ⌝ }
 {
     KEPT[reg]
 }

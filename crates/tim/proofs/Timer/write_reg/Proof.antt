@@ -1,4 +1,5 @@
 -- One case for each register.
+use Rattle.rm0440.specs.Registers.{bits, mask}
 use Rattle.tim.proofs.Fit.{fit-egr}
 use Rattle.tim.specs.Regs.{regWritten}
 use borrow.Author.Needs.{needs}
@@ -83,7 +84,7 @@ unfolding regWritten
 returns-4 c = rw (c .before .before .before .match .keys4) (cc)
 
 returns-5 : tie.Need-returns-5
-unfolding regWritten
+unfolding regWritten mask bits
 returns-5 c = rw (c .before .before .before .match .keys5) (cc)
 
 returns-6 : tie.Need-returns-6
