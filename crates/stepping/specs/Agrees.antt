@@ -1,0 +1,176 @@
+-- The timer of crate tim, which computes its counter and its next event at once, does what RM0440's counter does step by
+-- step. Document 01's order; every premise is written out. Assumes nothing.
+use Prim.Native.Nat.{ℕ, suc, _+_, _-_, _*_, _%_, _≤_, _<_, min}
+use mathlib.Core.Path.{_≡_, refl, _∙_}
+use mathlib.Core.Bool.{Bool, true, false, cond}
+use native.Mathlib.Nat.{min-eq-left, min-eq-right, sub-self, zero-mod, zero-mul, add-zero, div-mul-le-self}
+use native.Mathlib.Omega.{arith}
+use borrow.Author.Tests.{le-leb}
+use Rattle.rm0440.specs.Counter.{tickUp, tickDown, after}
+use Rattle.rm0440.specs.Event.{update, lowest, firstEvent}
+use Rattle.tim.specs.declared.Timer.{Timer}
+use Rattle.tim.specs.declared.Next.the-variants.{Update}
+use Rattle.tim.specs.declared.Due.the-variants.{At, Stopped}
+use Rattle.tim.specs.Timer.{down}
+use Rattle.tim.specs.Count.{ticksAt, cntAt, synced}
+use Rattle.tim.specs.Next.{updateSteps, nextSteps, nextEvent}
+use Rattle.stepping.specs.Reading.{channels, ahead, due, stepped, Best}
+use Rattle.stepping.specs.Counting.{up-after, up-above, up-over, down-after, down-over, down-within}
+use Rattle.stepping.specs.Synced.{cnt-runs, cnt-stopped, synced-runs, synced-stopped, moved, moved-cnt, moved-moved, part-split}
+use Rattle.stepping.specs.Kept.{event-moved, ticks-before}
+use Rattle.stepping.specs.Nearest.{next-searched, next-at-once, best-next, event-runs, event-stopped}
+
+-- ---- the counter at a cycle
+
+module _ (t : Timer) (runs : t .count .running ≡ true) (c : ℕ) where
+  -- upward
+  pub counts-up : down t ≡ false → t .count .cnt0 ≤ t .count .«arr_act»
+      → cntAt t c ≡ after (tickUp (t .count .«arr_act»)) (ticksAt t c) (t .count .cnt0)
+  counts-up d le = rw (cnt-runs t c runs, d) (up-after (t .count .«arr_act») (t .count .cnt0) (ticksAt t c) le)
+
+  -- named case overflown: a counter at the reload + 1 reads as 0 already
+  pub counts-overflown : down t ≡ false → t .count .cnt0 ≡ t .count .«arr_act» + 1
+      → cntAt t c ≡ after (tickUp (t .count .«arr_act»)) (ticksAt t c) 0
+  counts-overflown d e =
+      rw (
+        cnt-runs t c runs,
+        d,
+        up-above (t .count .«arr_act») (t .count .cnt0) (ticksAt t c) (omega arith),
+        e,
+        sub-self (t .count .«arr_act» + 1),
+        zero-mod (t .count .«arr_act» + 1),
+      )
+
+  -- that is one step ahead of RM0440's counter
+  pub overflown-ahead : down t ≡ false → t .count .cnt0 ≡ t .count .«arr_act» + 1
+      → cntAt t c ≡ after (tickUp (t .count .«arr_act»)) (1 + ticksAt t c) (t .count .cnt0)
+  overflown-ahead d e = counts-overflown d e ∙ rw (e, up-over (t .count .«arr_act») (ticksAt t c))
+
+  -- named case clamped: downward a counter above the reload reads as from the reload
+  pub counts-down-clamped : down t ≡ true
+      → cntAt t c ≡ after (tickDown (t .count .«arr_act»)) (ticksAt t c) (min (t .count .cnt0) (t .count .«arr_act»))
+  counts-down-clamped d = rw (cnt-runs t c runs, d) (down-after (t .count .«arr_act») (min (t .count .cnt0) (t .count .«arr_act»)) (ticksAt t c))
+
+  -- that is ahead of RM0440's counter by the steps down to the reload
+  pub clamped-ahead : down t ≡ true
+      → cntAt t c ≡ after (tickDown (t .count .«arr_act»)) (t .count .cnt0 - t .count .«arr_act» + ticksAt t c) (t .count .cnt0)
+  clamped-ahead d = counts-down-clamped d ∙ down-over (t .count .«arr_act») (t .count .cnt0) (ticksAt t c)
+
+  -- downward
+  pub counts-down : down t ≡ true → t .count .cnt0 ≤ t .count .«arr_act»
+      → cntAt t c ≡ after (tickDown (t .count .«arr_act»)) (ticksAt t c) (t .count .cnt0)
+  counts-down d le = counts-down-clamped d ∙ rw (min-eq-left le)
+
+-- stopped
+pub stands : (t : Timer) (c : ℕ) → t .count .running ≡ false → cntAt t c ≡ t .count .cnt0
+stands t c e = cnt-stopped t c e
+
+-- ---- sync
+
+module _ (t : Timer) (pos : 0 < t .count .tick) (now c : ℕ) (le : now ≤ c) where
+  -- a running timer or a stopped one, any counter: later counts are as without the sync
+  pub sync-keeps-count : cntAt (synced t now) c ≡ cntAt t c
+  sync-keeps-count = go (t .count .running) refl
+    where
+      go : (b : Bool) → t .count .running ≡ b → cntAt (synced t now) c ≡ cntAt t c
+      go true e = rw (synced-runs t now e) (moved-cnt t e pos now c le)
+      go false e = rw (synced-stopped t now e)
+
+  -- "keeps the part-step already elapsed, in cycles"
+  pub sync-keeps-part : (c - synced t now .count .base) % t .count .tick ≡ (c - t .count .base) % t .count .tick
+  sync-keeps-part = go (t .count .running) refl
+    where
+      go : (b : Bool) → t .count .running ≡ b → (c - synced t now .count .base) % t .count .tick ≡ (c - t .count .base) % t .count .tick
+      go true e = rw (synced-runs t now e) (part-split (t .count .base) now c (t .count .tick) le)
+      go false e = rw (synced-stopped t now e)
+
+  -- a second sync is as if the first had not been
+  pub sync-twice : synced (synced t now) c ≡ synced t c
+  sync-twice = go (t .count .running) refl
+    where
+      go : (b : Bool) → t .count .running ≡ b → synced (synced t now) c ≡ synced t c
+      go true e = rw (synced-runs t now e, synced-runs (moved t now) c e, synced-runs t c e) (moved-moved t e pos now c le)
+      go false e = rw (synced-stopped t now e)
+
+-- the reference stays at or before the cycle of the sync
+pub sync-base : (t : Timer) (now : ℕ) → t .count .base ≤ now → synced t now .count .base ≤ now
+sync-base t now h = go (t .count .running) refl
+  where
+    go : (b : Bool) → t .count .running ≡ b → synced t now .count .base ≤ now
+    go true e = rw (synced-runs t now e) (omega (arith, div-mul-le-self (now - t .count .base) (t .count .tick)))
+    go false e = rw (synced-stopped t now e) h
+
+-- ---- the next event
+
+module _ (t : Timer) (fits : down t ≡ false → t .count .cnt0 ≤ t .count .«arr_act») (fuel : ℕ) (enough : updateSteps t ≤ fuel) where
+  -- downward from any counter, upward from one within the reload: the event that RM0440's counter meets first, and its steps
+  pub next-steps : nextSteps t ≡ ahead (stepped fuel t)
+  next-steps = next-searched t fuel fits enough
+
+  -- and its cycle
+  pub next-event : t .count .running ≡ true → nextEvent t ≡ due t (stepped fuel t)
+  next-event runs = event-runs t runs ∙ rw next-steps
+
+-- such a fuel: reload + 1 + counter
+pub fuel-enough : (t : Timer) → updateSteps t ≤ t .count .«arr_act» + 1 + t .count .cnt0
+fuel-enough t = go (down t)
+  where
+    go : (d : Bool) → cond d (t .count .cnt0 + 1) (t .count .«arr_act» + 1 - t .count .cnt0) ≤ t .count .«arr_act» + 1 + t .count .cnt0
+    go true = omega arith
+    go false = omega arith
+
+-- named case overflown: upward from a counter above the reload the update comes first, with no step to go
+pub next-overflown : (t : Timer) → down t ≡ false → t .count .«arr_act» < t .count .cnt0
+    → nextSteps t ≡ record { steps = 0; next = Update }
+next-overflown t d over = next-at-once t (rw d (omega arith))
+
+-- due at the reference
+pub event-overflown : (t : Timer) → t .count .running ≡ true → down t ≡ false → t .count .«arr_act» < t .count .cnt0
+    → nextEvent t ≡ At (t .count .base) Update
+event-overflown t runs d over =
+    event-runs t runs ∙ rw (next-overflown t d over, zero-mul (t .count .tick), add-zero (t .count .base))
+
+-- RM0440 has there a pending compare at the counter, else the update after one step
+pub stepped-overflown : (t : Timer) (fuel : ℕ) → down t ≡ false → t .count .«arr_act» < t .count .cnt0
+    → stepped (suc fuel) t ≡ lowest (channels t) 0 (t .count .cnt0) 0 (update 1)
+unfolding firstEvent
+stepped-overflown t fuel d over = rw (d, le-leb (t .count .«arr_act») (t .count .cnt0) (omega arith))
+
+-- stopped
+pub no-event : (t : Timer) → t .count .running ≡ false → nextEvent t ≡ Stopped
+no-event t e = event-stopped t e
+
+-- every timer, overflown too: the first of the update and the four compares, with the order of those that fall together
+pub next-best : (t : Timer) → Best t 4 (nextSteps t)
+next-best t = best-next t
+
+-- ---- sync and the next event
+
+-- "A `sync` past an undelivered update loses its flag and reload." One that is past no event changes nothing, upward or downward,
+-- from a counter within the reload.
+pub sync-keeps-event : (t : Timer) (now : ℕ) → t .count .running ≡ true → t .count .cnt0 ≤ t .count .«arr_act»
+    → ticksAt t now < updateSteps t → ticksAt t now ≤ nextSteps t .steps → nextEvent (synced t now) ≡ nextEvent t
+sync-keeps-event t now runs le early h = rw (synced-runs t now runs) (event-moved t now runs le early h)
+
+-- in cycles: a sync before the next event's cycle
+pub sync-before-event : (t : Timer) (now : ℕ) → t .count .running ≡ true → t .count .cnt0 ≤ t .count .«arr_act» → t .count .base ≤ now
+    → now < t .count .base + nextSteps t .steps * t .count .tick → nextEvent (synced t now) ≡ nextEvent t
+sync-before-event t now runs le from before =
+    let less : ticksAt t now < nextSteps t .steps = ticks-before t now (nextSteps t .steps) from before in
+    sync-keeps-event t now runs le (omega (arith, best-next t .by-update)) (omega arith)
+
+-- named case clamped: downward from a counter above the reload the update is counter + 1 steps away, and a sync makes it reload + 1
+pub sync-clamped : (t : Timer) (now : ℕ) → t .count .running ≡ true → down t ≡ true → t .count .«arr_act» < t .count .cnt0
+    → ticksAt t now ≤ t .count .«arr_act»
+    → (updateSteps t ≡ t .count .cnt0 + 1) × (ticksAt t now + updateSteps (synced t now) ≡ t .count .«arr_act» + 1)
+sync-clamped t now runs d over h =
+    let low : t .count .«arr_act» ≤ t .count .cnt0 = omega arith in (
+      rw d,
+      rw (
+        synced-runs t now runs,
+        cnt-runs t now runs,
+        d,
+        min-eq-right low,
+        down-within (t .count .«arr_act») (t .count .«arr_act») (ticksAt t now) h,
+      ) (omega arith),
+    )

@@ -1,0 +1,127 @@
+-- nextSteps as a list of channels considered, and so as RM0440's search; and what is true of the event it picks. Assumes nothing.
+use Prim.Native.Nat.{ℕ, suc, _+_, _-_, _*_, _≤_, _<_}
+use mathlib.Core.Path.{_≡_, refl, sym, _∙_}
+use mathlib.Core.Bool.{Bool, true, false, cond, not, _&&_}
+use mathlib.Core.Logic.{_⊎_, inl, inr}
+use native.Mathlib.Omega.{arith}
+use native.Mathlib.Nat.{zero-add, eq-or-lt-of-le, le-refl, le-of-suc-le-suc}
+use lib.Dec.{ltb}
+use lib.ListN.{getD}
+use borrow.Author.Tests.{ltb-true, ltb-false}
+use Rattle.rm0440.specs.Event.{firstEvent}
+use Rattle.tim.specs.declared.Timer.{Timer}
+use Rattle.tim.specs.declared.Ahead.{Ahead}
+use Rattle.tim.specs.declared.Next.the-variants.{Update, Compare}
+use Rattle.tim.specs.declared.Due.the-variants.{At, Stopped}
+use Rattle.tim.specs.Timer.{down, isOutput}
+use Rattle.tim.specs.Next as N
+use Rattle.tim.specs.Next.{updateSteps, compares, compareSteps, consider, nextSteps, nextEvent}
+use Rattle.stepping.specs.Reading.{channel, channels, ahead, Best}
+use Rattle.stepping.specs.Considered.{nearer, considerOne, considered, kept, updateIn, first-up, first-down}
+
+and-assoc : (a b c : Bool) → a && (b && c) ≡ a && b && c
+and-assoc true b c = refl
+and-assoc false b c = refl
+
+consider-one : (t : Timer) (ch : ℕ) (best : Ahead)
+    → consider t ch best ≡ considerOne (down t) (t .count .«arr_act») (t .count .cnt0) 0 (channel t ch) ch best
+unfolding consider compares nearer
+consider-one t ch best = rw (and-assoc (not (getD (t .chan .«cc_done») ch false)) (isOutput t ch) (N.ahead t ch), zero-add (compareSteps t ch))
+
+-- the four channels, from the update on
+next-considered : (t : Timer)
+    → nextSteps t ≡ considered (down t) (t .count .«arr_act») (t .count .cnt0) 0 (channels t) 0 (updateIn (updateSteps t))
+unfolding nextSteps considered
+next-considered t = rw (consider-one t 0, consider-one t 1, consider-one t 2, consider-one t 3)
+
+pub next-searched : (t : Timer) (fuel : ℕ) → (down t ≡ false → t .count .cnt0 ≤ t .count .«arr_act») → updateSteps t ≤ fuel
+    → nextSteps t ≡ ahead (firstEvent fuel (down t) (t .count .«arr_act») (channels t) (t .count .cnt0) 0)
+next-searched t fuel fits h = next-considered t ∙ go (down t) fits h
+  where
+    go : (d : Bool) → (d ≡ false → t .count .cnt0 ≤ t .count .«arr_act»)
+        → cond d (t .count .cnt0 + 1) (t .count .«arr_act» + 1 - t .count .cnt0) ≤ fuel
+        → considered d (t .count .«arr_act») (t .count .cnt0) 0 (channels t) 0
+        (updateIn (cond d (t .count .cnt0 + 1) (t .count .«arr_act» + 1 - t .count .cnt0)))
+        ≡ ahead (firstEvent fuel d (t .count .«arr_act») (channels t) (t .count .cnt0) 0)
+    go true fits h = rw (zero-add (t .count .cnt0 + 1)) at (sym (first-down (t .count .«arr_act») (channels t) fuel 0 (t .count .cnt0) h))
+    go false fits h =
+        rw (zero-add (t .count .«arr_act» + 1 - t .count .cnt0)) at
+        (sym (first-up (t .count .«arr_act») (channels t) fuel 0 (t .count .cnt0) (fits refl) h))
+
+-- an update that is there already is kept
+pub next-at-once : (t : Timer) → updateSteps t ≡ 0 → nextSteps t ≡ updateIn 0
+next-at-once t e =
+    next-considered t
+    ∙ kept (down t) (t .count .«arr_act») (t .count .cnt0) 0 (channels t) 0 (updateIn (updateSteps t)) (omega arith) ∙ rw e
+
+pub event-runs : (t : Timer) → t .count .running ≡ true
+    → nextEvent t ≡ At (t .count .base + nextSteps t .steps * t .count .tick) (nextSteps t .next)
+unfolding nextEvent
+event-runs t e = rw e
+
+pub event-stopped : (t : Timer) → t .count .running ≡ false → nextEvent t ≡ Stopped
+unfolding nextEvent
+event-stopped t e = rw e
+
+-- ---- the event picked
+
+not-compare : (j : ℕ) → Update ≡ Compare j → ⊥
+not-compare j e = let z : _≡_ {A = ℕ} 0 1 = cc in omega arith
+
+differ : (b : Bool) → b ≡ false → b ≡ true → ⊥
+differ b e f = let z : _≡_ {A = ℕ} 0 1 = cc in omega arith
+
+same : (i j : ℕ) → Compare i ≡ Compare j → i ≡ j
+same i j e = cc
+
+module _ (t : Timer) where
+  best-none : Best t 0 (updateIn (updateSteps t))
+  best-none = record {
+    by-update = le-refl (updateSteps t);
+    by-compare = λ i h e. absurd (omega arith);
+    strictly = λ j e. absurd (not-compare j e);
+    lowest = λ j e i h c. absurd (not-compare j e);
+    update-is = λ e. refl;
+    compare-is = λ j e. absurd (not-compare j e);
+  }
+
+  best-step : (n : ℕ) (best : Ahead) → Best t n best → Best t (suc n) (consider t n best)
+  unfolding consider
+  best-step n best b = go (compares t n) (ltb (compareSteps t n) (best .steps)) refl refl
+    where
+      up-to : (s : ℕ) → s ≤ best .steps → (compares t n ≡ true → s ≤ compareSteps t n)
+          → (i : ℕ) → i < suc n → compares t i ≡ true → s ≤ compareSteps t i
+      up-to s l own i h e = either (eq-or-lt-of-le (le-of-suc-le-suc h))
+        where
+          either : (i ≡ n) ⊎ (i < n) → s ≤ compareSteps t i
+          either (inl q) = rw q (own (cc))
+          either (inr q) = omega (arith, b .by-compare i q e)
+
+      keep : (compares t n ≡ true → best .steps ≤ compareSteps t n) → Best t (suc n) best
+      keep own = record {
+        by-update = b .by-update;
+        by-compare = up-to (best .steps) (le-refl (best .steps)) own;
+        strictly = b .strictly;
+        lowest = b .lowest;
+        update-is = b .update-is;
+        compare-is = λ j q. let p = b .compare-is j q in record { below = omega (arith, p .below); compares-so = p .compares-so; steps-are = p .steps-are };
+      }
+
+      go : (c l : Bool) → compares t n ≡ c → ltb (compareSteps t n) (best .steps) ≡ l
+          → Best t (suc n) (cond c (cond l (record { steps = compareSteps t n; next = Compare n }) best) best)
+      go false l e f = keep (λ g. absurd (differ (compares t n) e g))
+      go true false e f = keep (λ g. ltb-false (compareSteps t n) (best .steps) f)
+      go true true e f =
+          let nearer : compareSteps t n < best .steps = ltb-true (compareSteps t n) (best .steps) f in
+          record {
+            by-update = omega (arith, b .by-update);
+            by-compare = up-to (compareSteps t n) (omega arith) (λ g. le-refl (compareSteps t n));
+            strictly = λ j q. omega (arith, b .by-update);
+            lowest = λ j q i h g. omega (arith, b .by-compare i (omega (arith, same n j q)) g);
+            update-is = λ q. absurd (not-compare n (sym q));
+            compare-is = λ j q. let p = same n j q in record { below = omega arith; compares-so = rw p at e; steps-are = rw p };
+          }
+
+  pub best-next : Best t 4 (nextSteps t)
+  unfolding nextSteps
+  best-next = best-step 3 _ (best-step 2 _ (best-step 1 _ (best-step 0 _ best-none)))
