@@ -4,6 +4,7 @@ use Prim.Native.Nat.{ℕ, zero, suc, _+_, _-_, _*_, _/_}
 use lib.Dec.{eqb, ltb, leb}
 
 -- "Upcounting mode: the counter counts from 0 to the auto-reload value, then restarts from 0 and generates a counter overflow event."
+-- The manual blocks a reload of 0 (docs/DIFFERENCES.md, reload-zero) and counts on from above the reload (above-reload).
 unfoldable pub tickUp : ℕ → ℕ → ℕ
 tickUp reload cnt = cond (ltb cnt reload) (suc cnt) 0
 
@@ -13,6 +14,7 @@ tickDown reload zero = reload
 tickDown reload (suc cnt) = cnt
 
 -- one step in the direction that DIR gives
+-- whatever CMS (docs/DIFFERENCES.md, centre-aligned) and SMCR hold (slave-mode)
 abbrev pub tick : Bool → ℕ → ℕ → ℕ
 tick down reload cnt = cond down (tickDown reload cnt) (tickUp reload cnt)
 

@@ -16,6 +16,7 @@ pub data Event : Type 0 where
   match : ℕ → ℕ → Event
 
 -- "a match is found between the capture/compare register and the counter": this channel's
+-- a compare above the reload never matches (docs/DIFFERENCES.md, compare-above-reload)
 abbrev pub matches : ℕ → Channel → Bool
 matches cnt c = c .pending && eqb (c .compare) cnt
 

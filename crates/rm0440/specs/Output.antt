@@ -4,7 +4,7 @@ use Prim.Native.Nat.{ℕ, _+_, _*_, _/_, _%_}
 use lib.Dec.{eqb, ltb, leb}
 use Rattle.rm0440.specs.Bits.{field, isSet}
 
--- OCxM, its three low bits
+-- OCxM, its three low bits (docs/DIFFERENCES.md, mode-fourth-bit)
 abbrev pub frozen : ℕ
 frozen = 0
 
@@ -33,7 +33,7 @@ pwmMode2 = 7
 abbrev pub pwm1 : Bool → ℕ → ℕ → Bool
 pwm1 down cnt ccr = cond down (leb cnt ccr) (ltb cnt ccr)
 
--- OCxREF: PWM mode 2 is the opposite of PWM mode 1; the forced modes force it; the others keep what the last match left
+-- OCxREF: PWM mode 2 is the opposite of PWM mode 1; the forced modes force it; the others keep what the last match left (docs/DIFFERENCES.md, mode-change-latch)
 unfoldable pub ocref : ℕ → Bool → ℕ → ℕ → Bool → Bool
 ocref mode down cnt ccr latched =
     cond (eqb mode forceInactive) false
@@ -50,7 +50,7 @@ atMatch mode latched =
 abbrev pub ccmrByte : ℕ → ℕ → ℕ
 ccmrByte ch ccmr = field (8 * (ch % 2)) 8 ccmr
 
--- of that byte: CCxS = 0, "channel is configured as output"; OCxPE; OCxM
+-- of that byte: CCxS = 0, "channel is configured as output", an input does nothing (docs/DIFFERENCES.md, input-capture); OCxPE; OCxM
 abbrev pub isOutput : ℕ → Bool
 isOutput byte = eqb (field 0 2 byte) 0
 

@@ -1,4 +1,5 @@
 pub mod Laws
 pub mod Fit
+pub mod Fixed
 pub mod Cases
 mod Table

@@ -19,14 +19,14 @@ use Rattle.tim.specs.Count.{synced}
 
 -- ---- which compares are done
 
--- "a channel counts as done if its compare is at or below the counter (upward) or above it (downward)"
+-- "a channel counts as done if its compare is at or below the counter (upward) or above it (downward)" (docs/DIFFERENCES.md, done-equality, match-again)
 unfoldable pub behind : Timer → ℕ → Bool
 behind t ch = cond (down t) (ltb (t .count .cnt0) (ccrAct t ch)) (leb (ccrAct t ch) (t .count .cnt0))
 
 abbrev pub doneNow : Timer → ℕ → Bool
 doneNow t ch = cond (ltb ch (t .inst .channels)) (behind t ch) false
 
--- "After an update only compares above reload are done, so compare 0 matches at once."
+-- "After an update only compares above reload are done, so compare 0 matches at once." (docs/DIFFERENCES.md, compare-above-reload)
 abbrev pub doneAfterUpdate : Timer → ℕ → Bool
 doneAfterUpdate t ch = cond (ltb ch (t .inst .channels)) (ltb (t .count .«arr_act») (ccrAct t ch)) false
 
@@ -104,15 +104,15 @@ withRunning t on = withCount t (record {
   running = on;
 })
 
--- one-pulse ends with the period; the Rust leaves CEN set (docs/DIFFERENCES.md, one-pulse)
+-- one-pulse ends with the period; the Rust leaves CEN set (docs/DIFFERENCES.md, one-pulse, one-pulse-udis)
 unfoldable pub ended : Timer → Timer
 ended t = withRunning t (runsOn (OPM (t .regs .cr1)) (t .count .running))
 
--- "An update, or the same wrap under UDIS, which drives alike", at its own cycle
+-- "An update, or the same wrap under UDIS, which drives alike", at its own cycle, when it is delivered (docs/DIFFERENCES.md, late-flags)
 unfoldable pub updated : Timer → ℕ → ℕ → Timer
 updated t at div = ended (recomputedAfterUpdate (restarted (reloaded t) at div))
 
--- EGR's UG: loads even under UDIS, as the Rust does (docs/DIFFERENCES.md, ug-under-udis); UIF unless URS or UDIS
+-- EGR's UG: loads even under UDIS, as the Rust does (docs/DIFFERENCES.md, ug-under-udis), and does not end one-pulse (one-pulse-ug); UIF unless URS or UDIS
 abbrev pub flaggedGenerated : Timer → Timer
 flaggedGenerated t = cond (URS (t .regs .cr1)) t (cond (UDIS (t .regs .cr1)) t (withFlag t UIF))
 
@@ -144,7 +144,7 @@ compared t ch = withDone (matched t ch) (set (t .chan .«cc_done») ch true)
 abbrev pub ocref : Timer → ℕ → ℕ → Bool
 ocref t ch cnt = Out.ocref (ocMode t ch) (down t) cnt (ccrAct t ch) (getD (t .chan .oc) ch false)
 
--- the level that channel ch drives at a count
+-- the level that channel ch drives at a count; whether the timer drives is the board's (docs/DIFFERENCES.md, timer-5)
 unfoldable pub output : Timer → ℕ → ℕ → Bool
 output t ch cnt = Out.level (cond (isOutput t ch) (Out.CCxE ch (t .regs .ccer)) false) (Out.CCxP ch (t .regs .ccer)) (ocref t ch cnt)
 
@@ -160,7 +160,7 @@ ranFrom t now tick = withCount t (record {
   running = true;
 })
 
--- CEN from 0 to 1: a whole step from now on; the counter stays
+-- CEN from 0 to 1: a whole step from now on; the counter stays (docs/DIFFERENCES.md, start-delay)
 unfoldable pub started : Timer → ℕ → ℕ → Timer
 started t now div = recomputed (ranFrom t now (stepCycles (t .count .«psc_act») div))
 
@@ -177,7 +177,7 @@ withTick t tick = withCount t (record {
   running = t .count .running;
 })
 
--- another divider: "`sync` keeps the part-step already elapsed, in cycles"
+-- another divider: "`sync` keeps the part-step already elapsed, in cycles" (docs/DIFFERENCES.md, clock-change-jump)
 unfoldable pub retimed : Timer → ℕ → ℕ → Timer
 retimed t now div = withTick (synced t now) (stepCycles (t .count .«psc_act») div)
 

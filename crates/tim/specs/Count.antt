@@ -19,7 +19,7 @@ downFrom reload cnt n = cond (leb n cnt) (cnt - n) (reload - (n - cnt - 1) % (re
 abbrev pub ticksAt : Timer → ℕ → ℕ
 ticksAt t c = stepsBetween (t .count .base) c (t .count .tick)
 
--- the counter at a cycle; "including its clamp: counting down from a counter above reload reads as from reload"
+-- the counter at a cycle; "including its clamp: counting down from a counter above reload reads as from reload" (docs/DIFFERENCES.md, clamp-down)
 unfoldable pub cntAt : Timer → ℕ → ℕ
 cntAt t c =
     cond (t .count .running)
@@ -38,7 +38,7 @@ atCount k cnt base = record {
   running = k .running;
 }
 
--- the reference moved to the last step at or before now: "keeps the part-step already elapsed, in cycles"
+-- the reference moved to the last step at or before now: "keeps the part-step already elapsed, in cycles"; events due and not delivered are passed over (docs/DIFFERENCES.md, lost-update, lost-compare)
 unfoldable pub synced : Timer → ℕ → Timer
 synced t now =
     cond (t .count .running)

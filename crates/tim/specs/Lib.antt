@@ -3,3 +3,4 @@ pub mod Count
 pub mod Next
 pub mod Change
 pub mod Regs
+pub mod Laws

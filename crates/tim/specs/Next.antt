@@ -11,7 +11,7 @@ use Rattle.tim.specs.declared.Due.{Due}
 use Rattle.tim.specs.declared.Due.the-variants.{At, Stopped}
 use Rattle.tim.specs.Timer.{down, isOutput, ccrAct}
 
--- steps to the update: past 0 downward, past the reload upward; a counter above the reload is there already
+-- steps to the update: past 0 downward, past the reload upward; a counter above the reload is there already (docs/DIFFERENCES.md, above-reload, clamp-down)
 abbrev pub updateSteps : Timer → ℕ
 updateSteps t = cond (down t) (t .count .cnt0 + 1) (t .count .«arr_act» + 1 - t .count .cnt0)
 

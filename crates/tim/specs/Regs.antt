@@ -72,7 +72,7 @@ withCcrAct t ch v = withChan t (record { ccmr = t .chan .ccmr; ccr = t .chan .cc
 abbrev pub only : Timer → Written
 only t = record { timer = t; drive = false; cnt = 0; line = false; book = false }
 
--- the interrupt line is settled
+-- the interrupt line is settled (docs/DIFFERENCES.md, shared-interrupt)
 abbrev pub lined : Timer → Written
 lined t = record { timer = t; drive = false; cnt = 0; line = true; book = false }
 
@@ -90,11 +90,11 @@ counted t = driven t (t .count .cnt0) true
 abbrev pub generated : Timer → ℕ → Written
 generated t now = record { timer = t; drive = true; cnt = cntAt t now; line = true; book = true }
 
--- the direction changed: which compares are done is settled again
+-- the direction changed: which compares are done is settled again; nothing is driven (docs/DIFFERENCES.md, direction-late)
 unfoldable pub turned : ℕ → Timer → Timer
 turned old t = cond (eqb (field 4 1 old) (field 4 1 (t .regs .cr1))) t (recomputed t)
 
--- CR1: where CEN rises the timer starts, where it falls it stops
+-- CR1: where CEN rises the timer starts, where it falls it stops; ARPE cleared loads nothing (docs/DIFFERENCES.md, preload-cleared)
 unfoldable pub cr1Written : Timer → ℕ → ℕ → ℕ → Timer
 cr1Written t v now div =
     let s = withCr1 (synced t now) (keptCr1 t v) in
@@ -102,7 +102,7 @@ cr1Written t v now div =
     (cond (CEN (t .regs .cr1)) (turned (t .regs .cr1) s) (started s now div))
     (cond (CEN (t .regs .cr1)) (stopped s now) (turned (t .regs .cr1) s))
 
--- EGR: UG, then CC1G to CC4G for output channels, each a match
+-- EGR: UG, then CC1G to CC4G for output channels, each a match (docs/DIFFERENCES.md, ccg-latches); TG does nothing (trigger-generation)
 abbrev pub egrMatch : ℕ → ℕ → Timer → Timer
 egrMatch v ch t = cond (isSet (ch + 1) v) (cond (isOutput t ch) (matched t ch) t) t
 
@@ -112,7 +112,7 @@ egrUpdate t v now div = cond (isSet 0 v) (C.generated (synced t now) now div) (s
 unfoldable pub egrWritten : Timer → ℕ → ℕ → ℕ → Timer
 egrWritten t v now div = egrMatch v 3 (egrMatch v 2 (egrMatch v 1 (egrMatch v 0 (egrUpdate t v now div))))
 
--- CNT: counting goes on from the value, with a whole step from now
+-- CNT: counting goes on from the value, with a whole step from now (docs/DIFFERENCES.md, cnt-write-phase)
 unfoldable pub cntWritten : Timer → ℕ → ℕ → Timer
 cntWritten t v now = let s = synced t now in recomputed (withCount s (atCount (s .count) (keptWidth t v) now))
 
@@ -154,7 +154,7 @@ channelWritten t off v now =
     (cond (eqb off 0x20) (ccerWritten t v now)
     (cond (isCcr off) (ccrWritten t (ccrChannel off) v now) (only t)))))
 
--- "The register is chosen by the offset with its low two bits cleared."
+-- "The register is chosen by the offset with its low two bits cleared." A narrower write comes merged (docs/DIFFERENCES.md, byte-access).
 unfoldable pub regWritten : Timer → ℕ → ℕ → ℕ → ℕ → Written
 regWritten t off v now div =
     cond (eqb off 0x00) (booked (cr1Written t v now div))
@@ -167,7 +167,7 @@ regWritten t off v now div =
     (cond (eqb off 0x28) (only (withPsc t (bitAnd v (keptMask 10))))
     (cond (eqb off 0x2c) (arrWritten t v now) (channelWritten t off v now)))))))))
 
--- a register's value at a cycle; "Others, and EGR, read 0."
+-- a register's value at a cycle, clock enabled or not since (docs/DIFFERENCES.md, gated-counts); "Others, and EGR, read 0."
 unfoldable pub channelRead : Timer → ℕ → ℕ
 channelRead t off =
     cond (eqb (t .inst .channels) 0) 0
