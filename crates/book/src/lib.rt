@@ -1,0 +1,77 @@
+// The book that a call is lent: three slices, filled from place 0. Every entry is written here.
+use gpio::Change;
+ghost use mathlib.Core.Path.{_≡_};
+ghost use Prim.Native.Nat.{_+_, _≤_, _<_};
+ghost use lib.ListN.{length};
+ghost use Rattle.book.specs.Book.{book, puts, entryOf, entriesOf, places};
+
+// The level changes of a timer's four channels.
+pub struct Changes {
+    pub a: Change,
+    pub b: Change,
+    pub c: Change,
+    pub d: Change,
+}
+
+fn lesser(a: usize, b: usize) -> usize
+    ensures { λ r. ⌜ r ≡ Prim.Native.Nat.min a b ⌝ }
+{
+    if a <= b { a } else { b }
+}
+
+// The book's length: the shortest of the three.
+pub fn room(pins: &[u8], levels: &[u8], cycles: &[u64]) -> usize
+    ensures { λ r. ⌜ r ≡ places (now (pins .entry)) (now (levels .entry)) (now (cycles .entry)) ⌝ }
+{
+    let a = pins.len();
+    let b = levels.len();
+    let c = cycles.len();
+    lesser(a, lesser(b, c))
+}
+
+// Writes a level change as the entry at place n; the next place.
+pub fn append(
+    pins: &mut [u8],
+    levels: &mut [u8],
+    cycles: &mut [u64],
+    n: usize,
+    change: Change,
+    cycle: u64,
+) -> usize
+    requires { ⌜ (n < length (now pins)) × (n < length (now levels)) × (n < length (now cycles)) ⌝ }
+    ensures { λ r. ⌜ book (now (pins .exit)) (now (levels .exit)) (now (cycles .exit)) r ≡ puts (book (now (pins .entry)) (now (levels .entry)) (now (cycles .entry)) n) (entryOf cycle change) ⌝ }
+    ensures { λ r. ⌜ r ≤ n + 1 ⌝ }
+{
+    match change {
+        Change::Same => n,
+        Change::Level(p, l) => {
+            pins[n] = p;
+            levels[n] = l;
+            cycles[n] = cycle;
+            n + 1
+        }
+    }
+}
+
+// Writes the changes of four channels, in order; the next place.
+pub fn append_all(
+    pins: &mut [u8],
+    levels: &mut [u8],
+    cycles: &mut [u64],
+    n: usize,
+    changes: Changes,
+    cycle: u64,
+) -> usize
+    requires { ⌜ (n + 4 ≤ length (now pins)) × (n + 4 ≤ length (now levels)) × (n + 4 ≤ length (now cycles)) ⌝ }
+    ensures { λ r. ⌜ book (now (pins .exit)) (now (levels .exit)) (now (cycles .exit)) r ≡ puts (book (now (pins .entry)) (now (levels .entry)) (now (cycles .entry)) n) (entriesOf cycle changes) ⌝ }
+    ensures { λ r. ⌜ r ≤ n + 4 ⌝ }
+{
+    let a = changes.a;
+    let b = changes.b;
+    let c = changes.c;
+    let d = changes.d;
+    let i = append(pins, levels, cycles, n, a, cycle);
+    let j = append(pins, levels, cycles, i, b, cycle);
+    let k = append(pins, levels, cycles, j, c, cycle);
+    append(pins, levels, cycles, k, d, cycle)
+}

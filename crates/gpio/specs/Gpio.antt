@@ -1,0 +1,108 @@
+-- A pin by value: what its configuration and its signal make it drive, and whether its level changed (sys.rs, refresh_pin and update_pin).
+use mathlib.Core.Bool.{Bool, true, false, cond, not, _&&_}
+use Prim.Native.Nat.{ℕ}
+use lib.Dec.{eqb}
+use lib.Ieee as Ieee
+use Rattle.pins.specs.declared.Pin.{Pin}
+use Rattle.pins.specs.declared.Mcu.{Mcu}
+use Rattle.pins.specs.declared.ExtDrive.{ExtDrive}
+use Rattle.pins.specs.Pins.{resolved}
+use Rattle.words.specs.declared.Gpio.{Gpio}
+use Rattle.words.specs.declared.PinCfg.{PinCfg}
+use Rattle.sig.specs.Signal.{isInput}
+use Rattle.gpio.specs.declared.Change.{Change}
+use Rattle.gpio.specs.declared.Change.the-variants.{Same, Level}
+use Rattle.gpio.specs.declared.Moved.{Moved}
+
+-- the modes: "A mode above 3 acts as input"
+abbrev pub outputMode : ℕ
+outputMode = 1
+
+abbrev pub alternateMode : ℕ
+alternateMode = 2
+
+-- the signal that a pin is connected to: in alternate mode the selected one, else none (0)
+abbrev pub signalOf : Gpio → ℕ
+signalOf g = cond (eqb (g .cfg .mode) alternateMode) (g .sig) 0
+
+-- a signal that drives its pin: one that is no receive signal
+abbrev pub drives : ℕ → Bool
+drives s = not (eqb s 0) && not (isInput s)
+
+abbrev pub bit : Bool → ℕ
+bit b = cond b 1 0
+
+-- "Open-drain outputs only pull low; a 1 releases the pin": the direction is overridden by 0
+abbrev pub released : PinCfg → ℕ → ℕ
+released c level = cond (c .«open_drain») (bit (eqb level 1)) 0
+
+-- what the chip drives: the output bit; a signal's level; nothing
+abbrev pub outputSide : Mcu → PinCfg → Mcu
+outputSide m c = record {
+  dir = 1;
+  out = c .odr;
+  pullup = bit (c .pullup);
+  pulldown = bit (c .pulldown);
+  «ov_enable» = 0;
+  «ov_value» = m .«ov_value»;
+  ddoe = released c (c .odr);
+  ddov = 0;
+}
+
+abbrev pub signalSide : Mcu → PinCfg → ℕ → Mcu
+signalSide m c level = record {
+  dir = 1;
+  out = m .out;
+  pullup = bit (c .pullup);
+  pulldown = bit (c .pulldown);
+  «ov_enable» = 1;
+  «ov_value» = level;
+  ddoe = released c level;
+  ddov = 0;
+}
+
+abbrev pub inputSide : Mcu → PinCfg → Mcu
+inputSide m c = record {
+  dir = 0;
+  out = m .out;
+  pullup = bit (c .pullup);
+  pulldown = bit (c .pulldown);
+  «ov_enable» = 0;
+  «ov_value» = m .«ov_value»;
+  ddoe = 0;
+  ddov = 0;
+}
+
+-- by mode, with the level of the pin's signal
+unfoldable pub sideOf : Gpio → ℕ → Mcu
+sideOf g level =
+    cond (eqb (g .cfg .mode) outputMode) (outputSide (g .pin .mcu) (g .cfg))
+    (cond (drives (signalOf g)) (signalSide (g .pin .mcu) (g .cfg) level) (inputSide (g .pin .mcu) (g .cfg)))
+
+abbrev pub withPin : Gpio → Pin → Gpio
+withPin g p = record { cfg = g .cfg; pin = p; sig = g .sig }
+
+abbrev pub withMcu : Gpio → Mcu → Gpio
+withMcu g m = withPin g (record { mcu = m; ext = g .pin .ext; level = g .pin .level; volts = g .pin .volts })
+
+-- "An entry is made exactly when a pin's level changes": the change of pin i from an old level
+abbrev pub changed : ℕ → ℕ → ℕ → Change
+changed i old new = cond (eqb new old) Same (Level i new)
+
+-- a pin resolved at the supply, and its change
+unfoldable pub updated : ℕ → Gpio → Ieee.Float → Moved
+updated i g vcc =
+    let p = resolved (g .pin) vcc in
+    record { gpio = withPin g p; change = changed i (g .pin .level) (p .level) }
+
+-- the chip's side made anew, then resolved
+unfoldable pub refreshed : ℕ → Gpio → ℕ → Ieee.Float → Moved
+refreshed i g level vcc = updated i (withMcu g (sideOf g level)) vcc
+
+-- another configuration and signal
+abbrev pub configured : Gpio → PinCfg → ℕ → Gpio
+configured g c s = record { cfg = c; pin = g .pin; sig = s }
+
+-- another outside drive
+abbrev pub connected : Gpio → ExtDrive → Gpio
+connected g e = withPin g (record { mcu = g .pin .mcu; ext = e; level = g .pin .level; volts = g .pin .volts })

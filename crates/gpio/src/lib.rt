@@ -1,0 +1,189 @@
+// A pin by value (sys.rs): what its configuration and its signal make it drive, and whether its level changed.
+use pins::ExtDrive;
+use pins::Mcu;
+use pins::Pin;
+use words::Gpio;
+use words::PinCfg;
+ghost use mathlib.Core.Path.{_≡_};
+ghost use Prim.Native.Nat.{_<_};
+ghost use Rattle.gpio.specs.Gpio as G;
+
+// A pin's level change, or none.
+pub enum Change {
+    Same,
+    // Pin and level.
+    Level(u8, u8),
+}
+
+// A pin after its level was resolved, and the change.
+pub struct Moved {
+    pub gpio: Gpio,
+    pub change: Change,
+}
+
+fn bit(b: bool) -> u8
+    ensures { λ r. ⌜ r ≡ G.bit b ⌝ }
+{
+    if b { 1 } else { 0 }
+}
+
+// An open-drain 1 releases the pin.
+fn released(c: PinCfg, level: u8) -> u8
+    ensures { λ r. ⌜ r ≡ G.released c level ⌝ }
+{
+    if c.open_drain {
+        return bit(level == 1);
+    }
+    0
+}
+
+fn output_side(m: Mcu, c: PinCfg) -> Mcu
+    ensures { λ r. ⌜ r ≡ G.outputSide m c ⌝ }
+{
+    Mcu {
+        dir: 1,
+        out: c.odr,
+        pullup: bit(c.pullup),
+        pulldown: bit(c.pulldown),
+        ov_enable: 0,
+        ov_value: m.ov_value,
+        ddoe: released(c, c.odr),
+        ddov: 0,
+    }
+}
+
+fn signal_side(m: Mcu, c: PinCfg, level: u8) -> Mcu
+    ensures { λ r. ⌜ r ≡ G.signalSide m c level ⌝ }
+{
+    Mcu {
+        dir: 1,
+        out: m.out,
+        pullup: bit(c.pullup),
+        pulldown: bit(c.pulldown),
+        ov_enable: 1,
+        ov_value: level,
+        ddoe: released(c, level),
+        ddov: 0,
+    }
+}
+
+fn input_side(m: Mcu, c: PinCfg) -> Mcu
+    ensures { λ r. ⌜ r ≡ G.inputSide m c ⌝ }
+{
+    Mcu {
+        dir: 0,
+        out: m.out,
+        pullup: bit(c.pullup),
+        pulldown: bit(c.pulldown),
+        ov_enable: 0,
+        ov_value: m.ov_value,
+        ddoe: 0,
+        ddov: 0,
+    }
+}
+
+// The signal that a pin is connected to, 0 for none.
+pub fn signal_of(g: Gpio) -> u32
+    ensures { λ r. ⌜ r ≡ G.signalOf g ⌝ }
+{
+    if g.cfg.mode == 2 {
+        return g.sig;
+    }
+    0
+}
+
+// A signal that drives its pin.
+fn drives(s: u32) -> bool
+    requires { ⌜ s < 65536 ⌝ }
+    ensures { λ r. ⌜ r ≡ G.drives s ⌝ }
+{
+    if s == 0 {
+        return false;
+    }
+    !sig::is_input(s as u16)
+}
+
+fn side_of(g: Gpio, level: u8) -> Mcu
+    requires { ⌜ g .sig < 65536 ⌝ }
+    ensures { λ r. ⌜ r ≡ G.sideOf g level ⌝ }
+{
+    if g.cfg.mode == 1 {
+        return output_side(g.pin.mcu, g.cfg);
+    }
+    if drives(signal_of(g)) {
+        return signal_side(g.pin.mcu, g.cfg, level);
+    }
+    input_side(g.pin.mcu, g.cfg)
+}
+
+fn with_pin(mut g: Gpio, p: Pin) -> Gpio
+    ensures { λ r. ⌜ r ≡ G.withPin g p ⌝ }
+{
+    g.pin = p;
+    g
+}
+
+fn with_mcu(mut g: Gpio, m: Mcu) -> Gpio
+    ensures { λ r. ⌜ r ≡ G.withMcu g m ⌝ }
+{
+    let mut p = g.pin;
+    p.mcu = m;
+    g.pin = p;
+    g
+}
+
+fn changed(i: u8, old: u8, new: u8) -> Change
+    ensures { λ r. ⌜ r ≡ G.changed i old new ⌝ }
+{
+    if new == old {
+        return Change::Same;
+    }
+    Change::Level(i, new)
+}
+
+// Re-resolves the level of pin i after any change of its inputs.
+pub fn update(i: u8, g: Gpio, vcc: f64) -> Moved
+    ensures { λ r. ⌜ r ≡ G.updated i g vcc ⌝ }
+{
+    let p = g.pin.resolve(vcc);
+    let change = changed(i, g.pin.level, p.level);
+    Moved {
+        gpio: with_pin(g, p),
+        change,
+    }
+}
+
+// Recomputes the chip's side of pin i from its configuration and its signal's level, then re-resolves it.
+pub fn refresh(i: u8, g: Gpio, level: u8, vcc: f64) -> Moved
+    requires { ⌜ g .sig < 65536 ⌝ }
+    ensures { λ r. ⌜ r ≡ G.refreshed i g level vcc ⌝ }
+{
+    let m = side_of(g, level);
+    update(i, with_mcu(g, m), vcc)
+}
+
+// Another configuration and selected signal.
+pub fn configure(mut g: Gpio, c: PinCfg, s: u32) -> Gpio
+    ensures { λ r. ⌜ r ≡ G.configured g c s ⌝ }
+{
+    g.cfg = c;
+    g.sig = s;
+    g
+}
+
+// Another outside drive.
+pub fn connect(g: Gpio, e: ExtDrive) -> Gpio
+    ensures { λ r. ⌜ r ≡ G.connected g e ⌝ }
+{
+    let p = g.pin;
+    let m = p.mcu;
+    with_pin(
+        g,
+        Pin {
+            mcu: m,
+            ext: e,
+            level: p.level,
+            volts: p.volts,
+        },
+    )
+}

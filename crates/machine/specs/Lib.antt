@@ -1,0 +1,13 @@
+pub mod Board
+pub mod Sys
+pub mod Deliver
+pub mod Call
+pub mod Step
+pub mod Refusals
+pub mod Numbers
+pub mod NumberLaws
+pub mod DeliverLaws
+pub mod PinLaws
+pub mod Sound
+pub mod Routing
+pub mod Reach

@@ -1,0 +1,1027 @@
+-- The boards that calls lead to are sound, and what a call leaves alone of a pilot: a timer, its channel's signal and the pin that routes it.
+-- Assumes nothing.
+use mathlib.Core.Path.{_≡_, refl, sym, ap, _∙_}
+use mathlib.Core.Bool.{Bool, true, false, cond, not, _&&_, _||_, and-eq-true-iff}
+use mathlib.Core.List.{List, [], _∷_, _++_, map}
+use Prim.Native.Nat.{ℕ, zero, suc, _+_, _-_, _≤_, _<_}
+use native.Mathlib.Nat.{not-suc-le-zero, le-of-suc-le-suc}
+use native.Mathlib.Omega.{arith}
+use lib.Dec.{eqb, ltb, leb}
+use lib.Ieee.{Float}
+use lib.ListN.{getD, set, length, length-set, length-append, length-map, length-replicate, List·getD-map}
+use lib.Seq.{getD-set-same, getD-set-other, map-set-same}
+use borrow.Author.Tests.{eqb-true, eqb-false, leb-true, leb-false, not-true, not-false, ne-eqb}
+use Rattle.rm0440.specs.Bits.{field, isSet, UDIS, URS, CEN, ARPE}
+use Rattle.rm0440.specs.Output as Out
+use Rattle.tim.specs.declared.Timer.{Timer}
+use Rattle.tim.specs.declared.Inst.{Inst}
+use Rattle.tim.specs.declared.Written.{Written}
+use Rattle.tim.specs.declared.Due.{Due}
+use Rattle.tim.specs.declared.Due.the-variants.{At, Stopped}
+use Rattle.tim.specs.declared.Next.{Next}
+use Rattle.tim.specs.declared.Next.the-variants.{Update, Compare}
+use Rattle.tim.specs.Timer.{isOutput, ccmrByte}
+use Rattle.tim.specs.Count.{synced}
+use Rattle.tim.specs.Next.{nextEvent}
+use Rattle.tim.specs.Change as C
+use Rattle.tim.specs.Regs as R
+use Rattle.clk.specs.declared.ClockTree.{ClockTree}
+use Rattle.clk.specs.Clk.{good, differing}
+use Rattle.real.specs.Real.{positive}
+use Rattle.pins.specs.declared.ExtDrive.{ExtDrive}
+use Rattle.nvic.specs.Nvic.{Nvic}
+use Rattle.words.specs.declared.PinCfg.{PinCfg}
+use Rattle.sig.specs.Signal.{timSignal}
+use Rattle.sig.proofs.Laws.{tim-injective, tim-no-input}
+use Rattle.gpio.specs.declared.Change.{Change}
+use Rattle.gpio.specs.declared.Change.the-variants.{Same, Level}
+use Rattle.gpio.specs.Gpio.{drives}
+use Rattle.book.specs.Book.{Entry, entryOf, entriesOf}
+use Rattle.machine.specs.Board.{Board, Pads, Clocks, noInst, noTimer, noPin, blankGpio, timerAt, gpioAt, routeOf, withTimer, withPads, withNvic, withBooking, withClocks, withLast, filled, freshBoard, firstBoard, one}
+use Rattle.machine.specs.Sys as Sys
+use Rattle.machine.specs.Deliver.{Run, Turn, dividerOf, lineSettled, rebooked, applied, countAt, turn, turnOf, stop, dueBy, mostEvents, delivered, settled}
+use Rattle.machine.specs.Deliver as D
+use Rattle.machine.specs.Call.{Setup, Call, setUp, clockTree, enable, setPin, drivePin, resetPins, read, write, peek, resetTimer, deliver, queryBooked, queryNext, queryLevel, queryVolts, queryLine, queryTime, clearPending, Outcome}
+use Rattle.machine.specs.Step.{absent, oddSize, astray, bookFull, fresh, instGood, instsGood, withinLimits, clockOn, register, written, counterAstray, followed, timerReset, deliveredTo, timerRetimed, allRetimed, treeSet, cfgOf, step, boardAfter}
+use Rattle.machine.specs.Sound.{SoundPads, Sound, Held, Elsewhere}
+use Rattle.machine.specs.Routing.{either, by-test, unwired, unwired-pins, all-alike, idle-length, sound-outputs, sound-set, sound-drive, SparesAll, held-refl, held-trans, held-set, held-drive, held-outputs}
+
+-- ---- a timer keeps its place in the chip
+
+inst-synced : (t : Timer) (now : ℕ) → synced t now .inst ≡ t .inst
+unfolding synced
+inst-synced t now = either (λ (u : Timer). u .inst ≡ t .inst) (t .count .running) refl refl
+
+inst-reloaded : (t : Timer) → C.reloaded t .inst ≡ t .inst
+unfolding C.reloaded
+inst-reloaded t = either (λ (u : Timer). u .inst ≡ t .inst) (UDIS (t .regs .cr1)) refl refl
+
+inst-updated : (t : Timer) (at div : ℕ) → C.updated t at div .inst ≡ t .inst
+unfolding C.updated C.ended C.recomputedAfterUpdate C.restarted
+inst-updated t at div = inst-reloaded t
+
+inst-compared : (t : Timer) (ch : ℕ) → C.compared t ch .inst ≡ t .inst
+unfolding C.compared C.matched
+inst-compared t ch = refl
+
+inst-generated : (t : Timer) (now div : ℕ) → C.generated t now div .inst ≡ t .inst
+unfolding C.generated C.recomputedAfterUpdate C.restarted
+inst-generated t now div =
+    either (λ (u : Timer). u .inst ≡ t .inst) (URS (t .regs .cr1)) refl (either (λ (u : Timer). u .inst ≡ t .inst) (UDIS (t .regs .cr1)) refl refl)
+
+inst-retimed : (t : Timer) (now div : ℕ) → C.retimed t now div .inst ≡ t .inst
+unfolding C.retimed
+inst-retimed t now div = inst-synced t now
+
+inst-reset : (i : Inst) (div : ℕ) → C.resetState i div .inst ≡ i
+unfolding C.resetState
+inst-reset i div = refl
+
+inst-turned : (old : ℕ) (t : Timer) → R.turned old t .inst ≡ t .inst
+unfolding R.turned C.recomputed
+inst-turned old t = either (λ (u : Timer). u .inst ≡ t .inst) (eqb (field 4 1 old) (field 4 1 (t .regs .cr1))) refl refl
+
+inst-started : (t : Timer) (now div : ℕ) → C.started t now div .inst ≡ t .inst
+unfolding C.started C.recomputed
+inst-started t now div = refl
+
+inst-stopped : (t : Timer) (now : ℕ) → C.stopped t now .inst ≡ t .inst
+unfolding C.stopped
+inst-stopped t now = inst-synced t now
+
+inst-matched : (t : Timer) (ch : ℕ) → C.matched t ch .inst ≡ t .inst
+unfolding C.matched
+inst-matched t ch = refl
+
+inst-cr1 : (t : Timer) (v now div : ℕ) → R.cr1Written t v now div .inst ≡ t .inst
+unfolding R.cr1Written
+inst-cr1 t v now div =
+    let s = R.withCr1 (synced t now) (R.keptCr1 t v) in
+    let e : s .inst ≡ t .inst = inst-synced t now in
+    let turned : R.turned (t .regs .cr1) s .inst ≡ t .inst = inst-turned (t .regs .cr1) s ∙ e in
+    either (λ (u : Timer). u .inst ≡ t .inst) (CEN (s .regs .cr1))
+    (either (λ (u : Timer). u .inst ≡ t .inst) (CEN (t .regs .cr1)) turned (inst-started s now div ∙ e))
+    (either (λ (u : Timer). u .inst ≡ t .inst) (CEN (t .regs .cr1)) (inst-stopped s now ∙ e) turned)
+
+inst-egr-match : (v ch : ℕ) (t : Timer) → R.egrMatch v ch t .inst ≡ t .inst
+inst-egr-match v ch t =
+    either (λ (u : Timer). u .inst ≡ t .inst) (isSet (ch + 1) v) (either (λ (u : Timer). u .inst ≡ t .inst) (isOutput t ch) (inst-matched t ch) refl) refl
+
+inst-egr-update : (t : Timer) (v now div : ℕ) → R.egrUpdate t v now div .inst ≡ t .inst
+unfolding R.egrUpdate
+inst-egr-update t v now div =
+    either (λ (u : Timer). u .inst ≡ t .inst) (isSet 0 v) (inst-generated (synced t now) now div ∙ inst-synced t now) (inst-synced t now)
+
+inst-egr : (t : Timer) (v now div : ℕ) → R.egrWritten t v now div .inst ≡ t .inst
+unfolding R.egrWritten
+inst-egr t v now div =
+    let a = R.egrUpdate t v now div in
+    let b = R.egrMatch v 0 a in
+    let c = R.egrMatch v 1 b in
+    let d = R.egrMatch v 2 c in
+    inst-egr-match v 3 d ∙ (inst-egr-match v 2 c ∙ (inst-egr-match v 1 b ∙ (inst-egr-match v 0 a ∙ inst-egr-update t v now div)))
+
+inst-cnt : (t : Timer) (v now : ℕ) → R.cntWritten t v now .inst ≡ t .inst
+unfolding R.cntWritten C.recomputed
+inst-cnt t v now = inst-synced t now
+
+-- of a register written
+abbrev Keeps : Timer → Written → Type 0
+Keeps t w = w .timer .inst ≡ t .inst
+
+inst-arr : (t : Timer) (v now : ℕ) → Keeps t (R.arrWritten t v now)
+unfolding R.arrWritten C.recomputed
+inst-arr t v now = either (Keeps t) (ARPE (t .regs .cr1)) (inst-synced t now) (inst-synced t now)
+
+inst-ccr : (t : Timer) (ch v now : ℕ) → Keeps t (R.ccrWritten t ch v now)
+unfolding R.ccrWritten
+inst-ccr t ch v now = either (Keeps t) (Out.OCxPE (ccmrByte t ch)) (inst-synced t now) (inst-synced t now)
+
+inst-ccmr : (t : Timer) (i v now : ℕ) → Keeps t (R.ccmrWritten t i v now)
+unfolding R.ccmrWritten
+inst-ccmr t i v now = inst-synced t now
+
+inst-ccer : (t : Timer) (v now : ℕ) → Keeps t (R.ccerWritten t v now)
+unfolding R.ccerWritten
+inst-ccer t v now = refl
+
+inst-channel : (t : Timer) (off v now : ℕ) → Keeps t (R.channelWritten t off v now)
+unfolding R.channelWritten
+inst-channel t off v now =
+    either (Keeps t) (eqb (t .inst .channels) 0) refl
+    (either (Keeps t) (eqb off 0x18) (inst-ccmr t 0 v now)
+    (either (Keeps t) (eqb off 0x1c) (inst-ccmr t 1 v now)
+    (either (Keeps t) (eqb off 0x20) (inst-ccer t v now)
+    (either (Keeps t) (R.isCcr off) (inst-ccr t (R.ccrChannel off) v now) refl))))
+
+inst-register : (t : Timer) (off v now div : ℕ) → Keeps t (R.regWritten t off v now div)
+unfolding R.regWritten
+inst-register t off v now div =
+    either (Keeps t) (eqb off 0x00) (inst-cr1 t v now div)
+    (either (Keeps t) (eqb off 0x04) refl
+    (either (Keeps t) (eqb off 0x08) refl
+    (either (Keeps t) (eqb off 0x0c) refl
+    (either (Keeps t) (eqb off 0x10) refl
+    (either (Keeps t) (eqb off 0x14) (inst-egr t v now div)
+    (either (Keeps t) (eqb off 0x24) (inst-cnt t v now)
+    (either (Keeps t) (eqb off 0x28) refl
+    (either (Keeps t) (eqb off 0x2c) (inst-arr t v now) (inst-channel t off v now)))))))))
+
+pub inst-written : (b : Board) (t : Timer) (offset size value cycle : ℕ) → written b t offset size value cycle .timer .inst ≡ t .inst
+unfolding written
+inst-written b t offset size value cycle = inst-register t (register offset) _ cycle (dividerOf b t)
+
+pub inst-applied : (t : Timer) (e : Next) (at div : ℕ) → applied t e at div .inst ≡ t .inst
+inst-applied t Update at div = inst-updated t at div
+inst-applied t (Compare ch) at div = inst-compared t ch
+
+-- ---- a board with one thing another
+
+sound-pads : (b : Board) (p : Pads) → Sound b → SoundPads p → Sound (withPads b p)
+sound-pads b p h k = record { timers = h .timers; few-timers = h .few-timers; few-pins = h .few-pins; distinct = h .distinct; pads = k }
+
+sound-nvic : (b : Board) (n : Nvic) → Sound b → Sound (withNvic b n)
+sound-nvic b n h = record { timers = h .timers; few-timers = h .few-timers; few-pins = h .few-pins; distinct = h .distinct; pads = h .pads }
+
+sound-booking : (b : Board) (m : List ℕ) → Sound b → Sound (withBooking b m)
+sound-booking b m h = record { timers = h .timers; few-timers = h .few-timers; few-pins = h .few-pins; distinct = h .distinct; pads = h .pads }
+
+sound-clocks : (b : Board) (c : Clocks) → Sound b → Sound (withClocks b c)
+sound-clocks b c h = record { timers = h .timers; few-timers = h .few-timers; few-pins = h .few-pins; distinct = h .distinct; pads = h .pads }
+
+sound-last : (b : Board) (cycle : ℕ) → Sound b → Sound (withLast b cycle)
+sound-last b cycle h = record { timers = h .timers; few-timers = h .few-timers; few-pins = h .few-pins; distinct = h .distinct; pads = h .pads }
+
+same-insts : (b : Board) (i : ℕ) (t : Timer) → t .inst ≡ timerAt b i .inst → (j : ℕ) → timerAt (withTimer b i t) j .inst ≡ timerAt b j .inst
+same-insts b i t e j =
+    sym (List·getD-map (λ (u : Timer). u .inst) (set (b .timers) i t) j noTimer)
+    ∙ (ap (λ (l : List Inst). getD l j noInst) (map-set-same (λ (u : Timer). u .inst) (b .timers) i t noTimer e)
+    ∙ List·getD-map (λ (u : Timer). u .inst) (b .timers) j noTimer)
+
+sound-timer : (b : Board) (i : ℕ) (t : Timer) → t .inst ≡ timerAt b i .inst → Sound b → Sound (withTimer b i t)
+sound-timer b i t e h = record {
+  timers = length-set (b .timers) i t ∙ h .timers;
+  few-timers = h .few-timers;
+  few-pins = h .few-pins;
+  distinct = λ j k a c z.
+      h .distinct j k a c (sym (ap (λ (x : Inst). x .n) (same-insts b i t e j)) ∙ (z ∙ ap (λ (x : Inst). x .n) (same-insts b i t e k)));
+  pads = h .pads;
+}
+
+-- ---- set-up
+
+and-left : (a b : Bool) → (a && b) ≡ true → a ≡ true
+and-left a b h = and-eq-true-iff a b .0 h .0
+
+and-right : (a b : Bool) → (a && b) ≡ true → b ≡ true
+and-right a b h = and-eq-true-iff a b .0 h .1
+
+fresh-apart : (n : ℕ) (is : List Inst) → fresh n is ≡ true → (j : ℕ) → j < length is → getD is j noInst .n ≡ n → ⊥
+unfolding fresh
+fresh-apart n [] h j a e = not-suc-le-zero a
+fresh-apart n (x ∷ xs) h zero a e = eqb-false (x .n) n (not-true (eqb (x .n) n) (and-left (not (eqb (x .n) n)) (fresh n xs) h)) e
+fresh-apart n (x ∷ xs) h (suc j) a e = fresh-apart n xs (and-right (not (eqb (x .n) n)) (fresh n xs) h) j (le-of-suc-le-suc a) e
+
+good-fresh : (x : Inst) (xs : List Inst) → instsGood (x ∷ xs) ≡ true → fresh (x .n) xs ≡ true
+unfolding instsGood
+good-fresh x xs h = and-right (instGood x) (fresh (x .n) xs) (and-left (instGood x && fresh (x .n) xs) (instsGood xs) h)
+
+good-rest : (x : Inst) (xs : List Inst) → instsGood (x ∷ xs) ≡ true → instsGood xs ≡ true
+unfolding instsGood
+good-rest x xs h = and-right (instGood x && fresh (x .n) xs) (instsGood xs) h
+
+insts-distinct : (is : List Inst) → instsGood is ≡ true → (i j : ℕ) → i < length is → j < length is → getD is i noInst .n ≡ getD is j noInst .n → i ≡ j
+insts-distinct [] h i j a b e = absurd (not-suc-le-zero a)
+insts-distinct (x ∷ xs) h zero zero a b e = refl
+insts-distinct (x ∷ xs) h zero (suc j) a b e = absurd (fresh-apart (x .n) xs (good-fresh x xs h) j (le-of-suc-le-suc b) (sym e))
+insts-distinct (x ∷ xs) h (suc i) zero a b e = absurd (fresh-apart (x .n) xs (good-fresh x xs h) i (le-of-suc-le-suc a) e)
+insts-distinct (x ∷ xs) h (suc i) (suc j) a b e = ap suc (insts-distinct xs (good-rest x xs h) i j (le-of-suc-le-suc a) (le-of-suc-le-suc b) e)
+
+abbrev started : List Inst → List Timer
+started is = map (λ (i : Inst). C.resetState i 1) is
+
+fresh-inst : (is : List Inst) (rest : List Timer) (i : ℕ) → i < length is → getD (started is ++ rest) i noTimer .inst ≡ getD is i noInst
+fresh-inst [] rest i a = absurd (not-suc-le-zero a)
+fresh-inst (x ∷ xs) rest zero a = inst-reset x 1
+fresh-inst (x ∷ xs) rest (suc i) a = fresh-inst xs rest i (le-of-suc-le-suc a)
+
+filled-length : {A : Type 0} (n : ℕ) (x : A) (xs : List A) → length xs ≤ n → length (filled n x xs) ≡ n
+filled-length n x xs h = simp (length-append, length-replicate) (omega arith)
+
+pub sound-fresh : (hz vcc : Float) (pins lines : ℕ) (is : List Inst) (table : List ℕ) → length is ≤ 8 → pins ≤ 128 → instsGood is ≡ true
+    → Sound (freshBoard hz vcc pins lines is table)
+unfolding freshBoard
+sound-fresh hz vcc pins lines is table few small good = record {
+  timers = filled-length 8 noTimer (started is) (rw (length-map is (λ (i : Inst). C.resetState i 1)) few);
+  few-timers = few;
+  few-pins = small;
+  distinct = λ i j a b e.
+      insts-distinct is good i j a b
+      (sym (ap (λ (x : Inst). x .n) (fresh-inst is _ i a)) ∙ (e ∙ ap (λ (x : Inst). x .n) (fresh-inst is _ j b)));
+  pads = unwired _ (length-replicate 128 blankGpio) (length-replicate 256 noPin) (idle-length 0 256) (λ s. all-alike 256 s noPin) .sound;
+}
+
+pub sound-first : Sound firstBoard
+unfolding instsGood
+sound-first = sound-fresh one one 0 0 [] [] (omega arith) (omega arith) refl
+
+-- of nine tests that hold, the second, the fourth and the sixth
+picked : (a b c d e f g h i : Bool) → (a && b && c && d && e && f && g && h && i) ≡ true → (b ≡ true) × (d ≡ true) × (f ≡ true)
+picked a b c d e f g h i z =
+    let u : (a && b && c && d && e && f) ≡ true = and-left _ g (and-left _ h (and-left (a && b && c && d && e && f && g && h) i z)) in
+    let v : (a && b && c && d) ≡ true = and-left _ e (and-left (a && b && c && d && e) f u) in
+    (and-right a b (and-left _ c (and-left (a && b && c) d v)), and-right (a && b && c) d v, and-right (a && b && c && d && e) f u)
+
+-- what set-up's limits say
+pub record Limits (s : Setup) : Type 0 where
+  pub few : length (s .timers) ≤ 8
+  pub small : s .pins ≤ 128
+  pub apart : instsGood (s .timers) ≡ true
+
+limits : (s : Setup) → withinLimits s ≡ true → Limits s
+unfolding withinLimits
+limits s h =
+    let p = picked (leb 1 (length (s .timers))) (leb (length (s .timers)) 8) (leb 1 (s .pins)) (leb (s .pins) 128) (leb (s .lines) 256) (instsGood (s .timers)) _ _ _ h in
+    record { few = leb-true _ 8 (p .0); small = leb-true _ 128 (p .1); apart = p .2 }
+
+-- ---- each call
+
+abbrev Good : Outcome → Type 0
+Good o = Sound (o .board)
+
+sound-followed : (b : Board) (i cycle : ℕ) (w : Written) → w .timer .inst ≡ timerAt b i .inst → Sound b → Good (followed b i cycle w)
+unfolding followed lineSettled rebooked
+sound-followed b i cycle w e h =
+    let t = w .timer in
+    let d = Sys.driveOutputs t (w .cnt) (b .pads) in
+    let p = cond (w .drive) (d .pads) (b .pads) in
+    let c = withPads (withTimer b i t) p in
+    let hp : SoundPads p = either SoundPads (w .drive) (sound-outputs t (w .cnt) (b .pads) (h .pads)) (h .pads) in
+    let hc : Sound c = sound-pads (withTimer b i t) p (sound-timer b i t e h) hp in
+    let l = cond (w .line) (lineSettled t c) c in
+    let hl : Sound l = either Sound (w .line) (sound-nvic c _ hc) hc in
+    sound-last (cond (w .book) (rebooked i t cycle l) l) cycle (either Sound (w .book) (sound-booking l _ hl) hl)
+
+sound-reset : (b : Board) (i cycle : ℕ) → Sound b → Good (timerReset b i cycle)
+unfolding timerReset lineSettled
+sound-reset b i cycle h =
+    let t = C.resetState (timerAt b i .inst) (dividerOf b (timerAt b i)) in
+    let d = Sys.driveOutputs t 0 (b .pads) in
+    let hc : Sound (withPads (withTimer b i t) (d .pads)) =
+    sound-pads (withTimer b i t) (d .pads) (sound-timer b i t (inst-reset (timerAt b i .inst) (dividerOf b (timerAt b i))) h) (sound-outputs t 0 (b .pads) (h .pads)) in
+    sound-last _ cycle (sound-booking _ _ (sound-nvic _ _ hc))
+
+-- a delivery
+pub record Turned (i : Inst) (t : Timer) (p : Pads) : Type 0 where
+  pub inst : t .inst ≡ i
+  pub pads : SoundPads p
+
+pub turn-good : (i : Inst) (t : Timer) (p : Pads) (e : Next) (at div : ℕ) → Turned i t p → Turned i (turn t p e at div .timer) (turn t p e at div .pads)
+unfolding turn
+turn-good i t p e at div h =
+    let s = applied t e at div in
+    record { inst = inst-applied t e at div ∙ h .inst; pads = sound-outputs s (countAt s e) p (h .pads) }
+
+pub turn-of-good : (i : Inst) (t : Timer) (p : Pads) (d : Due) (div : ℕ) → Turned i t p → Turned i (turnOf t p d div .timer) (turnOf t p d div .pads)
+turn-of-good i t p (At at e) div h = turn-good i t p e at div h
+turn-of-good i t p Stopped div h = h
+
+abbrev Ran : Inst → Run → Type 0
+Ran i r = Turned i (r .timer) (r .pads)
+
+pub run-good : (n now div left : ℕ) (i : Inst) (t : Timer) (p : Pads) → Turned i t p → Turned i (D.run n now div left t p .timer) (D.run n now div left t p .pads)
+unfolding D.run
+run-good zero now div left i t p h = h
+run-good (suc n) now div left i t p h =
+    let s = turnOf t p (nextEvent t) div in
+    let r = run-good n now div (left - length (s .entries)) i (s .timer) (s .pads) (turn-of-good i t p (nextEvent t) div h) in
+    either (Ran i) (dueBy (nextEvent t) now) (either (Ran i) (ltb left 4) h (record { inst = r .inst; pads = r .pads })) h
+
+sound-settled : (b : Board) (i now : ℕ) (t : Timer) (p : Pads) → Turned (timerAt b i .inst) t p → Sound b → Sound (settled b i now t p)
+unfolding settled rebooked lineSettled
+sound-settled b i now t p k h = sound-booking _ _ (sound-nvic _ _ (sound-pads (withTimer b i t) p (sound-timer b i t (k .inst) h) (k .pads)))
+
+sound-delivered : (b : Board) (i cycle places : ℕ) → Sound b → Good (deliveredTo b i cycle places)
+unfolding deliveredTo delivered
+sound-delivered b i cycle places h =
+    let r = run-good mostEvents cycle (dividerOf b (timerAt b i)) places (timerAt b i .inst) (timerAt b i) (b .pads) (record { inst = refl; pads = h .pads }) in
+    sound-last _ cycle (sound-settled b i cycle _ _ r h)
+
+-- the clock tree
+sound-retimed : (i cycle : ℕ) (b : Board) → Sound b → Sound (timerRetimed i cycle b)
+unfolding timerRetimed rebooked
+sound-retimed i cycle b h =
+    let t = C.retimed (timerAt b i) cycle (dividerOf b (timerAt b i)) in
+    let k = sound-timer b i t (inst-retimed (timerAt b i) cycle (dividerOf b (timerAt b i))) h in
+    either Sound (t .count .running) (sound-booking (withTimer b i t) _ k) k
+
+sound-all-retimed : (n i cycle : ℕ) (b : Board) → Sound b → Sound (allRetimed n i cycle b)
+unfolding allRetimed
+sound-all-retimed zero i cycle b h = h
+sound-all-retimed (suc n) i cycle b h = sound-all-retimed n (i + 1) cycle (timerRetimed i cycle b) (sound-retimed i cycle b h)
+
+sound-tree : (b : Board) (t : ClockTree) (cycle : ℕ) → Sound b → Sound (treeSet b t cycle)
+unfolding treeSet
+sound-tree b t cycle h =
+    let k = sound-clocks b _ h in
+    either Sound (differing (b .clocks .tree) t) (sound-all-retimed (b .counts .timers) 0 cycle _ k) k
+
+-- the calls that can change the board
+sound-setUp : (b : Board) (s : Setup) → Sound b → Good (step b (setUp s))
+unfolding step
+sound-setUp b s h =
+    by-test Good (not (withinLimits s)) (λ _. h)
+    (λ t.
+    let l = limits s (not-false (withinLimits s) t) in
+    either Good (not (positive (s .hz))) h (sound-fresh (s .hz) (s .vcc) (s .pins) (s .lines) (s .timers) (s .table) (l .few) (l .small) (l .apart)))
+
+sound-clockTree : (b : Board) (t : ClockTree) (cycle : ℕ) → Sound b → Good (step b (clockTree t cycle))
+unfolding step
+sound-clockTree b t cycle h =
+    either Good (not (good t)) h (either Good (astray b cycle) h (sound-last _ cycle (sound-tree b t cycle h)))
+
+sound-enable : (b : Board) (word value : ℕ) → Sound b → Good (step b (enable word value))
+unfolding step
+sound-enable b word value h = either Good (absent word 9) h (sound-clocks b _ h)
+
+sound-setPin : (b : Board) (pin mode od out pu pd f cycle places : ℕ) → Sound b → Good (step b (setPin pin mode od out pu pd f cycle places))
+unfolding step
+sound-setPin b pin mode od out pu pd f cycle places h =
+    either Good (absent pin (b .counts .pins)) h
+    (either Good (astray b cycle) h
+    (either Good (bookFull places) h
+    (sound-last _ cycle (sound-pads b _ h (sound-set (b .pads) pin (cfgOf mode od out pu pd) f (h .pads))))))
+
+sound-drivePin : (b : Board) (pin : ℕ) (e : ExtDrive) (cycle places : ℕ) → Sound b → Good (step b (drivePin pin e cycle places))
+unfolding step
+sound-drivePin b pin e cycle places h =
+    either Good (absent pin (b .counts .pins)) h
+    (either Good (astray b cycle) h
+    (either Good (bookFull places) h
+    (sound-last _ cycle (sound-pads b _ h (sound-drive (b .pads) pin e (h .pads))))))
+
+sound-resetPins : (b : Board) (cycle places : ℕ) → Sound b → Good (step b (resetPins cycle places))
+unfolding step
+sound-resetPins b cycle places h =
+    either Good (astray b cycle) h
+    (either Good (ltb places (b .counts .pins)) h
+    (sound-last _ cycle (sound-pads b _ h (unwired-pins (b .pads) (b .counts .pins) (h .pads) .sound))))
+
+sound-read : (b : Board) (timer offset size cycle : ℕ) → Sound b → Good (step b (read timer offset size cycle))
+unfolding step
+sound-read b timer offset size cycle h =
+    either Good (absent timer (b .counts .timers)) h (either Good (oddSize size) h (either Good (astray b cycle) h h))
+
+sound-write : (b : Board) (timer offset size value cycle places : ℕ) → Sound b → Good (step b (write timer offset size value cycle places))
+unfolding step
+sound-write b timer offset size value cycle places h =
+    let w = written b (timerAt b timer) offset size value cycle in
+    either Good (absent timer (b .counts .timers)) h
+    (either Good (oddSize size) h
+    (either Good (astray b cycle) h
+    (either Good (bookFull places) h
+    (either Good (clockOn b (timerAt b timer))
+    (either Good (counterAstray (register offset) (w .timer)) h
+    (sound-followed b timer cycle w (inst-written b (timerAt b timer) offset size value cycle) h))
+    (sound-last b cycle h)))))
+
+sound-peek : (b : Board) (timer offset cycle : ℕ) → Sound b → Good (step b (peek timer offset cycle))
+unfolding step
+sound-peek b timer offset cycle h = either Good (absent timer (b .counts .timers)) h (either Good (astray b cycle) h h)
+
+sound-resetTimer : (b : Board) (timer cycle places : ℕ) → Sound b → Good (step b (resetTimer timer cycle places))
+unfolding step
+sound-resetTimer b timer cycle places h =
+    either Good (absent timer (b .counts .timers)) h
+    (either Good (astray b cycle) h (either Good (bookFull places) h (sound-reset b timer cycle h)))
+
+sound-deliver : (b : Board) (timer cycle places : ℕ) → Sound b → Good (step b (deliver timer cycle places))
+unfolding step
+sound-deliver b timer cycle places h =
+    either Good (absent timer (b .counts .timers)) h
+    (either Good (astray b cycle) h (either Good (bookFull places) h (sound-delivered b timer cycle places h)))
+
+sound-queryBooked : (b : Board) (timer : ℕ) → Sound b → Good (step b (queryBooked timer))
+unfolding step
+sound-queryBooked b timer h = either Good (absent timer (b .counts .timers)) h h
+
+sound-queryNext : (b : Board) → Sound b → Good (step b queryNext)
+unfolding step
+sound-queryNext b h = h
+
+sound-queryLevel : (b : Board) (pin : ℕ) → Sound b → Good (step b (queryLevel pin))
+unfolding step
+sound-queryLevel b pin h = either Good (absent pin (b .counts .pins)) h h
+
+sound-queryVolts : (b : Board) (pin : ℕ) → Sound b → Good (step b (queryVolts pin))
+unfolding step
+sound-queryVolts b pin h = either Good (absent pin (b .counts .pins)) h h
+
+sound-queryLine : (b : Board) (irq : ℕ) → Sound b → Good (step b (queryLine irq))
+unfolding step
+sound-queryLine b irq h = h
+
+sound-queryTime : (b : Board) (cycle : ℕ) → Sound b → Good (step b (queryTime cycle))
+unfolding step
+sound-queryTime b cycle h = either Good (astray b cycle) h h
+
+sound-clearPending : (b : Board) (irq : ℕ) → Sound b → Good (step b (clearPending irq))
+unfolding step
+sound-clearPending b irq h = sound-nvic b _ h
+
+pub sound-step : (b : Board) (c : Call) → Sound b → Sound (step b c .board)
+sound-step b (setUp s) h = sound-setUp b s h
+sound-step b (clockTree t cycle) h = sound-clockTree b t cycle h
+sound-step b (enable word value) h = sound-enable b word value h
+sound-step b (setPin pin mode od out pu pd f cycle places) h = sound-setPin b pin mode od out pu pd f cycle places h
+sound-step b (drivePin pin e cycle places) h = sound-drivePin b pin e cycle places h
+sound-step b (resetPins cycle places) h = sound-resetPins b cycle places h
+sound-step b (read timer offset size cycle) h = sound-read b timer offset size cycle h
+sound-step b (write timer offset size value cycle places) h = sound-write b timer offset size value cycle places h
+sound-step b (peek timer offset cycle) h = sound-peek b timer offset cycle h
+sound-step b (resetTimer timer cycle places) h = sound-resetTimer b timer cycle places h
+sound-step b (deliver timer cycle places) h = sound-deliver b timer cycle places h
+sound-step b (queryBooked timer) h = sound-queryBooked b timer h
+sound-step b queryNext h = sound-queryNext b h
+sound-step b (queryLevel pin) h = sound-queryLevel b pin h
+sound-step b (queryVolts pin) h = sound-queryVolts b pin h
+sound-step b (queryLine irq) h = sound-queryLine b irq h
+sound-step b (queryTime cycle) h = sound-queryTime b cycle h
+sound-step b (clearPending irq) h = sound-clearPending b irq h
+
+pub sound-run : (b : Board) (cs : List Call) → Sound b → Sound (boardAfter b cs)
+unfolding boardAfter
+sound-run b [] h = h
+sound-run b (c ∷ cs) h = sound-run (step b c .board) cs (sound-step b c h)
+
+pub sound-after : (cs : List Call) → Sound (boardAfter firstBoard cs)
+sound-after cs = sound-run firstBoard cs sound-first
+
+-- ---- what a call leaves alone of a pilot
+
+-- no entry of pin p
+abbrev pub Spared : ℕ → List Entry → Type 0
+Spared p [] = Unit {0}
+Spared p (e ∷ es) = (e .pin ≡ p → ⊥) × Spared p es
+
+pub spared-append : (p : ℕ) (xs ys : List Entry) → Spared p xs → Spared p ys → Spared p (xs ++ ys)
+spared-append p [] ys h k = k
+spared-append p (x ∷ xs) ys h k = (h .0, spared-append p xs ys (h .1) k)
+
+pub spared-entry : (p cycle : ℕ) (c : Change) → Elsewhere p c → Spared p (entryOf cycle c)
+unfolding entryOf
+spared-entry p cycle Same h = tt
+spared-entry p cycle (Level q l) h = (h, tt)
+
+pub spared-entries : (s p cycle : ℕ) (pads : Pads) (d : Sys.Drive) → SparesAll s p pads d → Spared p (entriesOf cycle (d .changes))
+unfolding entriesOf
+spared-entries s p cycle pads d h =
+    let c = d .changes in
+    let y = entryOf cycle (c .c) ++ entryOf cycle (c .d) in
+    let x = entryOf cycle (c .b) ++ y in
+    let hy : Spared p y = spared-append p (entryOf cycle (c .c)) (entryOf cycle (c .d)) (spared-entry p cycle (c .c) (h .c)) (spared-entry p cycle (c .d) (h .d)) in
+    let hx : Spared p x = spared-append p (entryOf cycle (c .b)) y (spared-entry p cycle (c .b) (h .b)) hy in
+    spared-append p (entryOf cycle (c .a)) x (spared-entry p cycle (c .a) (h .a)) hx
+
+-- a timer that changed at most in CR2, SMCR, DIER and SR
+pub record Calm (t u : Timer) : Type 0 where
+  pub inst : u .inst ≡ t .inst
+  pub count : u .count ≡ t .count
+  pub chan : u .chan ≡ t .chan
+  pub cr1 : u .regs .cr1 ≡ t .regs .cr1
+  pub ccer : u .regs .ccer ≡ t .regs .ccer
+  pub psc : u .regs .psc ≡ t .regs .psc
+  pub arr : u .regs .arr ≡ t .regs .arr
+
+pub calm-same : (t u : Timer) → u ≡ t → Calm t u
+calm-same t u e = record {
+  inst = ap (λ (x : Timer). x .inst) e;
+  count = ap (λ (x : Timer). x .count) e;
+  chan = ap (λ (x : Timer). x .chan) e;
+  cr1 = ap (λ (x : Timer). x .regs .cr1) e;
+  ccer = ap (λ (x : Timer). x .regs .ccer) e;
+  psc = ap (λ (x : Timer). x .regs .psc) e;
+  arr = ap (λ (x : Timer). x .regs .arr) e;
+}
+
+-- channel ch of timer i drives signal s, which pin p routes, push-pull
+pub record Wired (b : Board) (i ch s p : ℕ) : Type 0 where
+  pub sound : Sound b
+  pub timer : i < b .counts .timers
+  pub channel : ch < 4
+  pub signal : s ≡ timSignal (timerAt b i .inst .n) ch
+  pub drives : Sys.driver (timerAt b i .inst .n) ≡ true
+  pub route : routeOf (b .pads) s ≡ p
+  pub pin : p < 128
+  pub push-pull : gpioAt (b .pads) p .cfg .«open_drain» ≡ false
+
+-- timer i, signal s and pin p are left alone between two boards
+pub record Past (i s p : ℕ) (a b : Board) : Type 0 where
+  pub held : Held s p (a .pads) (b .pads)
+  pub timer : Calm (timerAt a i) (timerAt b i)
+  pub tree : b .clocks .tree ≡ a .clocks .tree
+  pub timers : b .counts .timers ≡ a .counts .timers
+
+-- and by a call, which makes no entry of the pin
+pub record Rest (i s p : ℕ) (b : Board) (o : Outcome) : Type 0 where
+  pub past : Past i s p b (o .board)
+  pub spared : Spared p (o .entries)
+
+module _ (i s p : ℕ) (a : Board) where
+  pub past-refl : Past i s p a a
+  past-refl = record { held = held-refl s p (a .pads); timer = calm-same (timerAt a i) (timerAt a i) refl; tree = refl; timers = refl }
+
+  past-nvic : (b : Board) (n : Nvic) → Past i s p a b → Past i s p a (withNvic b n)
+  past-nvic b n h = record { held = h .held; timer = h .timer; tree = h .tree; timers = h .timers }
+
+  past-booking : (b : Board) (m : List ℕ) → Past i s p a b → Past i s p a (withBooking b m)
+  past-booking b m h = record { held = h .held; timer = h .timer; tree = h .tree; timers = h .timers }
+
+  past-last : (b : Board) (cycle : ℕ) → Past i s p a b → Past i s p a (withLast b cycle)
+  past-last b cycle h = record { held = h .held; timer = h .timer; tree = h .tree; timers = h .timers }
+
+  past-pads : (q : Pads) → Held s p (a .pads) q → Past i s p a (withPads a q)
+  past-pads q h = record { held = h; timer = calm-same (timerAt a i) (timerAt a i) refl; tree = refl; timers = refl }
+
+  -- another timer replaced
+  past-other : (j : ℕ) (t : Timer) (q : Pads) → (j ≡ i → ⊥) → Held s p (a .pads) q → Past i s p a (withPads (withTimer a j t) q)
+  past-other j t q ne h = record {
+    held = h;
+    timer = calm-same (timerAt a i) (timerAt (withTimer a j t) i) (getD-set-other (a .timers) j i t noTimer (λ z. ne (sym z)));
+    tree = refl;
+    timers = refl;
+  }
+
+  -- the timer itself replaced by a calm one
+  past-own : (t : Timer) (q : Pads) → i < length (a .timers) → Calm (timerAt a i) t → Held s p (a .pads) q → Past i s p a (withPads (withTimer a i t) q)
+  past-own t q k c h = record { held = h; timer = rw (getD-set-same (a .timers) i t noTimer k) c; tree = refl; timers = refl }
+
+  -- a call that left the board as it was
+  pub rest-still : (n v : ℕ) → Rest i s p a (record { number = n; value = v; entries = []; board = a })
+  rest-still n v = record { past = past-refl; spared = tt }
+
+pub signal-small : (b : Board) (i ch s p : ℕ) → Wired b i ch s p → s < 256
+signal-small b i ch s p w =
+    let n = timerAt b i .inst .n in
+    let e : s ≡ timSignal n ch = w .signal in
+    omega (arith, leb-true n 4 (and-right (leb 2 n) (leb n 4) (w .drives)), w .channel)
+
+pub signal-drives : (b : Board) (i ch s p : ℕ) → Wired b i ch s p → drives s ≡ true
+signal-drives b i ch s p w =
+    let n = timerAt b i .inst .n in
+    rw (w .signal, ne-eqb (timSignal n ch) 0 (λ z. omega arith), tim-no-input n ch (w .channel))
+
+-- the signals of another timer are others
+pub other-signals : (b : Board) (i ch s p j : ℕ) → Wired b i ch s p → j < b .counts .timers → (j ≡ i → ⊥)
+    → (c : ℕ) → c < 4 → timSignal (timerAt b j .inst .n) c ≡ s → ⊥
+other-signals b i ch s p j w k ne c l e =
+    ne (w .sound .distinct j i k (w .timer) (tim-injective (timerAt b j .inst .n) (timerAt b i .inst .n) c ch l (w .channel) (e ∙ w .signal) .0))
+
+-- the pilot goes on
+pub wired-on : (b : Board) (i ch s p : ℕ) (c : Call) → Wired b i ch s p → Rest i s p b (step b c) → Wired (step b c .board) i ch s p
+wired-on b i ch s p c w r =
+    let e = ap (λ (x : Inst). x .n) (r .past .timer .inst) in
+    record {
+      sound = sound-step b c (w .sound);
+      timer = rw (r .past .timers) (w .timer);
+      channel = w .channel;
+      signal = w .signal ∙ ap (λ (n : ℕ). timSignal n ch) (sym e);
+      drives = ap (λ (n : ℕ). Sys.driver n) e ∙ w .drives;
+      route = r .past .held .route ∙ w .route;
+      pin = w .pin;
+      push-pull = ap (λ (x : PinCfg). x .«open_drain») (r .past .held .cfg) ∙ w .push-pull;
+    }
+
+-- ---- each call
+
+-- a write's outcome
+module _ (b : Board) (i s p : ℕ) where
+  -- the line and the booking after it
+  past-followed : (j cycle : ℕ) (t : Timer) (line book : Bool) (c : Board) → Past i s p b c
+      → Past i s p b (withLast (cond book (rebooked j t cycle (cond line (lineSettled t c) c)) (cond line (lineSettled t c) c)) cycle)
+  unfolding lineSettled rebooked
+  past-followed j cycle t line book c h =
+      let l = cond line (lineSettled t c) c in
+      let k : Past i s p b l = either (Past i s p b) line (past-nvic i s p b c _ h) h in
+      past-last i s p b (cond book (rebooked j t cycle l) l) cycle (either (Past i s p b) book (past-booking i s p b l _ k) k)
+
+  rest-followed : (j cycle : ℕ) (w : Written)
+      → Past i s p b (withPads (withTimer b j (w .timer)) (cond (w .drive) (Sys.driveOutputs (w .timer) (w .cnt) (b .pads) .pads) (b .pads)))
+      → Spared p (cond (w .drive) (entriesOf cycle (Sys.driveOutputs (w .timer) (w .cnt) (b .pads) .changes)) []) → Rest i s p b (followed b j cycle w)
+  unfolding followed
+  rest-followed j cycle w h k = record { past = past-followed j cycle (w .timer) (w .line) (w .book) _ h; spared = k }
+
+-- a write that only CR2, SMCR, DIER or SR take
+record Quiet (t : Timer) (w : Written) : Type 0 where
+  timer : Calm t (w .timer)
+  drive : w .drive ≡ false
+
+quiet-register : (t : Timer) (off v now div : ℕ) → (eqb off 0x04 || (eqb off 0x08 || (eqb off 0x0c || eqb off 0x10))) ≡ true → Quiet t (R.regWritten t off v now div)
+unfolding R.regWritten
+quiet-register t off v now div h = four (eqb off 0x04) refl h
+  where
+    calm : (u : Timer) → u .inst ≡ t .inst → u .count ≡ t .count → u .chan ≡ t .chan → u .regs .cr1 ≡ t .regs .cr1 → u .regs .ccer ≡ t .regs .ccer → u .regs .psc ≡ t .regs .psc → u .regs .arr ≡ t .regs .arr → Calm t u
+    calm u a b c d e f g = record { inst = a; count = b; chan = c; cr1 = d; ccer = e; psc = f; arr = g }
+
+    sixteen : (x : Bool) → eqb off 0x10 ≡ x → x ≡ true → Quiet t (R.regWritten t off v now div)
+    sixteen x e h = rw (eqb-true off 0x10 (e ∙ h)) (record { timer = calm _ refl refl refl refl refl refl refl; drive = refl })
+
+    twelve : (x : Bool) → eqb off 0x0c ≡ x → (x || eqb off 0x10) ≡ true → Quiet t (R.regWritten t off v now div)
+    twelve true e h = rw (eqb-true off 0x0c e) (record { timer = calm _ refl refl refl refl refl refl refl; drive = refl })
+    twelve false e h = sixteen (eqb off 0x10) refl h
+
+    eight : (x : Bool) → eqb off 0x08 ≡ x → (x || (eqb off 0x0c || eqb off 0x10)) ≡ true → Quiet t (R.regWritten t off v now div)
+    eight true e h = rw (eqb-true off 0x08 e) (record { timer = calm _ refl refl refl refl refl refl refl; drive = refl })
+    eight false e h = twelve (eqb off 0x0c) refl h
+
+    four : (x : Bool) → eqb off 0x04 ≡ x → (x || (eqb off 0x08 || (eqb off 0x0c || eqb off 0x10))) ≡ true → Quiet t (R.regWritten t off v now div)
+    four true e h = rw (eqb-true off 0x04 e) (record { timer = calm _ refl refl refl refl refl refl refl; drive = refl })
+    four false e h = eight (eqb off 0x08) refl h
+
+quiet-written : (b : Board) (t : Timer) (offset size value cycle : ℕ)
+    → (eqb (register offset) 0x04 || (eqb (register offset) 0x08 || (eqb (register offset) 0x0c || eqb (register offset) 0x10))) ≡ true → Quiet t (written b t offset size value cycle)
+unfolding written
+quiet-written b t offset size value cycle h = quiet-register t (register offset) _ cycle (dividerOf b t) h
+
+-- a delivery to a timer with other signals
+module _ (s p : ℕ) (small : s < 256) (pin : p < 128) where
+  record RunSpares (x : Pads) (r : Run) : Type 0 where
+    held : Held s p x (r .pads)
+    spared : Spared p (r .entries)
+
+  record TurnSpares (x : Pads) (r : Turn) : Type 0 where
+    held : Held s p x (r .pads)
+    spared : Spared p (r .entries)
+
+  module _ (j : Inst) (ne : (c : ℕ) → c < 4 → timSignal (j .n) c ≡ s → ⊥) where
+    turn-spares : (t : Timer) (x : Pads) (e : Next) (at div : ℕ) → Turned j t x → routeOf x s ≡ p → TurnSpares x (turn t x e at div)
+    unfolding turn
+    turn-spares t x e at div h r =
+        let u = applied t e at div in
+        let z : u .inst ≡ j = inst-applied t e at div ∙ h .inst in
+        let k = held-outputs x s p (h .pads) small pin r u (countAt u e) (λ c l q. ne c l (ap (λ (y : Inst). timSignal (y .n) c) (sym z) ∙ q)) in
+        record { held = k .held; spared = spared-entries s p at x (Sys.driveOutputs u (countAt u e) x) k }
+
+    turn-of-spares : (t : Timer) (x : Pads) (d : Due) (div : ℕ) → Turned j t x → routeOf x s ≡ p → TurnSpares x (turnOf t x d div)
+    turn-of-spares t x (At at e) div h r = turn-spares t x e at div h r
+    turn-of-spares t x Stopped div h r = record { held = held-refl s p x; spared = tt }
+
+    run-spares : (n now div left : ℕ) (t : Timer) (x : Pads) → Turned j t x → routeOf x s ≡ p → RunSpares x (D.run n now div left t x)
+    unfolding D.run
+    run-spares zero now div left t x h r = record { held = held-refl s p x; spared = tt }
+    run-spares (suc n) now div left t x h r =
+        let u = turnOf t x (nextEvent t) div in
+        let k = turn-of-spares t x (nextEvent t) div h r in
+        let g = run-spares n now div (left - length (u .entries)) (u .timer) (u .pads) (turn-of-good j t x (nextEvent t) div h) (k .held .route ∙ r) in
+        let none : RunSpares x (stop t x 0) = record { held = held-refl s p x; spared = tt } in
+        either (RunSpares x) (dueBy (nextEvent t) now)
+        (either (RunSpares x) (ltb left 4) (record { held = held-refl s p x; spared = tt })
+        (record { held = held-trans (k .held) (g .held); spared = spared-append p (u .entries) _ (k .spared) (g .spared) }))
+        none
+
+module _ (b : Board) (i ch s p : ℕ) (w : Wired b i ch s p) where
+  frame-last : (cycle : ℕ) → Rest i s p b (record { number = 0; value = 0; entries = []; board = withLast b cycle })
+  frame-last cycle = record { past = past-last i s p b b cycle (past-refl i s p b); spared = tt }
+
+  pub frame-enable : (word value : ℕ) → Rest i s p b (step b (enable word value))
+  unfolding step
+  frame-enable word value =
+      let k = past-refl i s p b in
+      either (Rest i s p b) (absent word 9) (rest-still i s p b 2 0)
+      (record { past = record { held = k .held; timer = k .timer; tree = refl; timers = refl }; spared = tt })
+
+  pub frame-setPin : (q mode od out pu pd f cycle places : ℕ) → (q ≡ p → ⊥) → (Sys.selected (b .pads) q (cfgOf mode od out pu pd) f ≡ s → ⊥)
+      → Rest i s p b (step b (setPin q mode od out pu pd f cycle places))
+  unfolding step
+  frame-setPin q mode od out pu pd f cycle places ne free =
+      let m = Sys.setPin (b .pads) q (cfgOf mode od out pu pd) f in
+      let k = held-set (b .pads) s p q (cfgOf mode od out pu pd) f (w .route) ne free in
+      either (Rest i s p b) (absent q (b .counts .pins)) (rest-still i s p b 2 0)
+      (either (Rest i s p b) (astray b cycle) (rest-still i s p b 5 0)
+      (either (Rest i s p b) (bookFull places) (rest-still i s p b 6 0)
+      (record { past = past-last i s p b (withPads b (m .pads)) cycle (past-pads i s p b (m .pads) (k .held)); spared = spared-entry p cycle (m .change) (k .elsewhere) })))
+
+  pub frame-drivePin : (q : ℕ) (e : ExtDrive) (cycle places : ℕ) → Rest i s p b (step b (drivePin q e cycle places))
+  unfolding step
+  frame-drivePin q e cycle places =
+      let m = Sys.drivePin (b .pads) q e in
+      let k = held-drive (b .pads) s p (w .sound .pads) (signal-small b i ch s p w) (w .pin) (w .route) (signal-drives b i ch s p w) (w .push-pull) q e in
+      either (Rest i s p b) (absent q (b .counts .pins)) (rest-still i s p b 2 0)
+      (either (Rest i s p b) (astray b cycle) (rest-still i s p b 5 0)
+      (either (Rest i s p b) (bookFull places) (rest-still i s p b 6 0)
+      (record { past = past-last i s p b (withPads b (m .pads)) cycle (past-pads i s p b (m .pads) (k .held)); spared = spared-entry p cycle (m .change) (k .elsewhere) })))
+
+  -- the outputs of another timer
+  outputs-other : (j : ℕ) (t : Timer) (cnt : ℕ) → j < b .counts .timers → (j ≡ i → ⊥) → t .inst ≡ timerAt b j .inst → SparesAll s p (b .pads) (Sys.driveOutputs t cnt (b .pads))
+  outputs-other j t cnt l ne e =
+      held-outputs (b .pads) s p (w .sound .pads) (signal-small b i ch s p w) (w .pin) (w .route) t cnt
+      (λ c k z. other-signals b i ch s p j w l ne c k (ap (λ (y : Inst). timSignal (y .n) c) (sym e) ∙ z))
+
+  followed-other : (j cycle : ℕ) (x : Written) → j < b .counts .timers → (j ≡ i → ⊥) → x .timer .inst ≡ timerAt b j .inst → Rest i s p b (followed b j cycle x)
+  followed-other j cycle x l ne e =
+      let d = Sys.driveOutputs (x .timer) (x .cnt) (b .pads) in
+      let k = outputs-other j (x .timer) (x .cnt) l ne e in
+      rest-followed b i s p j cycle x
+      (past-other i s p b j (x .timer) _ ne (either (Held s p (b .pads)) (x .drive) (k .held) (held-refl s p (b .pads))))
+      (either (Spared p) (x .drive) (spared-entries s p cycle (b .pads) d k) tt)
+
+  pub frame-write-other : (j offset size value cycle places : ℕ) → (j ≡ i → ⊥) → Rest i s p b (step b (write j offset size value cycle places))
+  unfolding step
+  frame-write-other j offset size value cycle places ne =
+      let x = written b (timerAt b j) offset size value cycle in
+      by-test (Rest i s p b) (absent j (b .counts .timers)) (λ _. rest-still i s p b 2 0)
+      (λ t. either (Rest i s p b) (oddSize size) (rest-still i s p b 3 0)
+      (either (Rest i s p b) (astray b cycle) (rest-still i s p b 5 0)
+      (either (Rest i s p b) (bookFull places) (rest-still i s p b 6 0)
+      (either (Rest i s p b) (clockOn b (timerAt b j))
+      (either (Rest i s p b) (counterAstray (register offset) (x .timer)) (rest-still i s p b 7 0)
+      (followed-other j cycle x (leb-false (b .counts .timers) j t) ne (inst-written b (timerAt b j) offset size value cycle)))
+      (frame-last cycle)))))
+
+  followed-quiet : (cycle : ℕ) (x : Written) → Quiet (timerAt b i) x → Rest i s p b (followed b i cycle x)
+  followed-quiet cycle x q =
+      rest-followed b i s p i cycle x
+      (past-own i s p b (x .timer) _ (omega (arith, w .sound .timers, w .sound .few-timers, w .timer)) (q .timer) (rw (q .drive) (held-refl s p (b .pads))))
+      (rw (q .drive) tt)
+
+  pub frame-write-quiet : (offset size value cycle places : ℕ)
+      → (eqb (register offset) 0x04 || (eqb (register offset) 0x08 || (eqb (register offset) 0x0c || eqb (register offset) 0x10))) ≡ true
+      → Rest i s p b (step b (write i offset size value cycle places))
+  unfolding step
+  frame-write-quiet offset size value cycle places q =
+      let x = written b (timerAt b i) offset size value cycle in
+      either (Rest i s p b) (absent i (b .counts .timers)) (rest-still i s p b 2 0)
+      (either (Rest i s p b) (oddSize size) (rest-still i s p b 3 0)
+      (either (Rest i s p b) (astray b cycle) (rest-still i s p b 5 0)
+      (either (Rest i s p b) (bookFull places) (rest-still i s p b 6 0)
+      (either (Rest i s p b) (clockOn b (timerAt b i))
+      (either (Rest i s p b) (counterAstray (register offset) (x .timer)) (rest-still i s p b 7 0)
+      (followed-quiet cycle x (quiet-written b (timerAt b i) offset size value cycle q)))
+      (frame-last cycle)))))
+
+  -- either
+  pub frame-write : (j offset size value cycle places : ℕ)
+      → (not (eqb j i) || (eqb (register offset) 0x04 || (eqb (register offset) 0x08 || (eqb (register offset) 0x0c || eqb (register offset) 0x10)))) ≡ true
+      → Rest i s p b (step b (write j offset size value cycle places))
+  frame-write j offset size value cycle places h = go (eqb j i) refl h
+    where
+      go : (x : Bool) → eqb j i ≡ x
+          → (not x || (eqb (register offset) 0x04 || (eqb (register offset) 0x08 || (eqb (register offset) 0x0c || eqb (register offset) 0x10)))) ≡ true
+          → Rest i s p b (step b (write j offset size value cycle places))
+      go true e q = rw (eqb-true j i e) (frame-write-quiet offset size value cycle places q)
+      go false e q = frame-write-other j offset size value cycle places (eqb-false j i e)
+
+  reset-other : (j cycle : ℕ) → j < b .counts .timers → (j ≡ i → ⊥) → Rest i s p b (timerReset b j cycle)
+  unfolding timerReset lineSettled
+  reset-other j cycle l ne =
+      let t = C.resetState (timerAt b j .inst) (dividerOf b (timerAt b j)) in
+      let d = Sys.driveOutputs t 0 (b .pads) in
+      let k = outputs-other j t 0 l ne (inst-reset (timerAt b j .inst) (dividerOf b (timerAt b j))) in
+      let c = withPads (withTimer b j t) (d .pads) in
+      record {
+        past = past-last i s p b _ cycle (past-booking i s p b _ _ (past-nvic i s p b c _ (past-other i s p b j t (d .pads) ne (k .held))));
+        spared = spared-entries s p cycle (b .pads) d k;
+      }
+
+  pub frame-reset-other : (j cycle places : ℕ) → (j ≡ i → ⊥) → Rest i s p b (step b (resetTimer j cycle places))
+  unfolding step
+  frame-reset-other j cycle places ne =
+      by-test (Rest i s p b) (absent j (b .counts .timers)) (λ _. rest-still i s p b 2 0)
+      (λ t. either (Rest i s p b) (astray b cycle) (rest-still i s p b 5 0)
+      (either (Rest i s p b) (bookFull places) (rest-still i s p b 6 0) (reset-other j cycle (leb-false (b .counts .timers) j t) ne)))
+
+  past-settled : (j now : ℕ) (t : Timer) (x : Pads) → (j ≡ i → ⊥) → Held s p (b .pads) x → Past i s p b (settled b j now t x)
+  unfolding settled rebooked lineSettled
+  past-settled j now t x ne h = past-booking i s p b _ _ (past-nvic i s p b (withPads (withTimer b j t) x) _ (past-other i s p b j t x ne h))
+
+  delivered-other : (j cycle places : ℕ) → j < b .counts .timers → (j ≡ i → ⊥) → Rest i s p b (deliveredTo b j cycle places)
+  unfolding deliveredTo delivered
+  delivered-other j cycle places l ne =
+      let t = timerAt b j in
+      let k = run-spares s p (signal-small b i ch s p w) (w .pin) (t .inst) (other-signals b i ch s p j w l ne) mostEvents cycle (dividerOf b t) places t (b .pads)
+      (record { inst = refl; pads = w .sound .pads }) (w .route) in
+      record { past = past-last i s p b _ cycle (past-settled j cycle _ _ ne (k .held)); spared = k .spared }
+
+  pub frame-deliver-other : (j cycle places : ℕ) → (j ≡ i → ⊥) → Rest i s p b (step b (deliver j cycle places))
+  unfolding step
+  frame-deliver-other j cycle places ne =
+      by-test (Rest i s p b) (absent j (b .counts .timers)) (λ _. rest-still i s p b 2 0)
+      (λ t. either (Rest i s p b) (astray b cycle) (rest-still i s p b 5 0)
+      (either (Rest i s p b) (bookFull places) (rest-still i s p b 6 0) (delivered-other j cycle places (leb-false (b .counts .timers) j t) ne)))
+
+-- the calls that ask, whatever the pilot
+module _ (b : Board) (i s p : ℕ) where
+  pub frame-read : (j offset size cycle : ℕ) → Rest i s p b (step b (read j offset size cycle))
+  unfolding step
+  frame-read j offset size cycle =
+      either (Rest i s p b) (absent j (b .counts .timers)) (rest-still i s p b 2 0)
+      (either (Rest i s p b) (oddSize size) (rest-still i s p b 3 0) (either (Rest i s p b) (astray b cycle) (rest-still i s p b 5 0) (rest-still i s p b 0 _)))
+
+  pub frame-peek : (j offset cycle : ℕ) → Rest i s p b (step b (peek j offset cycle))
+  unfolding step
+  frame-peek j offset cycle =
+      either (Rest i s p b) (absent j (b .counts .timers)) (rest-still i s p b 2 0)
+      (either (Rest i s p b) (astray b cycle) (rest-still i s p b 5 0) (rest-still i s p b 0 _))
+
+  pub frame-queryBooked : (j : ℕ) → Rest i s p b (step b (queryBooked j))
+  unfolding step
+  frame-queryBooked j = either (Rest i s p b) (absent j (b .counts .timers)) (rest-still i s p b 2 0) (rest-still i s p b 0 _)
+
+  pub frame-queryNext : Rest i s p b (step b queryNext)
+  unfolding step
+  frame-queryNext = rest-still i s p b 0 _
+
+  pub frame-queryLevel : (pin : ℕ) → Rest i s p b (step b (queryLevel pin))
+  unfolding step
+  frame-queryLevel pin = either (Rest i s p b) (absent pin (b .counts .pins)) (rest-still i s p b 2 0) (rest-still i s p b 0 _)
+
+  pub frame-queryVolts : (pin : ℕ) → Rest i s p b (step b (queryVolts pin))
+  unfolding step
+  frame-queryVolts pin = either (Rest i s p b) (absent pin (b .counts .pins)) (rest-still i s p b 2 0) (rest-still i s p b 0 _)
+
+  pub frame-queryLine : (irq : ℕ) → Rest i s p b (step b (queryLine irq))
+  unfolding step
+  frame-queryLine irq = rest-still i s p b 0 _
+
+  pub frame-queryTime : (cycle : ℕ) → Rest i s p b (step b (queryTime cycle))
+  unfolding step
+  frame-queryTime cycle = either (Rest i s p b) (astray b cycle) (rest-still i s p b 5 0) (rest-still i s p b 0 _)
+
+  pub frame-clearPending : (irq : ℕ) → Rest i s p b (step b (clearPending irq))
+  unfolding step
+  frame-clearPending irq = record { past = past-nvic i s p b b _ (past-refl i s p b); spared = tt }
+
+-- a call that leaves the pilot of timer i on pin p by signal s alone, deliveries to the timer itself aside
+abbrev pub Leaves : ℕ → ℕ → ℕ → Board → Call → Type 0
+Leaves i p s b (setUp _) = ⊥
+Leaves i p s b (clockTree _ _) = ⊥
+Leaves i p s b (enable _ _) = Unit {0}
+Leaves i p s b (setPin q mode od out pu pd f cycle places) = (q ≡ p → ⊥) × (Sys.selected (b .pads) q (cfgOf mode od out pu pd) f ≡ s → ⊥)
+Leaves i p s b (drivePin _ _ _ _) = Unit {0}
+Leaves i p s b (resetPins _ _) = ⊥
+Leaves i p s b (read _ _ _ _) = Unit {0}
+Leaves i p s b (write j offset size value cycle places) =
+    (not (eqb j i) || (eqb (register offset) 0x04 || (eqb (register offset) 0x08 || (eqb (register offset) 0x0c || eqb (register offset) 0x10)))) ≡ true
+Leaves i p s b (peek _ _ _) = Unit {0}
+Leaves i p s b (resetTimer j _ _) = j ≡ i → ⊥
+Leaves i p s b (deliver j _ _) = j ≡ i → ⊥
+Leaves i p s b (queryBooked _) = Unit {0}
+Leaves i p s b queryNext = Unit {0}
+Leaves i p s b (queryLevel _) = Unit {0}
+Leaves i p s b (queryVolts _) = Unit {0}
+Leaves i p s b (queryLine _) = Unit {0}
+Leaves i p s b (queryTime _) = Unit {0}
+Leaves i p s b (clearPending _) = Unit {0}
+
+pub frame-step : (b : Board) (i ch s p : ℕ) → Wired b i ch s p → (c : Call) → Leaves i p s b c → Rest i s p b (step b c)
+frame-step b i ch s p w (setUp x) h = absurd h
+frame-step b i ch s p w (clockTree t cycle) h = absurd h
+frame-step b i ch s p w (enable word value) h = frame-enable b i ch s p w word value
+frame-step b i ch s p w (setPin q mode od out pu pd f cycle places) h = frame-setPin b i ch s p w q mode od out pu pd f cycle places (h .0) (h .1)
+frame-step b i ch s p w (drivePin q e cycle places) h = frame-drivePin b i ch s p w q e cycle places
+frame-step b i ch s p w (resetPins cycle places) h = absurd h
+frame-step b i ch s p w (read j offset size cycle) h = frame-read b i s p j offset size cycle
+frame-step b i ch s p w (write j offset size value cycle places) h = frame-write b i ch s p w j offset size value cycle places h
+frame-step b i ch s p w (peek j offset cycle) h = frame-peek b i s p j offset cycle
+frame-step b i ch s p w (resetTimer j cycle places) h = frame-reset-other b i ch s p w j cycle places h
+frame-step b i ch s p w (deliver j cycle places) h = frame-deliver-other b i ch s p w j cycle places h
+frame-step b i ch s p w (queryBooked j) h = frame-queryBooked b i s p j
+frame-step b i ch s p w queryNext h = frame-queryNext b i s p
+frame-step b i ch s p w (queryLevel pin) h = frame-queryLevel b i s p pin
+frame-step b i ch s p w (queryVolts pin) h = frame-queryVolts b i s p pin
+frame-step b i ch s p w (queryLine irq) h = frame-queryLine b i s p irq
+frame-step b i ch s p w (queryTime cycle) h = frame-queryTime b i s p cycle
+frame-step b i ch s p w (clearPending irq) h = frame-clearPending b i s p irq
+
+-- ---- "1 to 7 [..] change nothing"
+
+-- an outcome of the board b: a number from 1 to 7 left it as it was
+record Honest (b : Board) (o : Outcome) : Type 0 where
+  board : 1 ≤ o .number → o .number ≤ 7 → o .board ≡ b
+  entries : 1 ≤ o .number → o .number ≤ 7 → o .entries ≡ []
+
+honest-served : (b : Board) (o : Outcome) → o .number ≡ 0 → Honest b o
+honest-served b o e = record { board = λ l h. absurd (omega arith); entries = λ l h. absurd (omega arith) }
+
+honest-refused : (b : Board) (n : ℕ) → Honest b (record { number = n; value = 0; entries = []; board = b })
+honest-refused b n = record { board = λ _ _. refl; entries = λ _ _. refl }
+
+run-number : (n now div left : ℕ) (t : Timer) (x : Pads) → 1 ≤ D.run n now div left t x .number → D.run n now div left t x .number ≤ 7 → ⊥
+unfolding D.run
+run-number zero now div left t x = either (λ (k : ℕ). 1 ≤ k → k ≤ 7 → ⊥) (dueBy (nextEvent t) now) (λ l h. omega arith) (λ l h. omega arith)
+run-number (suc n) now div left t x =
+    let u = turnOf t x (nextEvent t) div in
+    let r = run-number n now div (left - length (u .entries)) (u .timer) (u .pads) in
+    either (λ (y : Run). 1 ≤ y .number → y .number ≤ 7 → ⊥) (dueBy (nextEvent t) now)
+    (either (λ (y : Run). 1 ≤ y .number → y .number ≤ 7 → ⊥) (ltb left 4) (λ l h. omega arith) r)
+    (λ l h. omega arith)
+
+honest-delivered : (b : Board) (j cycle places : ℕ) → Honest b (deliveredTo b j cycle places)
+unfolding deliveredTo delivered
+honest-delivered b j cycle places =
+    let r = run-number mostEvents cycle (dividerOf b (timerAt b j)) places (timerAt b j) (b .pads) in
+    record { board = λ l h. absurd (r l h); entries = λ l h. absurd (r l h) }
+
+honest-followed : (b : Board) (j cycle : ℕ) (x : Written) → Honest b (followed b j cycle x)
+unfolding followed
+honest-followed b j cycle x = honest-served b _ refl
+
+honest-reset : (b : Board) (j cycle : ℕ) → Honest b (timerReset b j cycle)
+unfolding timerReset
+honest-reset b j cycle = honest-served b _ refl
+
+honest : (b : Board) (c : Call) → Honest b (step b c)
+unfolding step
+honest b (setUp x) =
+    either (Honest b) (not (withinLimits x)) (honest-refused b 1) (either (Honest b) (not (positive (x .hz))) (honest-refused b 4) (honest-served b _ refl))
+honest b (clockTree t cycle) =
+    either (Honest b) (not (good t)) (honest-refused b 4) (either (Honest b) (astray b cycle) (honest-refused b 5) (honest-served b _ refl))
+honest b (enable word value) = either (Honest b) (absent word 9) (honest-refused b 2) (honest-served b _ refl)
+honest b (setPin q mode od out pu pd f cycle places) =
+    either (Honest b) (absent q (b .counts .pins)) (honest-refused b 2)
+    (either (Honest b) (astray b cycle) (honest-refused b 5) (either (Honest b) (bookFull places) (honest-refused b 6) (honest-served b _ refl)))
+honest b (drivePin q e cycle places) =
+    either (Honest b) (absent q (b .counts .pins)) (honest-refused b 2)
+    (either (Honest b) (astray b cycle) (honest-refused b 5) (either (Honest b) (bookFull places) (honest-refused b 6) (honest-served b _ refl)))
+honest b (resetPins cycle places) =
+    either (Honest b) (astray b cycle) (honest-refused b 5) (either (Honest b) (ltb places (b .counts .pins)) (honest-refused b 6) (honest-served b _ refl))
+honest b (read j offset size cycle) =
+    either (Honest b) (absent j (b .counts .timers)) (honest-refused b 2)
+    (either (Honest b) (oddSize size) (honest-refused b 3) (either (Honest b) (astray b cycle) (honest-refused b 5) (honest-served b _ refl)))
+honest b (write j offset size value cycle places) =
+    let x = written b (timerAt b j) offset size value cycle in
+    either (Honest b) (absent j (b .counts .timers)) (honest-refused b 2)
+    (either (Honest b) (oddSize size) (honest-refused b 3)
+    (either (Honest b) (astray b cycle) (honest-refused b 5)
+    (either (Honest b) (bookFull places) (honest-refused b 6)
+    (either (Honest b) (clockOn b (timerAt b j))
+    (either (Honest b) (counterAstray (register offset) (x .timer)) (honest-refused b 7) (honest-followed b j cycle x))
+    (honest-served b _ refl)))))
+honest b (peek j offset cycle) =
+    either (Honest b) (absent j (b .counts .timers)) (honest-refused b 2) (either (Honest b) (astray b cycle) (honest-refused b 5) (honest-served b _ refl))
+honest b (resetTimer j cycle places) =
+    either (Honest b) (absent j (b .counts .timers)) (honest-refused b 2)
+    (either (Honest b) (astray b cycle) (honest-refused b 5) (either (Honest b) (bookFull places) (honest-refused b 6) (honest-reset b j cycle)))
+honest b (deliver j cycle places) =
+    either (Honest b) (absent j (b .counts .timers)) (honest-refused b 2)
+    (either (Honest b) (astray b cycle) (honest-refused b 5) (either (Honest b) (bookFull places) (honest-refused b 6) (honest-delivered b j cycle places)))
+honest b (queryBooked j) = either (Honest b) (absent j (b .counts .timers)) (honest-refused b 2) (honest-served b _ refl)
+honest b queryNext = honest-served b _ refl
+honest b (queryLevel pin) = either (Honest b) (absent pin (b .counts .pins)) (honest-refused b 2) (honest-served b _ refl)
+honest b (queryVolts pin) = either (Honest b) (absent pin (b .counts .pins)) (honest-refused b 2) (honest-served b _ refl)
+honest b (queryLine irq) = honest-served b _ refl
+honest b (queryTime cycle) = either (Honest b) (astray b cycle) (honest-refused b 5) (honest-served b _ refl)
+honest b (clearPending irq) = honest-served b _ refl
+
+pub refused-board : (b : Board) (c : Call) → 1 ≤ step b c .number → step b c .number ≤ 7 → step b c .board ≡ b
+refused-board b c l h = honest b c .board l h
+
+pub refused-entries : (b : Board) (c : Call) → 1 ≤ step b c .number → step b c .number ≤ 7 → step b c .entries ≡ []
+refused-entries b c l h = honest b c .entries l h
+
+-- so a refused call of any kind leaves the pilot alone
+pub frame-refused : (b : Board) (i s p : ℕ) (c : Call) → 1 ≤ step b c .number → step b c .number ≤ 7 → Rest i s p b (step b c)
+frame-refused b i s p c l h = record {
+  past = rw (refused-board b c l h) (past-refl i s p b);
+  spared = rw (refused-entries b c l h) tt;
+}

@@ -1,0 +1,250 @@
+-- What each call does (document 01): the refusals, lowest number first, then the call.
+use mathlib.Core.Bool.{Bool, true, false, cond, not, _&&_, _||_}
+use mathlib.Core.List.{List, [], _∷_, _++_}
+use Prim.Native.Nat.{ℕ, zero, suc, _+_, _-_, _*_, _/_, _%_}
+use lib.Dec.{eqb, ltb, leb}
+use lib.ListN.{getD, set, length}
+use Rattle.tim.specs.declared.Timer.{Timer}
+use Rattle.tim.specs.declared.Inst.{Inst}
+use Rattle.tim.specs.declared.Written.{Written}
+use Rattle.tim.specs.Regs as R
+use Rattle.tim.specs.Change.{resetState, retimed}
+use Rattle.rm0440.specs.Bits.{isSet}
+use Rattle.periph.specs.Lane.{laneRead, laneWrite}
+use Rattle.real.specs.Real.{positive, bitsOf}
+use Rattle.clk.specs.declared.ClockTree.{ClockTree}
+use Rattle.clk.specs.Clk.{good, differing, timerDiv}
+use Rattle.pins.specs.Clock as Clock
+use Rattle.words.specs.declared.PinCfg.{PinCfg}
+use Rattle.pins.specs.declared.ExtDrive.{ExtDrive}
+use Rattle.nvic.specs.Nvic as N
+use Rattle.scheduler.specs.Booking as S
+use Rattle.gpio.specs.declared.Change.{Change}
+use Rattle.book.specs.Book.{Entry, entryOf, entriesOf}
+use Rattle.machine.specs.Board.{Board, Pads, Clocks, timerAt, gpioAt, withTimer, withPads, withNvic, withBooking, withClocks, withLast, freshBoard, firstBoard}
+use Rattle.machine.specs.Sys as Sys
+use Rattle.machine.specs.Deliver.{dividerOf, lineSettled, rebooked, delivered, settled}
+use Rattle.machine.specs.Call.{Setup, Call, setUp, clockTree, enable, setPin, drivePin, resetPins, read, write, peek, resetTimer, deliver, queryBooked, queryNext, queryLevel, queryVolts, queryLine, queryTime, clearPending, Outcome, refused, served}
+
+-- ---- refusals: "The lowest number that applies is given."
+
+-- n where the test holds, else what follows
+abbrev pub refuseIf : Bool → ℕ → Board → Outcome → Outcome
+refuseIf test n b o = cond test (refused n b) o
+
+-- 2: "no timer, pin or enable word of that index"
+abbrev pub absent : ℕ → ℕ → Bool
+absent i count = leb count i
+
+-- 3: "a read or write size other than 1, 2, 4"
+abbrev pub oddSize : ℕ → Bool
+oddSize size = not (eqb size 1 || (eqb size 2 || eqb size 4))
+
+-- 5: "the cycle is above 2^62, or below the cycle of the last changing call"
+abbrev pub astray : Board → ℕ → Bool
+astray b cycle = ltb 4611686018427387904 cycle || ltb cycle (b .counts .last)
+
+-- 6: "with under 4 places"
+abbrev pub bookFull : ℕ → Bool
+bookFull places = ltb places 4
+
+-- ---- set-up: "Set-up limits"
+
+-- no number among the others
+unfoldable pub fresh : ℕ → List Inst → Bool
+fresh n [] = true
+fresh n (i ∷ is) = not (eqb (i .n) n) && fresh n is
+
+abbrev pub instGood : Inst → Bool
+instGood i =
+    leb 1 (i .n) && leb (i .n) 24 && (eqb (i .width) 16 || eqb (i .width) 32) && leb (i .channels) 4 && leb (i .«en_reg») 8 && leb (i .«en_bit») 31
+
+unfoldable pub instsGood : List Inst → Bool
+instsGood [] = true
+instsGood (i ∷ is) = instGood i && fresh (i .n) is && instsGood is
+
+unfoldable pub entriesBelow : ℕ → List ℕ → Bool
+entriesBelow n [] = true
+entriesBelow n (x ∷ xs) = ltb x n && entriesBelow n xs
+
+unfoldable pub withinLimits : Setup → Bool
+withinLimits s =
+    leb 1 (length (s .timers)) && leb (length (s .timers)) 8 && leb 1 (s .pins) && leb (s .pins) 128 && leb (s .lines) 256 && instsGood (s .timers)
+    && positive (s .vcc) && eqb (length (s .table)) (s .pins * 16) && entriesBelow 256 (s .table)
+
+-- ---- a timer
+
+-- "with the enable bit clear a read gives 0 and a write does nothing"
+abbrev pub clockOn : Board → Timer → Bool
+clockOn b t = isSet (t .inst .«en_bit») (getD (b .clocks .enr) (t .inst .«en_reg») 0)
+
+-- "The register is chosen by the offset with its low two bits cleared."
+abbrev pub register : ℕ → ℕ
+register offset = offset / 4 * 4
+
+-- "A partial write merges its lane into the register's present value (0 for EGR)"
+abbrev pub present : Timer → ℕ → ℕ → ℕ
+present t off cycle = cond (eqb off 0x14) 0 (R.regRead t off cycle)
+
+unfoldable pub written : Board → Timer → ℕ → ℕ → ℕ → ℕ → Written
+written b t offset size value cycle =
+    R.regWritten t (register offset) (laneWrite (present t (register offset) cycle) offset size value) cycle (dividerOf b t)
+
+-- 7: "an ungated write to CR1, CNT or ARR after which the timer would run upward with counter above active reload + 1"
+abbrev pub counterAstray : ℕ → Timer → Bool
+counterAstray off t = (eqb off 0x00 || (eqb off 0x24 || eqb off 0x2c)) && R.astray t
+
+-- what follows from a write: the outputs, the line, the booking
+unfoldable pub followed : Board → ℕ → ℕ → Written → Outcome
+followed b i cycle w =
+    let t = w .timer in
+    let d = Sys.driveOutputs t (w .cnt) (b .pads) in
+    let p = cond (w .drive) (d .pads) (b .pads) in
+    let c = withPads (withTimer b i t) p in
+    let l = cond (w .line) (lineSettled t c) c in
+    let k = cond (w .book) (rebooked i t cycle l) l in
+    record { number = 0; value = 0; entries = cond (w .drive) (entriesOf cycle (d .changes)) []; board = withLast k cycle }
+
+-- timer reset: reset values, no booking, the line and the outputs settled
+unfoldable pub timerReset : Board → ℕ → ℕ → Outcome
+timerReset b i cycle =
+    let t = resetState (timerAt b i .inst) (dividerOf b (timerAt b i)) in
+    let d = Sys.driveOutputs t 0 (b .pads) in
+    let c = lineSettled t (withPads (withTimer b i t) (d .pads)) in
+    record {
+      number = 0;
+      value = 0;
+      entries = entriesOf cycle (d .changes);
+      board = withLast (withBooking c (S.cancel (c .booking) i)) cycle;
+    }
+
+unfoldable pub deliveredTo : Board → ℕ → ℕ → ℕ → Outcome
+deliveredTo b i cycle places =
+    let r = delivered b i cycle places in
+    record { number = r .number; value = r .events; entries = r .entries; board = withLast (settled b i cycle (r .timer) (r .pads)) cycle }
+
+-- ---- the clock tree: "`set_clock_tree`, then if it changed `on_clock_change` for each timer in index order"
+
+-- timer i with the tree's divider: its step, and its booking if it runs
+unfoldable pub timerRetimed : ℕ → ℕ → Board → Board
+timerRetimed i cycle b =
+    let t = retimed (timerAt b i) cycle (dividerOf b (timerAt b i)) in
+    cond (t .count .running) (rebooked i t cycle (withTimer b i t)) (withTimer b i t)
+
+-- n timers from i on
+unfoldable pub allRetimed : ℕ → ℕ → ℕ → Board → Board
+allRetimed zero i cycle b = b
+allRetimed (suc n) i cycle b = allRetimed n (i + 1) cycle (timerRetimed i cycle b)
+
+unfoldable pub treeSet : Board → ClockTree → ℕ → Board
+treeSet b t cycle =
+    let c = withClocks b (record { tree = t; clock = Clock.hzSet (b .clocks .clock) (t .«hclk_hz») cycle; enr = b .clocks .enr }) in
+    cond (differing (b .clocks .tree) t) (allRetimed (b .counts .timers) 0 cycle c) c
+
+-- ---- pins
+
+-- "A mode above 3 acts as input, output bit and pulls are yes or no"
+abbrev pub yes : ℕ → Bool
+yes n = not (eqb n 0)
+
+abbrev pub cfgOf : ℕ → ℕ → ℕ → ℕ → ℕ → PinCfg
+cfgOf mode openDrain out pullup pulldown = record {
+  mode = cond (leb mode 3) mode 0;
+  «open_drain» = yes openDrain;
+  odr = cond (yes out) 1 0;
+  pullup = yes pullup;
+  pulldown = yes pulldown;
+}
+
+-- a pin's change becomes an entry at the call's cycle
+abbrev pub moved : Board → ℕ → Sys.Move → Outcome
+moved b cycle m = record { number = 0; value = 0; entries = entryOf cycle (m .change); board = withLast (withPads b (m .pads)) cycle }
+
+unfoldable pub changesOf : ℕ → List Change → List Entry
+changesOf cycle [] = []
+changesOf cycle (c ∷ cs) = entryOf cycle c ++ changesOf cycle cs
+
+abbrev pub pinsReset : Board → ℕ → Outcome
+pinsReset b cycle =
+    let r = Sys.resetPins (b .pads) (b .counts .pins) in
+    record { number = 0; value = 0; entries = changesOf cycle (r .changes); board = withLast (withPads b (r .pads)) cycle }
+
+-- ---- every call
+
+unfoldable pub step : Board → Call → Outcome
+step b (setUp s) =
+    refuseIf (not (withinLimits s)) 1 b
+    (refuseIf (not (positive (s .hz))) 4 b
+    (served 0 (freshBoard (s .hz) (s .vcc) (s .pins) (s .lines) (s .timers) (s .table))))
+step b (clockTree t cycle) =
+    refuseIf (not (good t)) 4 b
+    (refuseIf (astray b cycle) 5 b
+    (served 0 (withLast (treeSet b t cycle) cycle)))
+step b (enable word value) =
+    refuseIf (absent word 9) 2 b
+    (served 0 (withClocks b (record { tree = b .clocks .tree; clock = b .clocks .clock; enr = set (b .clocks .enr) word value })))
+step b (setPin pin mode openDrain out pullup pulldown function cycle places) =
+    refuseIf (absent pin (b .counts .pins)) 2 b
+    (refuseIf (astray b cycle) 5 b
+    (refuseIf (bookFull places) 6 b
+    (moved b cycle (Sys.setPin (b .pads) pin (cfgOf mode openDrain out pullup pulldown) function))))
+step b (drivePin pin e cycle places) =
+    refuseIf (absent pin (b .counts .pins)) 2 b
+    (refuseIf (astray b cycle) 5 b
+    (refuseIf (bookFull places) 6 b
+    (moved b cycle (Sys.drivePin (b .pads) pin e))))
+step b (resetPins cycle places) =
+    refuseIf (astray b cycle) 5 b
+    (refuseIf (ltb places (b .counts .pins)) 6 b
+    (pinsReset b cycle))
+step b (read timer offset size cycle) =
+    refuseIf (absent timer (b .counts .timers)) 2 b
+    (refuseIf (oddSize size) 3 b
+    (refuseIf (astray b cycle) 5 b
+    (let t = timerAt b timer in
+    served (cond (clockOn b t) (laneRead (R.regRead t (register offset) cycle) offset size) 0) b)))
+step b (write timer offset size value cycle places) =
+    refuseIf (absent timer (b .counts .timers)) 2 b
+    (refuseIf (oddSize size) 3 b
+    (refuseIf (astray b cycle) 5 b
+    (refuseIf (bookFull places) 6 b
+    (let t = timerAt b timer in
+    let w = written b t offset size value cycle in
+    cond (clockOn b t)
+    (refuseIf (counterAstray (register offset) (w .timer)) 7 b (followed b timer cycle w))
+    (served 0 (withLast b cycle))))))
+step b (peek timer offset cycle) =
+    refuseIf (absent timer (b .counts .timers)) 2 b
+    (refuseIf (astray b cycle) 5 b
+    (served (R.regRead (timerAt b timer) (register offset) cycle) b))
+step b (resetTimer timer cycle places) =
+    refuseIf (absent timer (b .counts .timers)) 2 b
+    (refuseIf (astray b cycle) 5 b
+    (refuseIf (bookFull places) 6 b
+    (timerReset b timer cycle)))
+step b (deliver timer cycle places) =
+    refuseIf (absent timer (b .counts .timers)) 2 b
+    (refuseIf (astray b cycle) 5 b
+    (refuseIf (bookFull places) 6 b
+    (deliveredTo b timer cycle places)))
+step b (queryBooked timer) =
+    refuseIf (absent timer (b .counts .timers)) 2 b (served (S.cycleOf (b .booking) timer) b)
+step b queryNext = served (S.least (b .booking)) b
+step b (queryLevel pin) =
+    refuseIf (absent pin (b .counts .pins)) 2 b (served (gpioAt (b .pads) pin .pin .level) b)
+step b (queryVolts pin) =
+    refuseIf (absent pin (b .counts .pins)) 2 b (served (bitsOf (gpioAt (b .pads) pin .pin .volts)) b)
+step b (queryLine irq) = served (N.stateOf (N.lineAt (b .nvic) irq)) b
+step b (queryTime cycle) =
+    refuseIf (astray b cycle) 5 b (served (bitsOf (Clock.timeAt (b .clocks .clock) cycle)) b)
+step b (clearPending irq) = served 0 (withNvic b (N.clearPending (b .nvic) irq))
+
+-- a list of calls: each gets the board that the last one left
+unfoldable pub run : Board → List Call → List Outcome
+run b [] = []
+run b (c ∷ cs) = step b c ∷ run (step b c .board) cs
+
+-- the board after a list of calls
+unfoldable pub boardAfter : Board → List Call → Board
+boardAfter b [] = b
+boardAfter b (c ∷ cs) = boardAfter (step b c .board) cs

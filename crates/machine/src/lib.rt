@@ -1,0 +1,1 @@
+// The whole machine as a definition: see specs/. No code.

@@ -1,0 +1,4 @@
+pub mod Copies
+pub mod Places
+pub mod Stores
+pub mod Blank

@@ -1,0 +1,148 @@
+-- What the view has at a place, of the words and the reals there. Assumes nothing.
+use mathlib.Core.Path.{_≡_, refl, ap, sym, _∙_}
+use mathlib.Core.Bool.{Bool, true, false}
+use mathlib.Core.List.{List, [], _∷_, map}
+use Prim.Native.Nat.{ℕ, zero, suc, _+_, _*_, _%_, _<_, _≤_, min}
+use native.Mathlib.Nat.{add-zero, add-assoc}
+use native.Mathlib.Omega.{arith}
+use borrow.Author.Tests.{lt-ltb, ltb-true, ltb-false}
+use lib.Dec.{ltb, lit≤}
+use lib.ListN.{length, getD, drop, List·getD-map}
+use lib.Seq.{getD-drop}
+use lib.Ieee.{Float, nan}
+use Rattle.nvic.specs.Nvic.{lineOf, lineAt}
+use Rattle.nvic.proofs.Laws.{word-at}
+use Rattle.words.specs.declared.Gpio.{Gpio}
+use Rattle.words.specs.Codec.{decodeTimer, decodeGpio}
+use Rattle.state.specs.Board.{timerAt, gpioAt, routeAt, sigLevelAt, enrAt, bookedAt}
+use Rattle.state.specs.Parts.{getD-any, start, front, parts, blocks, map-at, front-at, part-at, part-front, part-block, length-part, length-blocks}
+use Rattle.state.specs.Bounded.{bounded}
+use Rattle.machine.specs.Board.{noTimer, noGpio}
+use Rattle.state.specs.View.{sizes, realSizes, view, gpiosOf, pinOf, levelOf, signalOf, enableOf, dividerOf}
+
+pub gpios-at : (bs : List (List ℕ)) (rs : List (List Float)) (p : ℕ) (d : Gpio) → p < length bs
+    → getD (gpiosOf bs rs) p d ≡ decodeGpio (getD bs p []) (getD (getD rs p []) 0 nan) (getD (getD rs p []) 1 nan)
+unfolding gpiosOf
+gpios-at [] rs p d h = absurd (omega arith)
+gpios-at (b ∷ bs) rs zero d h = refl
+gpios-at (b ∷ bs) [] (suc p) d h = gpios-at bs [] p d (omega arith)
+gpios-at (b ∷ bs) (r ∷ rs) (suc p) d h = gpios-at bs rs p d (omega arith)
+
+module _ (w : List ℕ) (x : List Float) where
+  -- a mapped part's element
+  mapped : (f : ℕ → ℕ) (i k e : ℕ) → k < getD sizes i 0 → getD (map f (getD (parts 0 sizes w) i [])) k e ≡ f (getD w (start sizes i + k) 0)
+  mapped f i k e h = map-at f (getD (parts 0 sizes w) i []) k 0 e (omega (arith, length-part 0 sizes i w)) ∙ ap f (part-at 0 sizes i k w h)
+
+  pub timer-read : (i : ℕ) → i < 8 → timerAt (view w x) i ≡ decodeTimer (front 0 40 (drop (0 + i * 40) w))
+  unfolding view start
+  timer-read i h =
+      map-at decodeTimer (blocks 0 8 40 (getD (parts 0 sizes w) 0 [])) i [] noTimer (omega (arith, length-blocks 0 8 40 (getD (parts 0 sizes w) 0 [])))
+      ∙ ap decodeTimer (part-block 0 sizes 0 8 40 i w (omega arith) h (lit≤ tt))
+
+  pub route-read : (s : ℕ) → s < 256 → routeAt (view w x) s ≡ min (getD w (348 + s) 0) 128
+  unfolding view start
+  route-read s h = mapped pinOf 6 s 128 h
+
+  pub level-read : (s : ℕ) → s < 256 → sigLevelAt (view w x) s ≡ getD w (604 + s) 0 % 2
+  unfolding view start
+  level-read s h = mapped levelOf 7 s 0 h
+
+  pub af-read : (k : ℕ) → k < 2048 → getD (view w x .pads .af) k 0 ≡ getD w (3164 + k) 0 % 256
+  unfolding view start
+  af-read k h = mapped signalOf 10 k 0 h
+
+  pub enr-read : (i : ℕ) → i < 9 → enrAt (view w x) i ≡ getD w (331 + i) 0 % 4294967296
+  unfolding view start
+  enr-read i h = mapped enableOf 4 i 0 h
+
+  pub booking-read : (owner : ℕ) → owner < 8 → bookedAt (view w x) owner ≡ getD w (340 + owner) 0
+  unfolding view start
+  booking-read owner h =
+      getD-any (getD (parts 0 sizes w) 5 []) owner _ 0 (omega (arith, length-part 0 sizes 5 w)) ∙ part-at 0 sizes 5 owner w h
+
+  pub booking-all : view w x .booking ≡ front 0 8 (drop 340 w)
+  unfolding view start
+  booking-all = part-front 0 sizes 5 w (lit≤ tt)
+
+  pub timers-read : view w x .counts .timers ≡ min (getD w 320 0) 8
+  unfolding view start
+  timers-read = ap (λ (k : ℕ). min k 8) (part-at 0 sizes 1 0 w (lit≤ tt))
+
+  pub pins-read : view w x .counts .pins ≡ min (getD w 321 0) 128
+  unfolding view start
+  pins-read = ap (λ (k : ℕ). min k 128) (part-at 0 sizes 1 1 w (lit≤ tt))
+
+  pub nirq-read : view w x .nvic .nirq ≡ min (getD w 322 0) 256
+  unfolding view start
+  nirq-read = ap (λ (k : ℕ). min k 256) (part-at 0 sizes 1 2 w (lit≤ tt))
+
+  pub last-read : view w x .counts .last ≡ getD w 323 0
+  unfolding view start
+  last-read = part-at 0 sizes 1 3 w (lit≤ tt)
+
+  pub vcc-read : view w x .pads .vcc ≡ getD x 256 nan
+  unfolding view start
+  vcc-read = part-at nan realSizes 1 0 x (lit≤ tt)
+
+  divider : (k : ℕ) → k < 6 → dividerOf (getD (getD (parts 0 sizes w) 2 []) k 0) ≡ dividerOf (getD w (324 + k) 0)
+  unfolding start
+  divider k h = ap dividerOf (part-at 0 sizes 2 k w h)
+
+  pub tree-read : view w x .clocks .tree ≡ record {
+    «sysclk_hz» = getD x 257 nan;
+    «hclk_hz» = getD x 258 nan;
+    ppre1 = dividerOf (getD w 324 0);
+    ppre2 = dividerOf (getD w 325 0);
+    ppre3 = dividerOf (getD w 326 0);
+    ppre4 = dividerOf (getD w 327 0);
+    tim1 = dividerOf (getD w 328 0);
+    tim2 = dividerOf (getD w 329 0);
+  }
+  unfolding view start
+  tree-read =
+      rw (
+        part-at nan realSizes 2 0 x (lit≤ tt),
+        part-at nan realSizes 2 1 x (lit≤ tt),
+        divider 0 (lit≤ tt),
+        divider 1 (lit≤ tt),
+        divider 2 (lit≤ tt),
+        divider 3 (lit≤ tt),
+        divider 4 (lit≤ tt),
+        divider 5 (lit≤ tt),
+      )
+
+  pub clock-read : view w x .clocks .clock ≡ record { hz = getD x 259 nan; «seg_cycle» = getD w 330 0; «seg_time» = getD x 260 nan }
+  unfolding view start
+  clock-read = rw (part-at nan realSizes 3 0 x (lit≤ tt), part-at 0 sizes 3 0 w (lit≤ tt), part-at nan realSizes 3 1 x (lit≤ tt))
+
+  pub gpio-read : (p : ℕ) → p < 128
+      → gpioAt (view w x) p ≡ decodeGpio (front 0 16 (drop (1116 + p * 16) w)) (getD x (0 + p * 2) nan) (getD x (0 + (p * 2 + 1)) nan)
+  unfolding view start
+  gpio-read p h =
+      let bs : List (List ℕ) = blocks 0 128 16 (getD (parts 0 sizes w) 9 []) in
+      let rs : List (List Float) = blocks nan 128 2 (getD (parts nan realSizes x) 0 []) in
+      let e : getD bs p [] ≡ front 0 16 (drop (1116 + p * 16) w) = part-block 0 sizes 9 128 16 p w (lit≤ tt) h (lit≤ tt) in
+      let f : getD rs p [] ≡ front nan 2 (drop (0 + p * 2) x) = part-block nan realSizes 0 128 2 p x (lit≤ tt) h (lit≤ tt) in
+      let real : (k : ℕ) → k < 2 → getD (getD rs p []) k nan ≡ getD x (0 + p * 2 + k) nan =
+      (λ k g. ap (λ (l : List Float). getD l k nan) f ∙ front-at nan 2 (drop (0 + p * 2) x) k g ∙ getD-drop (0 + p * 2) x k nan) in
+      let v : getD (getD rs p []) 0 nan ≡ getD x (0 + p * 2) nan = real 0 (lit≤ tt) ∙ ap (λ (k : ℕ). getD x k nan) (add-zero (0 + p * 2)) in
+      let u : getD (getD rs p []) 1 nan ≡ getD x (0 + (p * 2 + 1)) nan = real 1 (lit≤ tt) ∙ ap (λ (k : ℕ). getD x k nan) (add-assoc 0 (p * 2) 1) in
+      gpios-at bs rs p noGpio (omega (arith, length-blocks 0 128 16 (getD (parts 0 sizes w) 9 []))) ∙ rw (e, v, u)
+
+  -- a line that there is
+  pub line-read : (irq : ℕ) → irq < view w x .nvic .nirq → lineAt (view w x .nvic) irq ≡ lineOf (getD w (860 + irq) 0)
+  unfolding view start
+  line-read irq h =
+      word-at (getD (parts 0 sizes w) 8 []) (view w x .nvic .nirq) irq (lt-ltb _ _ h)
+      ∙ ap lineOf (part-at 0 sizes 8 irq w (omega (arith, bounded w x .nirq-le)))
+
+-- the test of a line, of the view's line count; and its word's place
+module _ (w : List ℕ) (count irq : ℕ) (r : Bool) (e : (x : List Float) → count ≡ view w x .nvic .nirq) (t : r ≡ ltb irq count) where
+  pub line-there : (x : List Float) → r ≡ true → irq < view w x .nvic .nirq
+  line-there x h = omega (arith, ltb-true irq count (sym t ∙ h), e x)
+
+  pub line-absent : (x : List Float) → r ≡ false → view w x .nvic .nirq ≤ irq
+  line-absent x h = omega (arith, ltb-false irq count (sym t ∙ h), e x)
+
+  pub line-place : r ≡ true → 860 + irq < 5276
+  line-place h = omega (arith, line-there [] h, bounded w [] .nirq-le)

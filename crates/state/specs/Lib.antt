@@ -1,0 +1,5 @@
+pub mod Board
+pub mod Parts
+pub mod View
+pub mod Bounded
+pub mod Fresh

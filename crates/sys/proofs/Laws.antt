@@ -1,0 +1,122 @@
+-- What the functions leave, over any board: each step's equation in, the definition's board out. Assumes nothing.
+use mathlib.Core.Path.{_≡_, refl, ap, sym, _∙_}
+use mathlib.Core.Bool.{Bool, true, false, cond}
+use Prim.Native.Nat.{ℕ, _≤_, _<_}
+use lib.Dec.{eqb}
+use lib.Ieee.{Float}
+use borrow.Author.Tests.{eq-eqb, ne-eqb, lt-ltb, le-ltb, lt-leb, le-leb}
+use Rattle.tim.specs.declared.Timer.{Timer}
+use Rattle.tim.specs.Change.{output}
+use Rattle.sig.specs.Signal.{timSignal}
+use Rattle.pins.specs.declared.ExtDrive.{ExtDrive}
+use Rattle.words.specs.declared.Gpio.{Gpio}
+use Rattle.words.specs.declared.PinCfg.{PinCfg}
+use Rattle.gpio.specs.declared.Change.{Change}
+use Rattle.gpio.specs.declared.Change.the-variants.{Same}
+use Rattle.gpio.specs.declared.Moved.{Moved}
+use Rattle.gpio.specs.Gpio.{signalOf, updated, refreshed, configured, connected, bit}
+use Rattle.book.specs.declared.Changes.{Changes}
+use Rattle.machine.specs.Board.{Board, Pads, gpioAt, routeOf, levelOf, withPads, withGpio, withSigLevel, noPin}
+use Rattle.machine.specs.Sys.{Move, updatePin, refreshPin, leave, take, selected, selectAf, setPin, drivePin, sigOut, driver, driveChannel, fourChannels, noChanges, driveOutputs}
+use Rattle.sys.specs.Moves.{Moves, Drives}
+
+module _ (b b₁ : Board) (i : ℕ) (g : Gpio) (v : Float) (m : Moved) (load : g ≡ gpioAt (b .pads) i) (supply : v ≡ b .pads .vcc)
+    (store : b₁ ≡ withPads b (withGpio (b .pads) i (m .gpio))) where
+  moved : (p : Moved) → m ≡ p → (o : Move) → o ≡ record { pads = withGpio (b .pads) i (p .gpio); change = p .change } → Moves o b b₁ (m .change)
+  moved p e o k = rw k (record { board = store ∙ ap (λ (x : Moved). withPads b (withGpio (b .pads) i (x .gpio))) e; change = ap (λ (x : Moved). x .change) e })
+
+  pub update-moves : m ≡ updated i g v → Moves (updatePin (b .pads) i) b b₁ (m .change)
+  unfolding updatePin
+  update-moves h = moved (updated i (gpioAt (b .pads) i) (b .pads .vcc)) (h ∙ ap (λ (x : Gpio). updated i x v) load ∙ ap (updated i (gpioAt (b .pads) i)) supply) _ refl
+
+  pub refresh-moves : (s l : ℕ) → s ≡ signalOf g → l ≡ levelOf (b .pads) s → m ≡ refreshed i g l v → Moves (refreshPin (b .pads) i) b b₁ (m .change)
+  unfolding refreshPin
+  refresh-moves s l q r h =
+      moved (refreshed i (gpioAt (b .pads) i) (levelOf (b .pads) (signalOf (gpioAt (b .pads) i))) (b .pads .vcc))
+      (h ∙ ap (λ (x : ℕ). refreshed i g x v) (r ∙ ap (levelOf (b .pads)) q)
+      ∙ ap (λ (x : Gpio). refreshed i x (levelOf (b .pads) (signalOf x)) v) load
+      ∙ ap (refreshed i (gpioAt (b .pads) i) (levelOf (b .pads) (signalOf (gpioAt (b .pads) i)))) supply)
+      _ refl
+
+-- ---- a pin configured, and its routes
+pub select-sets : (b b₁ b₂ b₃ : Board) (i : ℕ) (g g₁ : Gpio) (c : PinCfg) (f new : ℕ)
+    → g ≡ gpioAt (b .pads) i → new ≡ selected (b .pads) i c f → g₁ ≡ configured g c new
+    → b₁ ≡ withPads b (withGpio (b .pads) i g₁) → b₂ ≡ withPads b₁ (leave (b₁ .pads) i (g .sig)) → b₃ ≡ withPads b₂ (take (b₂ .pads) i new)
+    → b₃ ≡ withPads b (selectAf (b .pads) i c f)
+unfolding selectAf
+select-sets b b₁ b₂ b₃ i g g₁ c f new load sel conf p q r =
+    let g′ = configured (gpioAt (b .pads) i) c (selected (b .pads) i c f) in
+    let e : g₁ ≡ g′ = conf ∙ ap (λ (x : Gpio). configured x c new) load ∙ ap (configured (gpioAt (b .pads) i) c) sel in
+    let x₁ = withPads b (withGpio (b .pads) i g′) in
+    let e₁ : b₁ ≡ x₁ = p ∙ ap (λ (x : Gpio). withPads b (withGpio (b .pads) i x)) e in
+    let x₂ = withPads x₁ (leave (x₁ .pads) i (gpioAt (b .pads) i .sig)) in
+    let e₂ : b₂ ≡ x₂ = q ∙ ap (λ (y : Board). withPads y (leave (y .pads) i (g .sig))) e₁ ∙ ap (λ (x : Gpio). withPads x₁ (leave (x₁ .pads) i (x .sig))) load in
+    r ∙ ap (λ (y : Board). withPads y (take (y .pads) i new)) e₂ ∙ ap (λ (n : ℕ). withPads x₂ (take (x₂ .pads) i n)) sel
+
+-- one thing done to the pads, then a pin moved
+pub then-moves : (b b₁ b₂ : Board) (p : Pads) (f : Pads → Move) (r : Change) → b₁ ≡ withPads b p → Moves (f (b₁ .pads)) b₁ b₂ r → Moves (f p) b b₂ r
+then-moves b b₁ b₂ p f r e m = record {
+  board = m .board ∙ ap (λ (y : Board). withPads y (f (y .pads) .pads)) e;
+  change = m .change ∙ ap (λ (y : Board). f (y .pads) .change) e;
+}
+
+-- ---- a signal
+module _ (b : Board) (s l : ℕ) where
+  pub sig-same : levelOf (b .pads) s ≡ l → Moves (sigOut (b .pads) s l) b b Same
+  unfolding sigOut
+  sig-same h = simp (eq-eqb (levelOf (b .pads) s) l h) (record { board = refl; change = refl })
+
+  module _ (n : levelOf (b .pads) s ≡ l → ⊥) (b₁ : Board) (e : b₁ ≡ withPads b (withSigLevel (b .pads) s l)) where
+    routed : routeOf (b₁ .pads) s ≡ routeOf (b .pads) s
+    routed = ap (λ (y : Board). routeOf (y .pads) s) e
+
+    pub sig-none : routeOf (b₁ .pads) s ≡ 128 → Moves (sigOut (b .pads) s l) b b₁ Same
+    unfolding sigOut
+    sig-none h = simp (ne-eqb (levelOf (b .pads) s) l n, eq-eqb (routeOf (b .pads) s) 128 (sym routed ∙ h)) (record { board = e; change = refl })
+
+    pub sig-pin : (p : ℕ) → p ≡ routeOf (b₁ .pads) s → (p ≡ 128 → ⊥) → (b₂ : Board) (r : Change) → Moves (refreshPin (b₁ .pads) p) b₁ b₂ r
+        → Moves (sigOut (b .pads) s l) b b₂ r
+    unfolding sigOut
+    sig-pin p q k b₂ r m =
+        simp (ne-eqb (levelOf (b .pads) s) l n, ne-eqb (routeOf (b .pads) s) 128 (λ z. k (q ∙ routed ∙ z)), ← (q ∙ routed))
+        (then-moves b b₁ b₂ (withSigLevel (b .pads) s l) (λ (x : Pads). refreshPin x p) r e m)
+
+-- ---- a timer's channels
+module _ (b b₁ : Board) (t : Timer) (cnt ch s l : ℕ) (r : Change) where
+  pub channel-drives : ch < t .inst .channels → s ≡ timSignal (t .inst .n) ch → l ≡ bit (output t ch cnt)
+      → Moves (sigOut (b .pads) s l) b b₁ r → Moves (driveChannel t cnt ch (b .pads)) b b₁ r
+  unfolding driveChannel
+  channel-drives h p q m = simp (lt-ltb ch (t .inst .channels) h, ← p, ← q) m
+
+pub channel-still : (b : Board) (t : Timer) (cnt ch : ℕ) → t .inst .channels ≤ ch → Moves (driveChannel t cnt ch (b .pads)) b b Same
+unfolding driveChannel
+channel-still b t cnt ch h = simp (le-ltb ch (t .inst .channels) h) (record { board = refl; change = refl })
+
+pub four : (b b₁ b₂ b₃ b₄ : Board) (t : Timer) (cnt : ℕ) (a₀ a₁ a₂ a₃ : Change)
+    → Moves (driveChannel t cnt 0 (b .pads)) b b₁ a₀ → Moves (driveChannel t cnt 1 (b₁ .pads)) b₁ b₂ a₁
+    → Moves (driveChannel t cnt 2 (b₂ .pads)) b₂ b₃ a₂ → Moves (driveChannel t cnt 3 (b₃ .pads)) b₃ b₄ a₃
+    → Drives (fourChannels t cnt (b .pads)) b b₄ (record { a = a₀; b = a₁; c = a₂; d = a₃ })
+four b b₁ b₂ b₃ b₄ t cnt a₀ a₁ a₂ a₃ m₀ m₁ m₂ m₃ =
+    let p₁ = driveChannel t cnt 0 (b .pads) .pads in
+    let p₂ = driveChannel t cnt 1 p₁ .pads in
+    let p₃ = driveChannel t cnt 2 p₂ .pads in
+    let x₁ = m₀ in
+    let x₂ : Moves (driveChannel t cnt 1 p₁) b b₂ a₁ = then-moves b b₁ b₂ p₁ (driveChannel t cnt 1) a₁ (m₀ .board) m₁ in
+    let x₃ : Moves (driveChannel t cnt 2 p₂) b b₃ a₂ = then-moves b b₂ b₃ p₂ (driveChannel t cnt 2) a₂ (x₂ .board) m₂ in
+    let x₄ : Moves (driveChannel t cnt 3 p₃) b b₄ a₃ = then-moves b b₃ b₄ p₃ (driveChannel t cnt 3) a₃ (x₃ .board) m₃ in
+    record { board = x₄ .board; changes = rw (m₀ .change, x₂ .change, x₃ .change, x₄ .change) }
+
+pub outputs-drive : (b b₁ : Board) (t : Timer) (cnt : ℕ) (r : Changes) → 2 ≤ t .inst .n → t .inst .n ≤ 4
+    → Drives (fourChannels t cnt (b .pads)) b b₁ r → Drives (driveOutputs t cnt (b .pads)) b b₁ r
+unfolding driveOutputs
+outputs-drive b b₁ t cnt r h k m = simp (le-leb 2 (t .inst .n) h, le-leb (t .inst .n) 4 k) m
+
+pub outputs-still : (b : Board) (t : Timer) (cnt : ℕ) (r : Changes) → driver (t .inst .n) ≡ false → r ≡ noChanges → Drives (driveOutputs t cnt (b .pads)) b b r
+unfolding driveOutputs
+outputs-still b t cnt r h k = simp h (record { board = refl; changes = k })
+
+pub below-two : (n : ℕ) → n < 2 → driver n ≡ false
+below-two n h = rw (lt-leb 2 n h)
+
+pub above-four : (n : ℕ) → 2 ≤ n → 4 < n → driver n ≡ false
+above-four n h k = rw (le-leb 2 n h, lt-leb n 4 k)

@@ -1,0 +1,23 @@
+-- A pin's signal is one of the 256. Assumes nothing.
+use mathlib.Core.Path.{_≡_}
+use native.Mathlib.Omega.{arith}
+use mathlib.Core.Bool.{Bool, true, false, cond}
+use mathlib.Core.List.{List}
+use Prim.Native.Nat.{ℕ, _<_}
+use lib.Dec.{eqb, lit<}
+use lib.Ieee.{Float}
+use Rattle.gpio.specs.Gpio.{signalOf}
+use Rattle.machine.specs.Board.{gpioAt, routeOf}
+use Rattle.state.specs.View.{view}
+use Rattle.state.specs.Bounded.{bounded}
+
+pub signal-small : (w : List ℕ) (x : List Float) (i : ℕ) → signalOf (gpioAt (view w x .pads) i) < 256
+signal-small w x i = go (eqb (gpioAt (view w x .pads) i .cfg .mode) 2)
+  where
+    go : (b : Bool) → cond b (gpioAt (view w x .pads) i .sig) 0 < 256
+    go true = bounded w x .gpio-sig i
+    go false = lit< tt
+
+-- a route that is some pin is one of the 128
+pub route-small : (w : List ℕ) (x : List Float) (s : ℕ) {p : ℕ} → p ≡ routeOf (view w x .pads) s → (p ≡ 128 → ⊥) → p < 128
+route-small w x s e n = omega (arith, bounded w x .route-le s)

@@ -1,0 +1,16 @@
+-- What a function over the lent state leaves: the board that a definition gives, and its level changes.
+use mathlib.Core.Path.{_≡_}
+use Rattle.gpio.specs.declared.Change.{Change}
+use Rattle.book.specs.declared.Changes.{Changes}
+use Rattle.machine.specs.Board.{Board, withPads}
+use Rattle.machine.specs.Sys.{Move, Drive}
+
+-- one pin's
+pub record Moves (m : Move) (b b₁ : Board) (r : Change) : Type 0 where
+  pub board : b₁ ≡ withPads b (m .pads)
+  pub change : r ≡ m .change
+
+-- a timer's four channels'
+pub record Drives (d : Drive) (b b₁ : Board) (r : Changes) : Type 0 where
+  pub board : b₁ ≡ withPads b (d .pads)
+  pub changes : r ≡ d .changes

@@ -1,0 +1,207 @@
+// Pins, routing and outputs over the lent state (sys.rs). A level change is a value here; the call that asked writes it to its book.
+use book::Changes;
+use gpio::Change;
+use pins::ExtDrive;
+use state::REALS;
+use state::WORDS;
+use tim::Timer;
+use words::PinCfg;
+ghost use mathlib.Core.Path.{_≡_};
+ghost use mathlib.Core.List.{List};
+ghost use Prim.Native.Nat.{_<_, _≤_};
+ghost use lib.Ieee.{Float};
+ghost use Rattle.gpio.specs.Gpio.{bit};
+ghost use Rattle.tim.specs.Change.{output};
+ghost use Rattle.state.specs.View.{view};
+ghost use Rattle.machine.specs.Board.{withPads};
+ghost use Rattle.machine.specs.Sys as S;
+ghost use Rattle.sys.specs.Moves.{Moves, Drives};
+
+// Re-resolves the level of pin i after any change of its inputs.
+pub fn update_pin(words: &mut [u64; WORDS], reals: &mut [f64; REALS], i: usize) -> Change
+    requires { ⌜ i < 128 ⌝ }
+    ensures { λ r. ⌜ Moves (S.updatePin (view (now (words .entry)) (now (reals .entry)) .pads) i) (view (now (words .entry)) (now (reals .entry))) (view (now (words .exit)) (now (reals .exit))) r ⌝ }
+{
+    let g = state::load_gpio(words, reals, i);
+    let vcc = state::vcc(reals);
+    let m = gpio::update(i as u8, g, vcc);
+    let next = m.gpio;
+    state::store_gpio(words, reals, i, next);
+    m.change
+}
+
+// Recomputes what the chip drives on pin i from its configuration, the selected signal and the signal's level, then re-resolves it.
+pub fn refresh_pin(words: &mut [u64; WORDS], reals: &mut [f64; REALS], i: usize) -> Change
+    requires { ⌜ i < 128 ⌝ }
+    ensures { λ r. ⌜ Moves (S.refreshPin (view (now (words .entry)) (now (reals .entry)) .pads) i) (view (now (words .entry)) (now (reals .entry))) (view (now (words .exit)) (now (reals .exit))) r ⌝ }
+{
+    let g = state::load_gpio(words, reals, i);
+    let s = gpio::signal_of(g);
+    let level = state::sig_level(words, s as usize);
+    let vcc = state::vcc(reals);
+    let m = gpio::refresh(i as u8, g, level, vcc);
+    let next = m.gpio;
+    state::store_gpio(words, reals, i, next);
+    m.change
+}
+
+// Pin i leaves signal s: the route goes, if it is the pin's.
+fn leave(words: &mut [u64; WORDS], i: usize, s: u32)
+    requires { ⌜ (i < 128) × (s < 256) ⌝ }
+    ensures { λ _. ⌜ ((x : List Float) → view (now (words .exit)) x ≡ withPads (view (now (words .entry)) x) (S.leave (view (now (words .entry)) x .pads) i s)) ⌝ }
+{
+    if s == 0 {
+        return;
+    }
+    let p = state::route(words, s as usize);
+    if p == i {
+        state::set_route(words, s as usize, 128);
+    }
+}
+
+// Pin i takes signal s.
+fn take(words: &mut [u64; WORDS], i: usize, s: u32)
+    requires { ⌜ (i < 128) × (s < 256) ⌝ }
+    ensures { λ _. ⌜ ((x : List Float) → view (now (words .exit)) x ≡ withPads (view (now (words .entry)) x) (S.take (view (now (words .entry)) x .pads) i s)) ⌝ }
+{
+    if s == 0 {
+        return;
+    }
+    state::set_route(words, s as usize, i);
+}
+
+// The signal that function f of pin i selects, 0 unless in alternate mode.
+fn selected(words: &[u64; WORDS], i: usize, c: PinCfg, f: u32) -> u32
+    requires { ⌜ i < 128 ⌝ }
+    ensures { λ r. ⌜ ((x : List Float) → r ≡ S.selected (view (now (words .entry)) x .pads) i c f) ⌝ }
+    ensures { λ r. ⌜ r < 256 ⌝ }
+{
+    if c.mode == 2 {
+        return state::af(words, i, (f % 16) as usize);
+    }
+    0
+}
+
+// Configures pin i and selects its function f; refresh_pin follows.
+pub fn select_af(words: &mut [u64; WORDS], reals: &mut [f64; REALS], i: usize, c: PinCfg, f: u32)
+    requires { ⌜ i < 128 ⌝ }
+    ensures { λ _. ⌜ view (now (words .exit)) (now (reals .exit)) ≡ withPads (view (now (words .entry)) (now (reals .entry))) (S.selectAf (view (now (words .entry)) (now (reals .entry)) .pads) i c f) ⌝ }
+{
+    let g = state::load_gpio(words, reals, i);
+    let old = g.sig;
+    let new = selected(words, i, c, f);
+    state::store_gpio(words, reals, i, gpio::configure(g, c, new));
+    leave(words, i, old);
+    take(words, i, new);
+}
+
+// Pin i set: configured, and refreshed.
+pub fn set_pin(
+    words: &mut [u64; WORDS],
+    reals: &mut [f64; REALS],
+    i: usize,
+    c: PinCfg,
+    f: u32,
+) -> Change
+    requires { ⌜ i < 128 ⌝ }
+    ensures { λ r. ⌜ Moves (S.setPin (view (now (words .entry)) (now (reals .entry)) .pads) i c f) (view (now (words .entry)) (now (reals .entry))) (view (now (words .exit)) (now (reals .exit))) r ⌝ }
+{
+    select_af(words, reals, i, c, f);
+    refresh_pin(words, reals, i)
+}
+
+// Pin i driven from outside.
+pub fn drive_pin(
+    words: &mut [u64; WORDS],
+    reals: &mut [f64; REALS],
+    i: usize,
+    e: ExtDrive,
+) -> Change
+    requires { ⌜ i < 128 ⌝ }
+    ensures { λ r. ⌜ Moves (S.drivePin (view (now (words .entry)) (now (reals .entry)) .pads) i e) (view (now (words .entry)) (now (reals .entry))) (view (now (words .exit)) (now (reals .exit))) r ⌝ }
+{
+    let g = state::load_gpio(words, reals, i);
+    state::store_gpio(words, reals, i, gpio::connect(g, e));
+    update_pin(words, reals, i)
+}
+
+// Drives output signal s to a level, on the pin that routes it.
+pub fn sig_out(words: &mut [u64; WORDS], reals: &mut [f64; REALS], s: usize, level: u8) -> Change
+    requires { ⌜ (s < 256) × (level ≤ 1) ⌝ }
+    ensures { λ r. ⌜ Moves (S.sigOut (view (now (words .entry)) (now (reals .entry)) .pads) s level) (view (now (words .entry)) (now (reals .entry))) (view (now (words .exit)) (now (reals .exit))) r ⌝ }
+{
+    if state::sig_level(words, s) == level {
+        return Change::Same;
+    }
+    state::set_sig_level(words, s, level);
+    let p = state::route(words, s);
+    if p == 128 {
+        return Change::Same;
+    }
+    refresh_pin(words, reals, p)
+}
+
+fn level_of(b: bool) -> u8
+    ensures { λ r. ⌜ (r ≡ bit b) × (r ≤ 1) ⌝ }
+{
+    if b { 1 } else { 0 }
+}
+
+// The output of channel ch of a timer at a count.
+fn drive_channel(
+    words: &mut [u64; WORDS],
+    reals: &mut [f64; REALS],
+    t: Timer,
+    cnt: u32,
+    ch: usize,
+) -> Change
+    requires { ⌜ (ch < 4) × (2 ≤ t .inst .n) × (t .inst .n ≤ 4) ⌝ }
+    ensures { λ r. ⌜ Moves (S.driveChannel t cnt ch (view (now (words .entry)) (now (reals .entry)) .pads)) (view (now (words .entry)) (now (reals .entry))) (view (now (words .exit)) (now (reals .exit))) r ⌝ }
+{
+    if ch < t.inst.channels as usize {
+        let level = level_of(t.output(ch, cnt));
+        let s = sig::tim(t.inst.n as u8, ch as u8);
+        return sig_out(words, reals, s as usize, level);
+    }
+    Change::Same
+}
+
+fn four_channels(words: &mut [u64; WORDS], reals: &mut [f64; REALS], t: Timer, cnt: u32) -> Changes
+    requires { ⌜ (2 ≤ t .inst .n) × (t .inst .n ≤ 4) ⌝ }
+    ensures { λ r. ⌜ Drives (S.fourChannels t cnt (view (now (words .entry)) (now (reals .entry)) .pads)) (view (now (words .entry)) (now (reals .entry))) (view (now (words .exit)) (now (reals .exit))) r ⌝ }
+{
+    let a = drive_channel(words, reals, t, cnt, 0);
+    let b = drive_channel(words, reals, t, cnt, 1);
+    let c = drive_channel(words, reals, t, cnt, 2);
+    let d = drive_channel(words, reals, t, cnt, 3);
+    Changes { a, b, c, d }
+}
+
+fn no_changes() -> Changes
+    ensures { λ r. ⌜ r ≡ S.noChanges ⌝ }
+{
+    Changes {
+        a: Change::Same,
+        b: Change::Same,
+        c: Change::Same,
+        d: Change::Same,
+    }
+}
+
+// Drives the pin signals of all output channels: timers 2, 3 and 4 only.
+pub fn drive_outputs(
+    words: &mut [u64; WORDS],
+    reals: &mut [f64; REALS],
+    t: Timer,
+    cnt: u32,
+) -> Changes
+    ensures { λ r. ⌜ Drives (S.driveOutputs t cnt (view (now (words .entry)) (now (reals .entry)) .pads)) (view (now (words .entry)) (now (reals .entry))) (view (now (words .exit)) (now (reals .exit))) r ⌝ }
+{
+    if t.inst.n < 2 {
+        return no_changes();
+    }
+    if t.inst.n > 4 {
+        return no_changes();
+    }
+    four_channels(words, reals, t, cnt)
+}

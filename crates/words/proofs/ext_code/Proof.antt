@@ -1,0 +1,37 @@
+-- By the variant.
+use Rattle.words.specs.Codec.{extCode}
+use borrow.Author.Needs.{needs}
+use mathlib.Core.Path.{ap, sym}
+use Rattle.words.proofs.ext_code.Statement.{statement}
+use Rattle.words.proofs.ext_code.Tie as tie
+
+enum-told : tie.Need-enum-told
+enum-told c = search needs
+
+enum-told-2 : tie.Need-enum-told-2
+enum-told-2 c = search needs
+
+enum-told-3 : tie.Need-enum-told-3
+enum-told-3 c = search needs
+
+enum-told-4 : tie.Need-enum-told-4
+enum-told-4 c = search needs
+
+returns : tie.Need-returns
+unfolding extCode
+returns c = sym (ap extCode (c .enum-told .given .1))
+
+returns-2 : tie.Need-returns-2
+unfolding extCode
+returns-2 c = sym (ap extCode (c .enum-told2 .given .1))
+
+returns-3 : tie.Need-returns-3
+unfolding extCode
+returns-3 c = sym (ap extCode (c .enum-told3 .given .1))
+
+returns-4 : tie.Need-returns-4
+unfolding extCode
+returns-4 c = sym (ap extCode (c .enum-told4 .given .1))
+
+pub ext-code-spec : {M : Type 1} → statement M
+ext-code-spec = tie.close (tie.spec enum-told enum-told-2 enum-told-3 enum-told-4 returns returns-2 returns-3 returns-4)
