@@ -38,7 +38,7 @@ pub data Call : Type 0 where
   queryTime : (cycle : ℕ) → Call
   clearPending : (irq : ℕ) → Call
 
--- "Every call's answer is one number"; the value; the entries; and the board it leaves
+-- a number from 0 to 8; "the number of entries (the count) and a value", here the entries themselves; and the board that the call leaves
 pub record Outcome : Type 0 where
   pub number : ℕ
   pub value : ℕ

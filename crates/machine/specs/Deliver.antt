@@ -80,7 +80,7 @@ stop t p n = record { timer = t; pads = p; entries = []; events = 0; number = n 
 abbrev pub after : List Entry → Run → Run
 after es r = record { timer = r .timer; pads = r .pads; entries = es ++ r .entries; events = r .events + 1; number = r .number }
 
--- the cycle of an event that is due, or none
+-- the next event is due by now; a stopped timer has none
 abbrev pub dueBy : Due → ℕ → Bool
 dueBy (At at e) now = leb at now
 dueBy Stopped now = false

@@ -1,13 +1,12 @@
 -- What holds of every delivery: its answer, its events, its entries. Assumes nothing.
-use mathlib.Core.Path.{_≡_, refl, ap, sym, _∙_}
+use mathlib.Core.Path.{_≡_, refl, ap, _∙_}
 use mathlib.Core.Bool.{Bool, true, false, cond}
-use mathlib.Core.List.{List, [], _∷_, _++_}
-use Prim.Native.Nat.{ℕ, zero, suc, _+_, _-_, _*_, _/_, _≤_, _<_, min}
+use mathlib.Core.List.{List, [], _∷_, _++_, map}
+use Prim.Native.Nat.{ℕ, zero, suc, _-_, _/_, _≤_, min}
 use native.Mathlib.Numerals.{add-one}
 use native.Mathlib.Omega.{arith}
-use native.Mathlib.Nat.{le-refl}
-use lib.Dec.{ltb, leb, lit≤}
-use lib.ListN.{length, length-append}
+use lib.Dec.{ltb, lit≤}
+use lib.ListN.{length, replicate, length-append}
 use borrow.Author.Tests.{ltb-true, ltb-false, leb-true}
 use Rattle.tim.specs.declared.Timer.{Timer}
 use Rattle.tim.specs.declared.Next.{Next}
@@ -108,6 +107,41 @@ unfoldable pub AllDue : ℕ → ℕ → ℕ → Timer → Pads → Type 0
 AllDue zero now div t p = Unit {0}
 AllDue (suc n) now div t p =
     let s = turnOf t p (nextEvent t) div in (dueBy (nextEvent t) now ≡ true) × AllDue n now div (s .timer) (s .pads)
+
+-- the cycles of n events' entries: for each entry the due cycle of the event that made it
+abbrev pub dueCycle : Due → ℕ
+dueCycle (At at e) = at
+dueCycle Stopped = 0
+
+unfoldable pub dueCycles : ℕ → ℕ → Timer → Pads → List ℕ
+dueCycles zero div t p = []
+dueCycles (suc n) div t p =
+    let s = turnOf t p (nextEvent t) div in replicate (length (s .entries)) (dueCycle (nextEvent t)) ++ dueCycles n div (s .timer) (s .pads)
+
+abbrev pub cyclesOf : List Entry → List ℕ
+cyclesOf es = map (λ (e : Entry). e .cycle) es
+
+all-at : (at : ℕ) (es : List Entry) → Every (StampedAt at) es → cyclesOf es ≡ replicate (length es) at
+unfolding Every
+all-at at [] h = refl
+all-at at (e ∷ es) h = rw (h .0, all-at at es (h .1)) refl
+
+turnOf-cycles : (t : Timer) (p : Pads) (d : Due) (div : ℕ) → cyclesOf (turnOf t p d div .entries) ≡ replicate (length (turnOf t p d div .entries)) (dueCycle d)
+turnOf-cycles t p (At at e) div = all-at at (turn t p e at div .entries) (turn-stamped t p e at div)
+turnOf-cycles t p Stopped div = refl
+
+cycles-append : (xs ys : List Entry) → cyclesOf (xs ++ ys) ≡ cyclesOf xs ++ cyclesOf ys
+cycles-append [] ys = refl
+cycles-append (x ∷ xs) ys = ap (λ (l : List ℕ). x .cycle ∷ l) (cycles-append xs ys)
+
+pub turned-cycles : (n div : ℕ) (t : Timer) (p : Pads) → cyclesOf (turned n div t p .entries) ≡ dueCycles n div t p
+unfolding turned dueCycles
+turned-cycles zero div t p = refl
+turned-cycles (suc n) div t p =
+    let s = turnOf t p (nextEvent t) div in
+    cycles-append (s .entries) (turned n div (s .timer) (s .pads) .entries)
+    ∙ ap (λ (l : List ℕ). l ++ cyclesOf (turned n div (s .timer) (s .pads) .entries)) (turnOf-cycles t p (nextEvent t) div)
+    ∙ ap (λ (l : List ℕ). replicate (length (s .entries)) (dueCycle (nextEvent t)) ++ l) (turned-cycles n div (s .timer) (s .pads))
 
 abbrev pub turnPart : Run → Turn
 turnPart r = record { timer = r .timer; pads = r .pads; entries = r .entries }

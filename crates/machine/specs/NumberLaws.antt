@@ -1,13 +1,13 @@
 -- Every call is its refusals, in order, and then what it does: the laws behind Numbers. Assumes nothing.
-use mathlib.Core.Path.{_≡_, refl, ap, sym, _∙_}
-use mathlib.Core.Bool.{Bool, true, false, cond, not, _&&_, _||_}
-use mathlib.Core.List.{List, [], _∷_, _++_}
+use mathlib.Core.Path.{_≡_, refl, ap}
+use mathlib.Core.Bool.{Bool, true, false, cond, _&&_, _||_}
+use mathlib.Core.List.{List, [], _∷_}
 use mathlib.Core.Logic.{_⊎_, inl, inr}
-use Prim.Native.Nat.{ℕ, zero, suc, _+_, _-_, _*_, _/_, _≤_, _<_, min}
+use Prim.Native.Nat.{ℕ, zero, suc, _+_, _≤_, _<_}
 use native.Mathlib.Omega.{arith}
 use lib.Dec.{eqb, ltb, leb, lit≤}
-use lib.ListN.{length, set, getD, length-append}
-use borrow.Author.Tests.{ltb-true, ltb-false, leb-true, leb-false}
+use lib.ListN.{length, set, length-append}
+use borrow.Author.Tests.{ltb-true, ltb-false, leb-true, eqb-true, eq-eqb}
 use Rattle.tim.specs.declared.Written.{Written}
 use Rattle.tim.specs.Next.{nextEvent}
 use Rattle.tim.specs.Regs as R
@@ -18,14 +18,14 @@ use Rattle.pins.specs.Clock as Clock
 use Rattle.nvic.specs.Nvic as N
 use Rattle.scheduler.specs.Booking as S
 use Rattle.gpio.specs.declared.Change.{Change}
-use Rattle.book.specs.Book.{Entry, entryOf, entriesOf}
+use Rattle.book.specs.Book.{Entry, entryOf}
 use Rattle.machine.specs.Board.{Board, timerAt, gpioAt, withClocks, withNvic, withLast, freshBoard}
 use Rattle.machine.specs.Sys as Sys
-use Rattle.machine.specs.Deliver.{dividerOf, delivered, mostEvents, dueBy, lineSettled, rebooked}
-use Rattle.machine.specs.Call.{Setup, Call, setUp, clockTree, enable, setPin, drivePin, resetPins, read, write, peek, resetTimer, deliver, queryBooked, queryNext, queryLevel, queryVolts, queryLine, queryTime, clearPending, Outcome, refused, served}
+use Rattle.machine.specs.Deliver.{dividerOf, delivered, mostEvents, dueBy}
+use Rattle.machine.specs.Call.{Call, setUp, clockTree, enable, setPin, drivePin, resetPins, read, write, peek, resetTimer, deliver, queryBooked, queryNext, queryLevel, queryVolts, queryLine, queryTime, clearPending, Outcome, refused, served}
 use Rattle.machine.specs.Step.{step, treeSet, moved, cfgOf, pinsReset, changesOf, clockOn, register, written, followed, timerReset, deliveredTo}
-use Rattle.machine.specs.Refusals.{Refusal, _when_, refusals, applies, first, rises, ending, isDelivery, lent, most, lastAfter}
-use Rattle.machine.specs.DeliverLaws.{Delivery, run-law, Every, StampedAt, StampedBy, entry-few, entries-few}
+use Rattle.machine.specs.Refusals.{Refusal, _when_, refusals, applies, holds, first, rises, ending, isDelivery, lent, bookCycle, most, lastAfter}
+use Rattle.machine.specs.DeliverLaws.{Delivery, run-law, Every, every-none, every-append, StampedAt, entry-stamped, entries-stamped, entry-few, entries-few}
 
 -- ---- refusals in order, then what follows
 
@@ -53,6 +53,41 @@ verdict low ((n when false) ∷ rs) b o h =
     on : Verdict rs b o → Verdict ((n when false) ∷ rs) b o
     on (refuses m l u e a g) = refuses m l u e a g
     on (passes e a g) = passes e a g
+
+-- a number on the list is above the low one; the first that applies is the least that does, and applies
+above : (low n : ℕ) (rs : List Refusal) → rises low rs ≡ true → holds n rs ≡ true → low < n
+unfolding rises holds
+above low n [] r h = let z : _≡_ {A = ℕ} 0 1 = cc in absurd (omega arith)
+above low n ((m when false) ∷ rs) r h =
+    let q = both (ltb low m) _ r in omega (arith, ltb-true low m (q .0), above m n rs (both (leb m 7) _ (q .1) .1) h)
+above low n ((m when true) ∷ rs) r h =
+    let q = both (ltb low m) _ r in go (eqb m n) refl h (ltb-true low m (q .0)) (above m n rs (both (leb m 7) _ (q .1) .1))
+  where
+    go : (e : Bool) → eqb m n ≡ e → (e || holds n rs) ≡ true → low < m → (holds n rs ≡ true → m < n) → low < n
+    go true e h l f = omega (arith, eqb-true m n e)
+    go false e h l f = omega (arith, f h)
+
+pub first-least : (low n : ℕ) (rs : List Refusal) → rises low rs ≡ true → holds n rs ≡ true → first rs ≤ n
+unfolding rises holds first
+first-least low n [] r h = omega arith
+first-least low n ((m when false) ∷ rs) r h = first-least m n rs (both (leb m 7) _ (both (ltb low m) _ r .1) .1) h
+first-least low n ((m when true) ∷ rs) r h = go (eqb m n) refl h (above m n rs (both (leb m 7) _ (both (ltb low m) _ r .1) .1))
+  where
+    go : (e : Bool) → eqb m n ≡ e → (e || holds n rs) ≡ true → (holds n rs ≡ true → m < n) → m ≤ n
+    go true e h f = omega (arith, eqb-true m n e)
+    go false e h f = omega (arith, f h)
+
+pub holds-applies : (n : ℕ) (rs : List Refusal) → holds n rs ≡ true → applies rs ≡ true
+unfolding holds applies
+holds-applies n [] h = h
+holds-applies n ((m when true) ∷ rs) h = refl
+holds-applies n ((m when false) ∷ rs) h = holds-applies n rs h
+
+pub first-holds : (rs : List Refusal) → applies rs ≡ true → holds (first rs) rs ≡ true
+unfolding holds applies first
+first-holds [] h = h
+first-holds ((m when true) ∷ rs) h = rw (eq-eqb m m refl) refl
+first-holds ((m when false) ∷ rs) h = first-holds rs h
 
 -- ---- what each call does where nothing refuses it
 
@@ -304,3 +339,40 @@ most-fits b (queryVolts pin) h = omega arith
 most-fits b (queryLine irq) h = omega arith
 most-fits b (queryTime cycle) h = omega arith
 most-fits b (clearPending irq) h = omega arith
+
+-- ---- the entries' cycles
+
+changes-stamped : (cycle : ℕ) (cs : List Change) → Every (StampedAt cycle) (changesOf cycle cs)
+unfolding changesOf
+changes-stamped cycle [] = every-none (StampedAt cycle)
+changes-stamped cycle (c ∷ cs) = every-append (StampedAt cycle) (entryOf cycle c) (changesOf cycle cs) (entry-stamped cycle c) (changes-stamped cycle cs)
+
+followed-stamped : (b : Board) (i cycle : ℕ) (w : Written) → Every (StampedAt cycle) (followed b i cycle w .entries)
+unfolding followed
+followed-stamped b i cycle w =
+    either (Every (StampedAt cycle)) (w .drive) (entries-stamped cycle (Sys.driveOutputs (w .timer) (w .cnt) (b .pads) .changes)) (every-none (StampedAt cycle))
+
+pub performed-stamped : (b : Board) (c : Call) → isDelivery c ≡ false → Every (StampedAt (bookCycle c)) (performed b c .entries)
+unfolding performed timerReset
+performed-stamped b (setUp s) h = every-none (StampedAt 0)
+performed-stamped b (clockTree t cycle) h = every-none (StampedAt 0)
+performed-stamped b (enable word value) h = every-none (StampedAt 0)
+performed-stamped b (setPin pin mode openDrain out pullup pulldown function cycle places) h = entry-stamped cycle (Sys.setPin (b .pads) pin (cfgOf mode openDrain out pullup pulldown) function .change)
+performed-stamped b (drivePin pin e cycle places) h = entry-stamped cycle (Sys.drivePin (b .pads) pin e .change)
+performed-stamped b (resetPins cycle places) h = changes-stamped cycle (Sys.resetPins (b .pads) (b .counts .pins) .changes)
+performed-stamped b (read timer offset size cycle) h = every-none (StampedAt 0)
+performed-stamped b (write timer offset size value cycle places) h =
+    either (λ (o : Outcome). Every (StampedAt cycle) (o .entries)) (clockOn b (timerAt b timer))
+    (followed-stamped b timer cycle (written b (timerAt b timer) offset size value cycle))
+    (every-none (StampedAt cycle))
+performed-stamped b (peek timer offset cycle) h = every-none (StampedAt 0)
+performed-stamped b (resetTimer timer cycle places) h =
+    entries-stamped cycle (Sys.driveOutputs (resetState (timerAt b timer .inst) (dividerOf b (timerAt b timer))) 0 (b .pads) .changes)
+performed-stamped b (deliver timer cycle places) h = let z : _≡_ {A = ℕ} 0 1 = cc in absurd (omega arith)
+performed-stamped b (queryBooked timer) h = every-none (StampedAt 0)
+performed-stamped b queryNext h = every-none (StampedAt 0)
+performed-stamped b (queryLevel pin) h = every-none (StampedAt 0)
+performed-stamped b (queryVolts pin) h = every-none (StampedAt 0)
+performed-stamped b (queryLine irq) h = every-none (StampedAt 0)
+performed-stamped b (queryTime cycle) h = every-none (StampedAt 0)
+performed-stamped b (clearPending irq) h = every-none (StampedAt 0)

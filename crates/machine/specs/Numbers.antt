@@ -1,28 +1,29 @@
 -- The numbers of document 01's table, and what every answer keeps: theorems about `step`, for every board and call.
 use mathlib.Core.Path.{_≡_, refl, ap, sym, _∙_}
-use mathlib.Core.Bool.{Bool, true, false, cond, not, _&&_, _||_}
-use mathlib.Core.List.{List, [], _∷_}
+use mathlib.Core.Bool.{Bool, true, false, cond, not}
+use mathlib.Core.List.{[]}
 use mathlib.Core.Logic.{_⊎_, inl, inr}
-use Prim.Native.Nat.{ℕ, zero, suc, _+_, _*_, _/_, _≤_, _<_, min}
+use Prim.Native.Nat.{ℕ, _/_, _≤_, _<_, min}
 use native.Mathlib.Omega.{arith}
-use lib.Dec.{eqb, leb, ltb, lit≤}
+use lib.Dec.{leb}
 use lib.ListN.{length}
 use lib.Seq.{getD-set-same}
 use borrow.Author.Tests.{leb-false, eq-eqb}
 use Rattle.tim.specs.declared.Timer.{Timer}
 use Rattle.tim.specs.Next.{nextEvent}
 use Rattle.pins.specs.declared.ExtDrive.{ExtDrive}
-use Rattle.book.specs.Book.{Entry}
 use Rattle.machine.specs.Board.{Board, timerAt, noTimer}
-use Rattle.machine.specs.Sys as Sys
 use Rattle.machine.specs.Deliver.{Turn, dividerOf, dueBy, delivered, settled, rebooked, lineSettled}
 use Rattle.machine.specs.Call.{Setup, Call, setUp, setPin, drivePin, deliver, Outcome, refused}
 use Rattle.real.specs.Real.{positive}
 use Rattle.machine.specs.Step.{step, withinLimits, deliveredTo, cfgOf}
-use Rattle.machine.specs.Refusals.{Refusal, _when_, refusals, applies, first, rises, ending, isDelivery, lent, most, lastAfter}
-use Rattle.machine.specs.DeliverLaws.{Delivery, Every, every-none, StampedBy, turned, AllDue}
-use Rattle.machine.specs.NumberLaws.{Verdict, refuses, passes, answered, given, performed, step-given, performed-number, performed-last, performed-few, most-fits, delivered-law}
+use Rattle.machine.specs.Refusals.{refusals, applies, holds, first, rises, ending, isDelivery, isSetUp, lent, bookCycle, most, lastAfter}
+use Rattle.machine.specs.DeliverLaws.{Every, every-none, StampedAt, StampedBy, turned, AllDue, cyclesOf, dueCycles, turned-cycles}
+use Rattle.machine.specs.NumberLaws.{Verdict, refuses, passes, answered, performed, step-given, performed-number, performed-last, performed-few, most-fits, delivered-law}
 use Rattle.machine.specs.NumberLaws as N
+use Rattle.machine.specs.Traces.{Traced, traced-none}
+use Rattle.machine.specs.Placed.{Placed}
+use Rattle.machine.specs.TraceLaws.{performed-traced}
 use Rattle.machine.specs.PinLaws.{edgeOf, levelAt, set-edge, drive-edge}
 
 -- ---- the number
@@ -68,17 +69,24 @@ lowest b c = go (answered b c)
       else-served = λ h. ap (λ (o : Outcome). o .number) (step-given b c ∙ g) ∙ performed-number b c;
     }
 
--- an answer is a refusal from 1 to 7 that changes nothing, or what the call does, with 0 or 8
+-- an answer is a refusal from 1 to 7 that changes nothing, or what the call does, with 0, or with 8 for a delivery
+abbrev Ended : Board → Call → Type 0
+Ended b c = (step b c .number ≡ 0) ⊎ ((step b c .number ≡ 8) × (isDelivery c ≡ true))
+
 data Answer (b : Board) (c : Call) : Type 0 where
   turned-away : (n : ℕ) → 1 ≤ n → n ≤ 7 → applies (refusals b c) ≡ true → step b c ≡ refused n b → Answer b c
-  done : applies (refusals b c) ≡ false → step b c ≡ performed b c → Answer b c
+  done : applies (refusals b c) ≡ false → step b c ≡ performed b c → Ended b c → Answer b c
 
 answer : (b : Board) (c : Call) → Answer b c
 answer b c = go (answered b c)
   where
     go : Verdict (refusals b c) b (performed b c) → Answer b c
     go (refuses n l u f a g) = turned-away n l u a (step-given b c ∙ g)
-    go (passes f a g) = done a (step-given b c ∙ g)
+    go (passes f a g) = done a (step-given b c ∙ g) (ended (N.ending-cases b c))
+      where
+        ended : (ending b c ≡ 0) ⊎ ((ending b c ≡ 8) × (isDelivery c ≡ true)) → Ended b c
+        ended (inl z) = inl (lowest b c .else-served a ∙ z)
+        ended (inr z) = inr (lowest b c .else-served a ∙ z .0, z .1)
 
 number-of : {x o : Outcome} → x ≡ o → x .number ≡ o .number
 number-of e = ap (λ (o : Outcome). o .number) e
@@ -89,11 +97,8 @@ number-le b c = go (answer b c)
   where
     go : Answer b c → step b c .number ≤ 8
     go (turned-away n l u a e) = omega (arith, number-of e)
-    go (done a e) = by (N.ending-cases b c)
-      where
-        by : (ending b c ≡ 0) ⊎ ((ending b c ≡ 8) × (isDelivery c ≡ true)) → step b c .number ≤ 8
-        by (inl z) = omega (arith, number-of e, performed-number b c)
-        by (inr z) = omega (arith, number-of e, performed-number b c, z .0)
+    go (done a e (inl z)) = omega arith
+    go (done a e (inr z)) = omega (arith, z .0)
 
 -- "1 to 7 .. return value 0 and count 0 and change nothing"
 pub refusal-keeps : (b : Board) (c : Call) → 1 ≤ step b c .number → step b c .number ≤ 7 → Unchanged b (step b c)
@@ -101,11 +106,8 @@ refusal-keeps b c l u = go (answer b c)
   where
     go : Answer b c → Unchanged b (step b c)
     go (turned-away n l u a e) = lowest b c .unchanged a
-    go (done a e) = by (N.ending-cases b c)
-      where
-        by : (ending b c ≡ 0) ⊎ ((ending b c ≡ 8) × (isDelivery c ≡ true)) → Unchanged b (step b c)
-        by (inl z) = absurd (omega (arith, number-of e, performed-number b c))
-        by (inr z) = absurd (omega (arith, number-of e, performed-number b c, z .0))
+    go (done a e (inl z)) = absurd (omega arith)
+    go (done a e (inr z)) = absurd (omega (arith, z .0))
 
 -- a number that applies rules out 0 and 8
 pub applies-refuses : (b : Board) (c : Call) → applies (refusals b c) ≡ true → (1 ≤ step b c .number) × (step b c .number ≤ 7)
@@ -114,6 +116,21 @@ applies-refuses b c h =
     let g = lowest b c .first-given h in
     (omega (arith, r .0), omega (arith, r .1))
 
+-- "The lowest number that applies is given": no number of the table that applies is lower than the one given
+pub none-lower : (b : Board) (c : Call) (n : ℕ) → holds n (refusals b c) ≡ true → step b c .number ≤ n
+none-lower b c n h =
+    let g = lowest b c .first-given (N.holds-applies n (refusals b c) h) in
+    omega (arith, N.first-least 0 n (refusals b c) (N.numbers-rise b c) h)
+
+-- and a number from 1 to 7 is given only where it applies
+pub given-applies : (b : Board) (c : Call) → 1 ≤ step b c .number → step b c .number ≤ 7 → holds (step b c .number) (refusals b c) ≡ true
+given-applies b c l u = go (answer b c)
+  where
+    go : Answer b c → holds (step b c .number) (refusals b c) ≡ true
+    go (turned-away n l u a e) = rw (lowest b c .first-given a) (N.first-holds (refusals b c) a)
+    go (done a e (inl z)) = absurd (omega arith)
+    go (done a e (inr z)) = absurd (omega (arith, z .0))
+
 -- answered 0 or 8, nothing applies
 pub served-free : (b : Board) (c : Call) → (step b c .number ≡ 0) ⊎ (step b c .number ≡ 8) → applies (refusals b c) ≡ false
 served-free b c h = go (answer b c) h
@@ -121,7 +138,7 @@ served-free b c h = go (answer b c) h
     go : Answer b c → (step b c .number ≡ 0) ⊎ (step b c .number ≡ 8) → applies (refusals b c) ≡ false
     go (turned-away n l u a e) (inl z) = absurd (omega (arith, number-of e))
     go (turned-away n l u a e) (inr z) = absurd (omega (arith, number-of e))
-    go (done a e) z = a
+    go (done a e w) z = a
 
 three : (b : Board) (o : Outcome) (t u : Bool) → o .number ≡ 0
     → let n = cond t (refused 1 b) (cond u (refused 4 b) o) .number in (n ≡ 0) ⊎ ((n ≡ 1) ⊎ (n ≡ 4))
@@ -141,15 +158,12 @@ backlog-delivers b c h = go (answer b c)
   where
     go : Answer b c → isDelivery c ≡ true
     go (turned-away n l u a e) = absurd (omega (arith, number-of e))
-    go (done a e) = by (N.ending-cases b c)
-      where
-        by : (ending b c ≡ 0) ⊎ ((ending b c ≡ 8) × (isDelivery c ≡ true)) → isDelivery c ≡ true
-        by (inl z) = absurd (omega (arith, number-of e, performed-number b c))
-        by (inr z) = z .1
+    go (done a e (inl z)) = absurd (omega arith)
+    go (done a e (inr z)) = z .1
 
 -- ---- the entries
 
--- "its length is the shortest of the three": no call makes more entries than it is lent places; one for a pin, four for a timer, one for each pin of
+-- no call makes more entries than it is lent places; one for a pin, four for a timer, one for each pin of
 -- a pin reset
 pub record Fits (b : Board) (c : Call) : Type 0 where
   pub places : length (step b c .entries) ≤ lent c
@@ -161,20 +175,28 @@ entries-fit b c = go (answer b c)
     go : Answer b c → Fits b c
     go (turned-away n l u a e) =
         let z : length (step b c .entries) ≡ 0 = ap (λ (o : Outcome). length (o .entries)) e in record { places = omega arith; most = omega arith }
-    go (done a e) =
+    go (done a e n) =
         let z : length (step b c .entries) ≡ length (performed b c .entries) = ap (λ (o : Outcome). length (o .entries)) e in
         let f = performed-few b c in
         record { places = omega (arith, most-fits b c a); most = omega arith }
 
+-- every entry carries the call's cycle, a delivery's aside
+pub stamped : (b : Board) (c : Call) → isDelivery c ≡ false → Every (StampedAt (bookCycle c)) (step b c .entries)
+stamped b c h = go (answer b c)
+  where
+    go : Answer b c → Every (StampedAt (bookCycle c)) (step b c .entries)
+    go (turned-away n l u a e) = rw e (every-none (StampedAt (bookCycle c)))
+    go (done a e n) = rw e (N.performed-stamped b c h)
+
 -- ---- the last changing call
 
--- "\"Changing call\" means any answered 0 or 8 with a cycle, reads, peeks and queries excepted"; `lastAfter` lists them
+-- a changing call is "any answered 0 or 8 with a cycle, reads, peeks and queries excepted": `lastAfter` lists them
 pub last-moves : (b : Board) (c : Call) → (step b c .number ≡ 0) ⊎ (step b c .number ≡ 8) → step b c .board .counts .last ≡ lastAfter b c
 last-moves b c h = go (answer b c) (served-free b c h)
   where
     go : Answer b c → applies (refusals b c) ≡ false → step b c .board .counts .last ≡ lastAfter b c
     go (turned-away n l u a e) f = absurd (no-both (applies (refusals b c)) a f)
-    go (done a e) f = ap (λ (o : Outcome). o .board .counts .last) e ∙ performed-last b c
+    go (done a e z) f = ap (λ (o : Outcome). o .board .counts .last) e ∙ performed-last b c
 
 -- a refused call does not move it
 pub last-stays : (b : Board) (c : Call) → 1 ≤ step b c .number → step b c .number ≤ 7 → step b c .board .counts .last ≡ b .counts .last
@@ -195,6 +217,8 @@ pub record Works (b : Board) (i cycle places : ℕ) (o : Outcome) : Type 0 where
   pub timer : timerAt (o .board) i ≡ turned (o .value) (dividerOf b (timerAt b i)) (timerAt b i) (b .pads) .timer
   pub pads : o .board .pads ≡ turned (o .value) (dividerOf b (timerAt b i)) (timerAt b i) (b .pads) .pads
   pub entries : o .entries ≡ turned (o .value) (dividerOf b (timerAt b i)) (timerAt b i) (b .pads) .entries
+  -- "Each event acts at its own due cycle, however late delivered": each entry carries the due cycle of the event that made it
+  pub cycles : cyclesOf (o .entries) ≡ dueCycles (o .value) (dividerOf b (timerAt b i)) (timerAt b i) (b .pads)
   pub all-due : AllDue (o .value) cycle (dividerOf b (timerAt b i)) (timerAt b i) (b .pads)
 
 eight-or-not : (d : Bool) (n : ℕ) → n ≡ cond d 8 0 → ((n ≡ 0 → d ≡ false) × (n ≡ 8 → d ≡ true))
@@ -216,6 +240,7 @@ delivered-works b i cycle places h =
       timer = t ∙ ap (λ (x : Turn). x .timer) (d .state);
       pads = ap (λ (x : Turn). x .pads) (d .state);
       entries = ap (λ (x : Turn). x .entries) (d .state);
+      cycles = ap (λ (x : Turn). cyclesOf (x .entries)) (d .state) ∙ turned-cycles (r .events) (dividerOf b (timerAt b i)) (timerAt b i) (b .pads);
       all-due = d .all-due;
     }
 
@@ -227,26 +252,25 @@ present : (b : Board) (i cycle places : ℕ) → applies (refusals b (deliver i 
 unfolding refusals
 present b i cycle places h = leb-false (b .counts .timers) i (N.head-free 2 (leb (b .counts .timers) i) _ h)
 
-pub delivery-works : (b : Board) (i cycle places : ℕ) → b .counts .timers ≤ length (b .timers) → applies (refusals b (deliver i cycle places)) ≡ false
+pub delivery-works : (b : Board) (i cycle places : ℕ) → Placed b → applies (refusals b (deliver i cycle places)) ≡ false
     → Works b i cycle places (step b (deliver i cycle places))
 delivery-works b i cycle places s h = go (answer b (deliver i cycle places)) (present b i cycle places h)
   where
     go : Answer b (deliver i cycle places) → i < b .counts .timers → Works b i cycle places (step b (deliver i cycle places))
     go (turned-away n l u a e) k = absurd (no-both (applies (refusals b (deliver i cycle places))) a h)
-    go (done a e) k = rw (e, performed-delivery b i cycle places) (delivered-works b i cycle places (omega arith))
+    go (done a e z) k = rw (e, performed-delivery b i cycle places) (delivered-works b i cycle places (omega (arith, s .timers)))
 
 delivered-stamped : (b : Board) (i cycle places : ℕ) → Every (StampedBy cycle) (deliveredTo b i cycle places .entries)
 unfolding deliveredTo
 delivered-stamped b i cycle places = delivered-law b i cycle places .stamped
 
--- "Each event acts at its own due cycle, however late delivered": no entry of a delivery is later than it, and the entries of each event
--- carry its due cycle (`turn-stamped` of DeliverLaws, with `entries` above)
+-- no entry of a delivery is later than it
 pub due-stamped : (b : Board) (i cycle places : ℕ) → Every (StampedBy cycle) (step b (deliver i cycle places) .entries)
 due-stamped b i cycle places = go (answer b (deliver i cycle places))
   where
     go : Answer b (deliver i cycle places) → Every (StampedBy cycle) (step b (deliver i cycle places) .entries)
     go (turned-away n l u a e) = rw e (every-none (StampedBy cycle))
-    go (done a e) = rw (e, performed-delivery b i cycle places) (delivered-stamped b i cycle places)
+    go (done a e n) = rw (e, performed-delivery b i cycle places) (delivered-stamped b i cycle places)
 
 -- ---- pins
 
@@ -254,33 +278,43 @@ pin-edge : (b : Board) (c : Call) (pin cycle : ℕ) → Answer b c
     → (applies (refusals b c) ≡ false → performed b c .entries ≡ edgeOf pin (levelAt (b .pads) pin) (levelAt (performed b c .board .pads) pin) cycle)
     → step b c .entries ≡ edgeOf pin (levelAt (b .pads) pin) (levelAt (step b c .board .pads) pin) cycle
 pin-edge b c pin cycle (turned-away n l u a e) f = rw (e, eq-eqb (levelAt (b .pads) pin) (levelAt (b .pads) pin) refl) refl
-pin-edge b c pin cycle (done a e) f = rw e (f a)
+pin-edge b c pin cycle (done a e z) f = rw e (f a)
 
-performed-set : (b : Board) (pin mode openDrain out pullup pulldown function cycle places : ℕ) → b .counts .pins ≤ length (b .pads .gpio)
+performed-set : (b : Board) (pin mode openDrain out pullup pulldown function cycle places : ℕ) → Placed b
     → let c = setPin pin mode openDrain out pullup pulldown function cycle places in
     applies (refusals b c) ≡ false → performed b c .entries ≡ edgeOf pin (levelAt (b .pads) pin) (levelAt (performed b c .board .pads) pin) cycle
 unfolding performed refusals
 performed-set b pin mode openDrain out pullup pulldown function cycle places s a =
     set-edge (b .pads) pin (cfgOf mode openDrain out pullup pulldown) function cycle
-    (omega (arith, leb-false (b .counts .pins) pin (N.head-free 2 (leb (b .counts .pins) pin) _ a)))
+    (omega (arith, s .pins, leb-false (b .counts .pins) pin (N.head-free 2 (leb (b .counts .pins) pin) _ a)))
 
-performed-drive : (b : Board) (pin : ℕ) (e : ExtDrive) (cycle places : ℕ) → b .counts .pins ≤ length (b .pads .gpio)
+performed-drive : (b : Board) (pin : ℕ) (e : ExtDrive) (cycle places : ℕ) → Placed b
     → let c = drivePin pin e cycle places in
     applies (refusals b c) ≡ false → performed b c .entries ≡ edgeOf pin (levelAt (b .pads) pin) (levelAt (performed b c .board .pads) pin) cycle
 unfolding performed refusals
 performed-drive b pin e cycle places s a =
-    drive-edge (b .pads) pin e cycle (omega (arith, leb-false (b .counts .pins) pin (N.head-free 2 (leb (b .counts .pins) pin) _ a)))
+    drive-edge (b .pads) pin e cycle (omega (arith, s .pins, leb-false (b .counts .pins) pin (N.head-free 2 (leb (b .counts .pins) pin) _ a)))
 
 -- "An entry is made exactly when a pin's level changes": none where the pin's level is the same after the call, else one, with the new level and the
 -- call's cycle
-pub set-pin-entries : (b : Board) (pin mode openDrain out pullup pulldown function cycle places : ℕ) → b .counts .pins ≤ length (b .pads .gpio)
+pub set-pin-entries : (b : Board) (pin mode openDrain out pullup pulldown function cycle places : ℕ) → Placed b
     → let o = step b (setPin pin mode openDrain out pullup pulldown function cycle places) in
     o .entries ≡ edgeOf pin (levelAt (b .pads) pin) (levelAt (o .board .pads) pin) cycle
 set-pin-entries b pin mode openDrain out pullup pulldown function cycle places s =
     let c = setPin pin mode openDrain out pullup pulldown function cycle places in
     pin-edge b c pin cycle (answer b c) (λ a. performed-set b pin mode openDrain out pullup pulldown function cycle places s a)
 
-pub drive-pin-entries : (b : Board) (pin : ℕ) (e : ExtDrive) (cycle places : ℕ) → b .counts .pins ≤ length (b .pads .gpio)
+pub drive-pin-entries : (b : Board) (pin : ℕ) (e : ExtDrive) (cycle places : ℕ) → Placed b
     → let o = step b (drivePin pin e cycle places) in o .entries ≡ edgeOf pin (levelAt (b .pads) pin) (levelAt (o .board .pads) pin) cycle
 drive-pin-entries b pin e cycle places s =
     let c = drivePin pin e cycle places in pin-edge b c pin cycle (answer b c) (λ a. performed-drive b pin e cycle places s a)
+
+-- the same of every call but set-up, over all pins: a pin's level on the board that the call leaves is that of its last entry, else its level before;
+-- and each entry is another level than its pin had
+pub entries-are-changes : (b : Board) (c : Call) → Placed b → isSetUp c ≡ false
+    → Traced (b .pads) (step b c .board .pads) (step b c .entries)
+entries-are-changes b c s m = go (answer b c)
+  where
+    go : Answer b c → Traced (b .pads) (step b c .board .pads) (step b c .entries)
+    go (turned-away k l u a e) = rw e (traced-none (b .pads) (b .pads) (λ i. refl))
+    go (done a e n) = rw e (performed-traced b c (s .wired) (s .pins) a m)

@@ -1,9 +1,8 @@
 -- The table of document 01, call by call: the numbers that a call can be refused with, rising, and when each applies.
 use mathlib.Core.Bool.{Bool, true, false, cond, not, _&&_, _||_}
 use mathlib.Core.List.{List, [], _∷_}
-use Prim.Native.Nat.{ℕ, _+_, _*_, _/_}
+use Prim.Native.Nat.{ℕ, _*_, _/_}
 use lib.Dec.{eqb, ltb, leb}
-use Rattle.tim.specs.declared.Timer.{Timer}
 use Rattle.tim.specs.Regs as R
 use Rattle.tim.specs.Next.{nextEvent}
 use Rattle.real.specs.Real.{positive}
@@ -103,6 +102,11 @@ unfoldable pub first : List Refusal → ℕ
 first [] = 0
 first ((n when t) ∷ rs) = cond t n (first rs)
 
+-- number n is on the list, and applies
+unfoldable pub holds : ℕ → List Refusal → Bool
+holds n [] = false
+holds n ((m when t) ∷ rs) = (t && eqb m n) || holds n rs
+
 -- the numbers rise, above a low one and up to 7
 unfoldable pub rises : ℕ → List Refusal → Bool
 rises low [] = true
@@ -130,6 +134,26 @@ isDelivery (queryLine irq) = false
 isDelivery (queryTime cycle) = false
 isDelivery (clearPending irq) = false
 
+abbrev pub isSetUp : Call → Bool
+isSetUp (setUp s) = true
+isSetUp (clockTree t cycle) = false
+isSetUp (enable word value) = false
+isSetUp (setPin pin mode openDrain out pullup pulldown function cycle places) = false
+isSetUp (drivePin pin e cycle places) = false
+isSetUp (resetPins cycle places) = false
+isSetUp (read timer offset size cycle) = false
+isSetUp (write timer offset size value cycle places) = false
+isSetUp (peek timer offset cycle) = false
+isSetUp (resetTimer timer cycle places) = false
+isSetUp (deliver timer cycle places) = false
+isSetUp (queryBooked timer) = false
+isSetUp queryNext = false
+isSetUp (queryLevel pin) = false
+isSetUp (queryVolts pin) = false
+isSetUp (queryLine irq) = false
+isSetUp (queryTime cycle) = false
+isSetUp (clearPending irq) = false
+
 -- the places that a call is lent, none without a book: "Every call that can change a pin is lent a book"
 abbrev pub lent : Call → ℕ
 lent (setPin pin mode openDrain out pullup pulldown function cycle places) = places
@@ -150,6 +174,27 @@ lent (queryVolts pin) = 0
 lent (queryLine irq) = 0
 lent (queryTime cycle) = 0
 lent (clearPending irq) = 0
+
+-- the cycle of a call that is lent a book
+abbrev pub bookCycle : Call → ℕ
+bookCycle (setUp s) = 0
+bookCycle (clockTree t cycle) = 0
+bookCycle (enable word value) = 0
+bookCycle (setPin pin mode openDrain out pullup pulldown function cycle places) = cycle
+bookCycle (drivePin pin e cycle places) = cycle
+bookCycle (resetPins cycle places) = cycle
+bookCycle (read timer offset size cycle) = 0
+bookCycle (write timer offset size value cycle places) = cycle
+bookCycle (peek timer offset cycle) = 0
+bookCycle (resetTimer timer cycle places) = cycle
+bookCycle (deliver timer cycle places) = cycle
+bookCycle (queryBooked timer) = 0
+bookCycle queryNext = 0
+bookCycle (queryLevel pin) = 0
+bookCycle (queryVolts pin) = 0
+bookCycle (queryLine irq) = 0
+bookCycle (queryTime cycle) = 0
+bookCycle (clearPending irq) = 0
 
 -- the most entries that a call can make: one of a pin, one of each of a timer's four channels, one of each pin
 abbrev pub most : Board → Call → ℕ

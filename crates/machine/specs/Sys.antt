@@ -96,7 +96,8 @@ setPin p i c f = refreshPin (selectAf p i c f) i
 unfoldable pub drivePin : Pads → ℕ → ExtDrive → Move
 drivePin p i e = updatePin (withGpio p i (connected (gpioAt p i) e)) i
 
--- ---- pin reset: no routes, signals as at the start, and each pin an input again; "Inputs from the outside world are kept"
+-- ---- pin reset: no routes, signals as at the start, and each pin an input again; "Inputs from the outside world are kept".
+-- The Rust sets the levels of UART and timer signals; no call ever moves another, so that is every signal's level at the start.
 
 unfoldable pub unrouted : Pads → Pads
 unrouted p = record { gpio = p .gpio; af = p .af; route = replicate 256 noPin; sigLevel = idleLevels 0 256; vcc = p .vcc }

@@ -1,0 +1,161 @@
+-- Demand 3: the recorded duty is the programmed one. The claim of Claim.antt, for every list of calls. Assumes nothing.
+use Prim.Native.Nat.{ℕ, _+_, _≤_}
+use mathlib.Core.Path.{_≡_, refl, sym, ap, subst, _∙_}
+use mathlib.Core.Logic.{_⊎_, inl, inr}
+use mathlib.Core.Bool.{Bool, true, false, cond, not, _||_}
+use mathlib.Core.List.{List, [], _∷_, _++_, append-assoc, append-nil}
+use native.Mathlib.Nat.{mul-le-mul-left, min-le-right}
+use native.Mathlib.Omega.{arith}
+use lib.Dec.{eqb, leb}
+use borrow.Author.Tests.{eqb-true, eqb-false, eq-eqb, ne-eqb, leb-true}
+use Rattle.sig.specs.Signal.{timSignal}
+use Rattle.book.specs.Book.{Entry}
+use Rattle.machine.specs.Board.{Board, timerAt, gpioAt}
+use Rattle.machine.specs.Sys.{driver, selected}
+use Rattle.machine.specs.Call.{Call, setUp, clockTree, enable, setPin, drivePin, resetPins, read, write, peek, resetTimer, deliver, queryBooked, queryNext, queryLevel, queryVolts, queryLine, queryTime, clearPending}
+use Rattle.machine.specs.Step.{cfgOf, step, run, boardAfter}
+use Rattle.machine.specs.Sound.{Sound}
+use Rattle.machine.specs.Routing.{by-test}
+use Rattle.machine.specs.Reach.{Wired, Rest, Leaves, frame-step, frame-refused, sound-step, sound-after}
+use Rattle.accuracy.specs.Tests.{never, both-left, both-right, one-of, apart}
+use Rattle.accuracy.specs.Claim.{steadyCall, isRefusal, steady, deliveredAt, covered, joined, board₀, board₁, signal, recorded, Claim}
+use Rattle.accuracy.specs.Wave.{duty}
+use Rattle.accuracy.specs.Aim.{Aim, period, high, signalOf, due}
+use Rattle.accuracy.specs.Start.{aimOf, told-start}
+use Rattle.accuracy.specs.Began.{began}
+use Rattle.accuracy.specs.Own.{Kept, deliver-own}
+use Rattle.accuracy.specs.Others.{kept-rest}
+
+-- ---- one call
+
+module _ (a : Aim) (pin l₀ i from : ℕ) (b : Board) (es : List Entry) (sound : Sound b) (k : Kept a pin l₀ i from b es) where
+  wired : Wired b i (a .ch) (signalOf a) pin
+  wired =
+      let f = k .told .fixed in
+      record {
+        sound = sound;
+        timer = k .here;
+        channel = f .four;
+        signal = ap (λ (n : ℕ). timSignal n (a .ch)) (sym (f .number));
+        drives = ap driver (f .number) ∙ k .told .drives;
+        route = k .told .wired .route;
+        pin = k .told .wired .pin-is;
+        push-pull = k .told .wired .push-pull;
+      }
+
+  -- the cycle after the last full delivery
+  abbrev reached : Call → ℕ
+  reached c = cond (eqb (step b c .number) 0) (deliveredAt i c from) from
+
+  abbrev Goes : Call → Type 0
+  Goes c = Kept a pin l₀ i (reached c) (step b c .board) (es ++ step b c .entries)
+
+  -- a call that leaves the pilot alone
+  by-rest : (c : Call) → deliveredAt i c from ≡ from → Rest i (signalOf a) pin b (step b c) → Goes c
+  by-rest c e r =
+      subst (λ (x : ℕ). Kept a pin l₀ i x (step b c .board) (es ++ step b c .entries)) (sym (rw e (same (eqb (step b c .number) 0))))
+      (kept-rest a pin l₀ i from b es (step b c) (sound-step b c sound) r k)
+    where
+      same : (x : Bool) → cond x from from ≡ from
+      same true = refl
+      same false = refl
+
+  leaving : (c : Call) → deliveredAt i c from ≡ from → Leaves i pin (signalOf a) b c → Goes c
+  leaving c e h = by-rest c e (frame-step b i (a .ch) (signalOf a) pin wired c h)
+
+  -- a delivery to the timer itself
+  own : (cycle places : ℕ) → Goes (deliver i cycle places)
+  unfolding deliveredAt
+  own cycle places =
+      let d = deliver-own a pin l₀ i from b es sound k cycle places in
+      let o = step b (deliver i cycle places) in
+      record {
+        here = d .kept .here;
+        divider = d .kept .divider;
+        told = d .kept .told;
+        later = rw (eq-eqb i i refl)
+            (by-test (λ (x : ℕ). x ≤ due (timerAt (o .board) i)) (eqb (o .number) 0)
+            (λ e. omega (arith, d .full (eqb-true (o .number) 0 e))) (λ e. d .kept .later));
+      }
+
+  -- a delivery to whatever timer
+  delivery : (j cycle places : ℕ) → Goes (deliver j cycle places)
+  unfolding deliveredAt
+  delivery j cycle places = go (eqb j i) refl
+    where
+      go : (x : Bool) → eqb j i ≡ x → Goes (deliver j cycle places)
+      go true e = subst (λ (m : ℕ). Goes (deliver m cycle places)) (sym (eqb-true j i e)) (own cycle places)
+      go false e = leaving (deliver j cycle places) (rw e) (eqb-false j i e)
+
+  -- a served call that is steady
+  served-call : (c : Call) → steadyCall i pin (signalOf a) b c ≡ true → Goes c
+  unfolding steadyCall deliveredAt
+  served-call (setUp x) h = absurd (never h)
+  served-call (clockTree t cycle) h = absurd (never h)
+  served-call (resetPins cycle places) h = absurd (never h)
+  served-call (setPin q mode od out pu pd f cycle places) h =
+      let free = eqb (selected (b .pads) q (cfgOf mode od out pu pd) f) (signalOf a) in
+      leaving (setPin q mode od out pu pd f cycle places) refl (apart q pin (both-left (not (eqb q pin)) (not free) h), apart _ (signalOf a) (both-right (not (eqb q pin)) (not free) h))
+  served-call (write j offset size value cycle places) h = leaving (write j offset size value cycle places) refl h
+  served-call (resetTimer j cycle places) h = leaving (resetTimer j cycle places) refl (apart j i h)
+  served-call (deliver j cycle places) h = delivery j cycle places
+  served-call (enable word value) h = leaving (enable word value) refl tt
+  served-call (drivePin q e cycle places) h = leaving (drivePin q e cycle places) refl tt
+  served-call (read j offset size cycle) h = leaving (read j offset size cycle) refl tt
+  served-call (peek j offset cycle) h = leaving (peek j offset cycle) refl tt
+  served-call (queryBooked j) h = leaving (queryBooked j) refl tt
+  served-call queryNext h = leaving queryNext refl tt
+  served-call (queryLevel q) h = leaving (queryLevel q) refl tt
+  served-call (queryVolts q) h = leaving (queryVolts q) refl tt
+  served-call (queryLine irq) h = leaving (queryLine irq) refl tt
+  served-call (queryTime cycle) h = leaving (queryTime cycle) refl tt
+  served-call (clearPending irq) h = leaving (clearPending irq) refl tt
+
+  -- "refused calls aside"
+  refused-call : (c : Call) → isRefusal (step b c .number) ≡ true → Goes c
+  refused-call c h =
+      let n = step b c .number in
+      let lo : 1 ≤ n = leb-true 1 n (both-left (leb 1 n) (leb n 7) h) in
+      let z : eqb n 0 ≡ false = ne-eqb n 0 (λ e. omega arith) in
+      subst (λ (x : ℕ). Kept a pin l₀ i x (step b c .board) (es ++ step b c .entries)) (sym (ap (λ (x : Bool). cond x (deliveredAt i c from) from) z))
+      (kept-rest a pin l₀ i from b es (step b c) (sound-step b c sound) (frame-refused b i (signalOf a) pin c lo (leb-true n 7 (both-right (leb 1 n) (leb n 7) h))) k)
+
+  any-call : (c : Call) → isRefusal (step b c .number) || steadyCall i pin (signalOf a) b c ≡ true → Goes c
+  any-call c h = go (one-of (isRefusal (step b c .number)) (steadyCall i pin (signalOf a) b c) h)
+    where
+      go : (isRefusal (step b c .number) ≡ true) ⊎ (steadyCall i pin (signalOf a) b c ≡ true) → Goes c
+      go (inl e) = refused-call c e
+      go (inr e) = served-call c e
+
+-- ---- a list of calls
+
+module _ (a : Aim) (pin l₀ i : ℕ) where
+  all-calls : (cs : List Call) (from : ℕ) (b : Board) (es : List Entry) → Sound b → Kept a pin l₀ i from b es → steady i pin (signalOf a) b cs ≡ true
+      → Kept a pin l₀ i (covered i b cs from) (boardAfter b cs) (es ++ joined (run b cs))
+  unfolding steady covered joined run boardAfter
+  all-calls [] from b es sound k st = rw append-nil k
+  all-calls (c ∷ cs) from b es sound k st =
+      let x = isRefusal (step b c .number) || steadyCall i pin (signalOf a) b c in
+      let rest = steady i pin (signalOf a) (step b c .board) cs in
+      let first = any-call a pin l₀ i from b es sound k c (both-left x rest st) in
+      rw append-assoc at (all-calls cs _ (step b c .board) (es ++ step b c .entries) (sound-step b c sound) first (both-right x rest st))
+
+-- ---- the claim
+
+pub accurate : Claim
+accurate π st a W w =
+    let s₀ : Sound (board₀ π) = sound-after (π .before) in
+    let s₁ : Sound (board₁ π) = sound-step (board₀ π) _ s₀ in
+    let begun = began (board₀ π) (π .timer) (π .offset) (π .size) (π .value) (π .s) (π .places) s₀ (st .started) in
+    let aim : Aim = aimOf (board₁ π) (π .timer) (π .ch) (π .s) in
+    let l₀ : ℕ = gpioAt (board₁ π .pads) (π .pin) .pin .level in
+    let start : Kept aim (π .pin) l₀ (π .timer) 0 (board₁ π) [] = record {
+      here = begun .present;
+      divider = refl;
+      told = told-start (board₁ π) (π .timer) (π .s) (π .ch) (π .pin) begun (st .started .upward) (st .settings) s₁;
+      later = omega arith;
+    } in
+    let end = all-calls aim (π .pin) l₀ (π .timer) (π .after) 0 (board₁ π) [] s₁ start (st .since) in
+    duty (recorded π) (period aim) (high aim) (aim .first) a W
+    (mul-le-mul-left (aim .tick) (min-le-right (aim .compare) (aim .reload + 1))) (w .from)
+    (λ c lo hi. end .told .past c (omega (arith, w .from)) (omega (arith, w .to, end .later)))

@@ -1,0 +1,203 @@
+-- Demand 3, clause by clause. "After every list of the board's calls from the first board, however late the deliveries fell: a steady pilot in
+-- PWM mode 1 started upward holds H high cycles in any W consecutive cycles from the first update to the last full delivery, with
+-- H × P and W × D at most D × (P − D) apart. One claim about the list."
+use mathlib.Core.Path.{_≡_}
+use mathlib.Core.Bool.{Bool, true, false, cond, not, _&&_, _||_}
+use mathlib.Core.List.{List, [], _∷_, _++_}
+use Prim.Native.Nat.{ℕ, zero, suc, _+_, _-_, _*_, _≤_, _<_, min}
+use lib.Dec.{eqb, leb}
+use Rattle.rm0440.specs.Bits.{CEN, OPM, DIR}
+use Rattle.rm0440.specs.Counter.{stepCycles}
+use Rattle.rm0440.specs.Output as Out
+use Rattle.tim.specs.declared.Timer.{Timer}
+use Rattle.tim.specs.Timer.{isOutput, ocMode, ccrAct}
+use Rattle.sig.specs.Signal.{timSignal}
+use Rattle.gpio.specs.Gpio.{alternateMode}
+use Rattle.book.specs.Book.{Entry}
+use Rattle.machine.specs.Board.{Board, timerAt, gpioAt, routeOf, firstBoard}
+use Rattle.machine.specs.Sys.{driver, selected}
+use Rattle.machine.specs.Deliver.{dividerOf}
+use Rattle.machine.specs.Call.{Call, setUp, clockTree, enable, setPin, drivePin, resetPins, read, write, peek, resetTimer, deliver, queryBooked, queryNext, queryLevel, queryVolts, queryLine, queryTime, clearPending, Outcome}
+use Rattle.machine.specs.Step.{step, run, boardAfter, register, cfgOf}
+use lib.ListN.{getD}
+
+-- ---- the start: "CEN went from 0 to 1 at cycle s (upward: with DIR 0)", by a write that was served
+
+pub record Started (b : Board) (timer offset size value s places : ℕ) : Type 0 where
+  pub served : step b (write timer offset size value s places) .number ≡ 0
+  pub was-off : CEN (timerAt b timer .regs .cr1) ≡ false
+  pub is-on : CEN (timerAt (step b (write timer offset size value s places) .board) timer .regs .cr1) ≡ true
+  pub upward : DIR (timerAt (step b (write timer offset size value s places) .board) timer .regs .cr1) ≡ false
+
+-- ---- the settings on the board that the start left
+
+pub record Settings (b : Board) (timer ch pin : ℕ) : Type 0 where
+  -- "Only timers 2, 3 and 4 drive"
+  pub drives : driver (timerAt b timer .inst .n) ≡ true
+  -- "prescaler, reload and compare active as written"
+  pub prescaler : timerAt b timer .count .«psc_act» ≡ timerAt b timer .regs .psc
+  pub reload : timerAt b timer .count .«arr_act» ≡ timerAt b timer .regs .arr
+  pub compare : ccrAct (timerAt b timer) ch ≡ getD (timerAt b timer .chan .ccr) ch 0
+  -- "one-pulse clear"
+  pub one-pulse : OPM (timerAt b timer .regs .cr1) ≡ false
+  -- "channel below the timer's channel count, an output, enabled, polarity 0", "in PWM mode 1"
+  pub channel : ch < timerAt b timer .inst .channels
+  pub four : ch < 4
+  pub output : isOutput (timerAt b timer) ch ≡ true
+  pub enabled : Out.CCxE ch (timerAt b timer .regs .ccer) ≡ true
+  pub polarity : Out.CCxP ch (timerAt b timer .regs .ccer) ≡ false
+  pub mode : ocMode (timerAt b timer) ch ≡ Out.pwmMode1
+  -- "pin in alternate mode, push-pull, set to that channel and the last pin to take or leave it"
+  pub alternate : gpioAt (b .pads) pin .cfg .mode ≡ alternateMode
+  pub push-pull : gpioAt (b .pads) pin .cfg .«open_drain» ≡ false
+  pub set-to : gpioAt (b .pads) pin .sig ≡ timSignal (timerAt b timer .inst .n) ch
+  pub last-to-take : routeOf (b .pads) (timSignal (timerAt b timer .inst .n) ch) ≡ pin
+  pub pin-is : pin < 128
+
+-- ---- since then: "refused calls aside, the timer got only reads, peeks, deliveries and writes to SR, DIER, CR2, SMCR; the clock tree and
+-- that pin stayed untouched, no other pin took or left the channel, no set-up or pin reset came"
+
+-- "writes to SR, DIER, CR2, SMCR"
+abbrev pub quietRegister : ℕ → Bool
+quietRegister off = eqb off 0x04 || (eqb off 0x08 || (eqb off 0x0c || eqb off 0x10))
+
+-- a served call that leaves the pilot of a timer on a pin by a signal steady. Not needed, and not asked: that an outside drive spares
+-- the pin, that no other pin leaves the channel.
+unfoldable pub steadyCall : ℕ → ℕ → ℕ → Board → Call → Bool
+steadyCall timer pin s b (setUp _) = false
+steadyCall timer pin s b (clockTree _ _) = false
+steadyCall timer pin s b (setPin q mode od out pu pd f cycle places) =
+    not (eqb q pin) && not (eqb (selected (b .pads) q (cfgOf mode od out pu pd) f) s)
+steadyCall timer pin s b (resetPins _ _) = false
+steadyCall timer pin s b (write i offset size value cycle places) = not (eqb i timer) || quietRegister (register offset)
+steadyCall timer pin s b (resetTimer i cycle places) = not (eqb i timer)
+steadyCall timer pin s b (enable _ _) = true
+steadyCall timer pin s b (drivePin _ _ _ _) = true
+steadyCall timer pin s b (read _ _ _ _) = true
+steadyCall timer pin s b (peek _ _ _) = true
+steadyCall timer pin s b (deliver _ _ _) = true
+steadyCall timer pin s b (queryBooked _) = true
+steadyCall timer pin s b queryNext = true
+steadyCall timer pin s b (queryLevel _) = true
+steadyCall timer pin s b (queryVolts _) = true
+steadyCall timer pin s b (queryLine _) = true
+steadyCall timer pin s b (queryTime _) = true
+steadyCall timer pin s b (clearPending _) = true
+
+-- "refused calls aside": 1 to 7
+abbrev pub isRefusal : ℕ → Bool
+isRefusal n = leb 1 n && leb n 7
+
+-- every call of the list, on the board that it arrives at
+unfoldable pub steady : ℕ → ℕ → ℕ → Board → List Call → Bool
+steady timer pin s b [] = true
+steady timer pin s b (c ∷ cs) = (isRefusal (step b c .number) || steadyCall timer pin s b c) && steady timer pin s (step b c .board) cs
+
+-- ---- the span: "from the first update to the last full delivery"
+
+-- "The first update's due cycle, UDIS set or not, is s + (reload + 1 − counter) × t", on the board that the start left
+abbrev pub firstUpdate : Timer → ℕ → ℕ → ℕ
+firstUpdate t s cycles = s + (t .count .«arr_act» + 1 - t .count .cnt0) * cycles
+
+-- a call's cycle, if it is a delivery to the timer
+unfoldable pub deliveredAt : ℕ → Call → ℕ → ℕ
+deliveredAt timer (deliver i cycle places) other = cond (eqb i timer) (cycle + 1) other
+deliveredAt timer (setUp _) other = other
+deliveredAt timer (clockTree _ _) other = other
+deliveredAt timer (enable _ _) other = other
+deliveredAt timer (setPin _ _ _ _ _ _ _ _ _) other = other
+deliveredAt timer (drivePin _ _ _ _) other = other
+deliveredAt timer (resetPins _ _) other = other
+deliveredAt timer (read _ _ _ _) other = other
+deliveredAt timer (write _ _ _ _ _ _) other = other
+deliveredAt timer (peek _ _ _) other = other
+deliveredAt timer (resetTimer _ _ _) other = other
+deliveredAt timer (queryBooked _) other = other
+deliveredAt timer queryNext other = other
+deliveredAt timer (queryLevel _) other = other
+deliveredAt timer (queryVolts _) other = other
+deliveredAt timer (queryLine _) other = other
+deliveredAt timer (queryTime _) other = other
+deliveredAt timer (clearPending _) other = other
+
+-- the cycle after the timer's last delivery answered 0; 0 where there is none
+unfoldable pub covered : ℕ → Board → List Call → ℕ → ℕ
+covered timer b [] end = end
+covered timer b (c ∷ cs) end = covered timer (step b c .board) cs (cond (eqb (step b c .number) 0) (deliveredAt timer c end) end)
+
+-- ---- H: "A pin's level at a cycle is that of its last entry at or before it, in the entries of all calls after the start, joined in order,
+-- else its level on the board that the start left; H counts cycles at level 1."
+
+unfoldable pub joined : List Outcome → List Entry
+joined [] = []
+joined (o ∷ os) = o .entries ++ joined os
+
+unfoldable pub levelAt : ℕ → List Entry → ℕ → ℕ → ℕ
+levelAt pin [] level c = level
+levelAt pin (e ∷ es) level c = levelAt pin es (cond (eqb (e .pin) pin && leb (e .cycle) c) (e .level) level) c
+
+-- in W cycles from a on
+unfoldable pub highs : (ℕ → ℕ) → ℕ → ℕ → ℕ
+highs f a zero = 0
+highs f a (suc W) = highs f a W + cond (eqb (f (a + W)) 1) 1 0
+
+-- ---- the bound: "H × P and W × D at most D × (P − D) apart"
+
+pub record Within (H W P D : ℕ) : Type 0 where
+  pub above : H * P ≤ W * D + D * (P - D)
+  pub below : W * D ≤ H * P + D * (P - D)
+
+-- t: "(active prescaler + 1) × divider cycles"; P: a period of reload + 1 steps; D: the high steps, at most the period
+abbrev pub cyclesOf : Board → ℕ → ℕ
+cyclesOf b timer = stepCycles (timerAt b timer .regs .psc) (dividerOf b (timerAt b timer))
+
+abbrev pub periodOf : Board → ℕ → ℕ
+periodOf b timer = cyclesOf b timer * (timerAt b timer .regs .arr + 1)
+
+abbrev pub highOf : Board → ℕ → ℕ → ℕ
+highOf b timer ch = cyclesOf b timer * min (getD (timerAt b timer .chan .ccr) ch 0) (timerAt b timer .regs .arr + 1)
+
+-- ---- the claim: for every list of calls before the start, every start, every list after it, every channel and pin, every window
+
+pub record Pilot : Type 0 where
+  pub before : List Call
+  pub timer : ℕ
+  pub offset : ℕ
+  pub size : ℕ
+  pub value : ℕ
+  pub s : ℕ
+  pub places : ℕ
+  pub after : List Call
+  pub ch : ℕ
+  pub pin : ℕ
+
+-- the board that the start arrives at, and the one that it leaves
+abbrev pub board₀ : Pilot → Board
+board₀ π = boardAfter firstBoard (π .before)
+
+abbrev pub board₁ : Pilot → Board
+board₁ π = step (board₀ π) (write (π .timer) (π .offset) (π .size) (π .value) (π .s) (π .places)) .board
+
+abbrev pub timer₁ : Pilot → Timer
+timer₁ π = timerAt (board₁ π) (π .timer)
+
+abbrev pub signal : Pilot → ℕ
+signal π = timSignal (timer₁ π .inst .n) (π .ch)
+
+-- the pin's level at each cycle, by the record
+abbrev pub recorded : Pilot → ℕ → ℕ
+recorded π = levelAt (π .pin) (joined (run (board₁ π) (π .after))) (gpioAt (board₁ π .pads) (π .pin) .pin .level)
+
+pub record Steady (π : Pilot) : Type 0 where
+  pub started : Started (board₀ π) (π .timer) (π .offset) (π .size) (π .value) (π .s) (π .places)
+  pub settings : Settings (board₁ π) (π .timer) (π .ch) (π .pin)
+  pub since : steady (π .timer) (π .pin) (signal π) (board₁ π) (π .after) ≡ true
+
+pub record Window (π : Pilot) (a W : ℕ) : Type 0 where
+  pub from : firstUpdate (timer₁ π) (π .s) (cyclesOf (board₁ π) (π .timer)) ≤ a
+  pub to : a + W ≤ covered (π .timer) (board₁ π) (π .after) 0
+
+abbrev pub Claim : Type 0
+Claim =
+    (π : Pilot) → Steady π → (a W : ℕ) → Window π a W
+    → Within (highs (recorded π) a W) W (periodOf (board₁ π) (π .timer)) (highOf (board₁ π) (π .timer) (π .ch))

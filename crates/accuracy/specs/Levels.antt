@@ -1,0 +1,57 @@
+-- A pin's level at a cycle, over entries put one after the other. Assumes nothing.
+use Prim.Native.Nat.{ℕ, _≤_, _<_}
+use mathlib.Core.Path.{_≡_, refl, sym, _∙_}
+use mathlib.Core.Bool.{Bool, true, false, cond, _&&_}
+use mathlib.Core.List.{List, [], _∷_, _++_}
+use lib.Dec.{eqb, leb}
+use borrow.Author.Tests.{eqb-true, eq-eqb, ne-eqb, le-leb, lt-leb}
+use Rattle.gpio.specs.Gpio.{changed}
+use Rattle.gpio.specs.declared.Change.{Change}
+use Rattle.gpio.specs.declared.Change.the-variants.{Same, Level}
+use Rattle.book.specs.Book.{Entry, entryOf}
+use Rattle.machine.specs.Sound.{Elsewhere}
+use Rattle.accuracy.specs.Claim.{levelAt}
+
+pub level-append : (pin : ℕ) (es fs : List Entry) (l c : ℕ) → levelAt pin (es ++ fs) l c ≡ levelAt pin fs (levelAt pin es l c) c
+unfolding levelAt
+level-append pin [] fs l c = refl
+level-append pin (e ∷ es) fs l c = level-append pin es fs (cond (eqb (e .pin) pin && leb (e .cycle) c) (e .level) l) c
+
+-- entries that never change the pin's level
+pub record Silent (pin : ℕ) (es : List Entry) : Type 0 where
+  pub stays : (l c : ℕ) → levelAt pin es l c ≡ l
+
+-- entries, all at a cycle, that take the pin from an old level to a new one
+pub record Moves (pin at : ℕ) (es : List Entry) (old new : ℕ) : Type 0 where
+  pub before : (l c : ℕ) → c < at → levelAt pin es l c ≡ l
+  pub since : (c : ℕ) → at ≤ c → levelAt pin es old c ≡ new
+
+module _ (pin : ℕ) where
+  pub silent-elsewhere : (at : ℕ) (m : Change) → Elsewhere pin m → Silent pin (entryOf at m)
+  unfolding levelAt entryOf
+  silent-elsewhere at m e = record { stays = go m e }
+    where
+      go : (m : Change) → Elsewhere pin m → (l c : ℕ) → levelAt pin (entryOf at m) l c ≡ l
+      go Same e l c = refl
+      go (Level q v) e l c = rw (ne-eqb q pin e)
+
+  pub moves-silent : (at : ℕ) (es : List Entry) (l : ℕ) → Silent pin es → Moves pin at es l l
+  moves-silent at es l k = record { before = λ m c h. k .stays m c; since = λ c h. k .stays l c }
+
+  pub moves-then : (at : ℕ) (es fs : List Entry) (old mid new : ℕ) → Moves pin at es old mid → Moves pin at fs mid new → Moves pin at (es ++ fs) old new
+  moves-then at es fs old mid new p q = record {
+    before = λ l c h. level-append pin es fs l c ∙ q .before (levelAt pin es l c) c h ∙ p .before l c h;
+    since = λ c h. level-append pin es fs old c ∙ rw (p .since c h) (q .since c h);
+  }
+
+  -- "An entry is made exactly when a pin's level changes."
+  pub moves-own : (at old new : ℕ) → Moves pin at (entryOf at (changed pin old new)) old new
+  unfolding levelAt entryOf
+  moves-own at old new = go (eqb new old) refl
+    where
+      go : (b : Bool) → eqb new old ≡ b → Moves pin at (entryOf at (cond b Same (Level pin new))) old new
+      go true e = record { before = λ l c h. refl; since = λ c h. sym (eqb-true new old e) }
+      go false e = record {
+        before = λ l c h. rw (eq-eqb pin pin refl, lt-leb at c h);
+        since = λ c h. rw (eq-eqb pin pin refl, le-leb at c h);
+      }

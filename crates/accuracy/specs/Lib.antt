@@ -1,0 +1,14 @@
+pub mod Claim
+pub mod Tests
+pub mod Wave
+pub mod Levels
+pub mod Aim
+pub mod One
+pub mod Drive
+pub mod Record
+pub mod Start
+pub mod Began
+pub mod Own
+pub mod Others
+pub mod Accurate
+pub mod Bench

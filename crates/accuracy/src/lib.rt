@@ -1,0 +1,1 @@
+// Demand 3 as a theorem about the machine's definition: see specs/Claim.antt and specs/Accurate.antt. No code.
