@@ -11,4 +11,6 @@ pub mod Began
 pub mod Own
 pub mod Others
 pub mod Accurate
+pub mod Quick
 pub mod Bench
+pub mod Needed

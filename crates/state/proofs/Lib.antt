@@ -2,3 +2,4 @@ pub mod Copies
 pub mod Places
 pub mod Stores
 pub mod Blank
+mod Unrouted

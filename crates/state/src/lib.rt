@@ -8,10 +8,11 @@ ghost use lib.Ieee.{Float};
 ghost use Rattle.tim.specs.Timer.{Fit};
 ghost use Rattle.nvic.specs.Nvic.{setLine, clearPending, lineAt, stateOf};
 ghost use Rattle.scheduler.specs.Booking.{least};
-ghost use Rattle.state.specs.Board.{Divided, timerAt, gpioAt, routeAt, sigLevelAt, afAt, enrAt, bookedAt, withTimer, withGpio, withAfAt, withRoute, withSigLevel, withBooking, withNvic, withTree, withClock, withEnr, withLast, withSizes, withVcc};
+ghost use Rattle.state.specs.Board.{Divided, timerAt, gpioAt, routeAt, sigLevelAt, afAt, enrAt, bookedAt, withTimer, withGpio, withAfAt, withRoute, withSigLevel, withBooking, withNvic, withPads, withTree, withClock, withEnr, withLast, withSizes, withVcc};
 ghost use Rattle.state.specs.Parts.{front, parts, listed, repeated};
 ghost use Rattle.state.specs.View.{sizes, view, dividerOf, treeOf};
 ghost use Rattle.state.specs.Fresh.{freshBoard, blankParts};
+ghost use Rattle.machine.specs.Sys.{unrouted};
 ghost use Rattle.real.specs.Real.{zeroFloat};
 ghost use Rattle.sig.specs.Signal.{idleLevel};
 use clk::ClockTree;
@@ -449,6 +450,15 @@ fn idle_levels(words: &mut [u64; WORDS])
         words[SIG_LEVEL + s] = sig::idle_level(s as u16) as u64;
         s += 1;
     }
+}
+
+// No signal has a pin, and every signal is at its idle level.
+pub fn unroute(words: &mut [u64; WORDS])
+    ensures { λ _. ⌜ ((x : List Float) → view (now (words .exit)) x ≡ withPads (view (now (words .entry)) x) (unrouted (view (now (words .entry)) x .pads))) ⌝ }
+{
+    sized(words);
+    fill(words, ROUTE, 256, 128);
+    idle_levels(words);
 }
 
 fn zero_reals(reals: &mut [f64; REALS])

@@ -1,7 +1,10 @@
 -- What the functions leave, over any board: each step's equation in, the definition's board out. Assumes nothing.
 use mathlib.Core.Path.{_≡_, refl, ap, sym, _∙_}
 use mathlib.Core.Bool.{Bool, true, false, cond}
-use Prim.Native.Nat.{ℕ, _≤_, _<_}
+use Prim.Native.Nat.{ℕ, suc, _+_, _-_, _≤_, _<_}
+use native.Mathlib.Nat.{sub-zero}
+use native.Mathlib.Omega.{arith}
+use mathlib.Core.List.{_++_}
 use lib.Dec.{eqb}
 use lib.Ieee.{Float}
 use borrow.Author.Tests.{eq-eqb, ne-eqb, lt-ltb, le-ltb, lt-leb, le-leb}
@@ -17,8 +20,11 @@ use Rattle.gpio.specs.declared.Moved.{Moved}
 use Rattle.gpio.specs.Gpio.{signalOf, updated, refreshed, configured, connected, bit}
 use Rattle.book.specs.declared.Changes.{Changes}
 use Rattle.machine.specs.Board.{Board, Pads, gpioAt, routeOf, levelOf, withPads, withGpio, withSigLevel, noPin}
-use Rattle.machine.specs.Sys.{Move, updatePin, refreshPin, leave, take, selected, selectAf, setPin, drivePin, sigOut, driver, driveChannel, fourChannels, noChanges, driveOutputs}
-use Rattle.sys.specs.Moves.{Moves, Drives}
+use Rattle.machine.specs.Sys.{Move, updatePin, refreshPin, leave, take, selected, selectAf, setPin, drivePin, sigOut, driver, driveChannel, fourChannels, noChanges, driveOutputs, unrouted, resetPin, Resets, resetFrom, resetPins}
+use Rattle.machine.specs.Step.{changesOf}
+use Rattle.book.specs.Book.{Book, puts, entryOf}
+use Rattle.book.specs.Laws.{puts-append}
+use Rattle.sys.specs.Moves.{Moves, Drives, Reset}
 
 module _ (b b₁ : Board) (i : ℕ) (g : Gpio) (v : Float) (m : Moved) (load : g ≡ gpioAt (b .pads) i) (supply : v ≡ b .pads .vcc)
     (store : b₁ ≡ withPads b (withGpio (b .pads) i (m .gpio))) where
@@ -120,3 +126,73 @@ below-two n h = rw (lt-leb 2 n h)
 
 pub above-four : (n : ℕ) → 2 ≤ n → 4 < n → driver n ≡ false
 above-four n h k = rw (le-leb 2 n h, lt-leb n 4 k)
+
+-- ---- the pin reset
+
+-- i pins of n are reset: what is left leads to the same pads and the same book
+pub record Resetting (n cycle i : ℕ) (b : Board) (k₀ : Book) (y : Board) (k : Book) : Type 0 where
+  pub within : i ≤ n
+  pub few : k .count ≤ i
+  pub board : y ≡ withPads b (y .pads)
+  pub pads : resetFrom (n - i) i (y .pads) .pads ≡ resetFrom n 0 (b .pads) .pads
+  pub entries : puts k (changesOf cycle (resetFrom (n - i) i (y .pads) .changes)) ≡ puts k₀ (changesOf cycle (resetFrom n 0 (b .pads) .changes))
+
+pub reset-begins : (n cycle : ℕ) (b : Board) (k₀ : Book) → k₀ .count ≡ 0 → Resetting n cycle 0 b k₀ b k₀
+reset-begins n cycle b k₀ h = record {
+  within = omega arith;
+  few = omega arith;
+  board = refl;
+  pads = ap (λ (m : ℕ). resetFrom m 0 (b .pads) .pads) (sub-zero n);
+  entries = ap (λ (m : ℕ). puts k₀ (changesOf cycle (resetFrom m 0 (b .pads) .changes))) (sub-zero n);
+}
+
+-- one pin more of those that are left
+reset-next : (m i : ℕ) (p : Pads) → resetFrom (suc m) i p .pads ≡ resetFrom m (i + 1) (resetPin p i .pads) .pads
+unfolding resetFrom
+reset-next m i p = refl
+
+reset-more : (m i cycle : ℕ) (p : Pads)
+    → changesOf cycle (resetFrom (suc m) i p .changes) ≡ entryOf cycle (resetPin p i .change) ++ changesOf cycle (resetFrom m (i + 1) (resetPin p i .pads) .changes)
+unfolding resetFrom changesOf
+reset-more m i cycle p = refl
+
+-- none is left
+none-pads : (i : ℕ) (p : Pads) → resetFrom 0 i p .pads ≡ p
+unfolding resetFrom
+none-pads i p = refl
+
+none-entries : (k : Book) (i cycle : ℕ) (p : Pads) → puts k (changesOf cycle (resetFrom 0 i p .changes)) ≡ k
+unfolding resetFrom changesOf puts
+none-entries k i cycle p = refl
+
+module _ (n cycle i : ℕ) (b : Board) (k₀ : Book) (y : Board) (k : Book) (h : Resetting n cycle i b k₀ y k) where
+  pub reset-goes : i < n → (y₁ : Board) (c : Change) → Moves (resetPin (y .pads) i) y y₁ c → (k₁ : Book) → k₁ ≡ puts k (entryOf cycle c) → k₁ .count ≤ k .count + 1
+      → Resetting n cycle (i + 1) b k₀ y₁ k₁
+  reset-goes l y₁ c m k₁ e f =
+      let d : n - i ≡ suc (n - (i + 1)) = omega arith in
+      let q : y₁ .pads ≡ resetPin (y .pads) i .pads = ap (λ (z : Board). z .pads) (m .board) in
+      record {
+        within = omega arith;
+        few = omega (arith, h .few);
+        board = m .board ∙ ap (λ (z : Board). withPads z (resetPin (y .pads) i .pads)) (h .board) ∙ ap (withPads b) (sym q);
+        pads = ap (λ (p : Pads). resetFrom (n - (i + 1)) (i + 1) p .pads) q ∙ sym (reset-next (n - (i + 1)) i (y .pads)) ∙ ap (λ (j : ℕ). resetFrom j i (y .pads) .pads) (sym d) ∙ h .pads;
+        entries =
+            ap (λ (p : Pads). puts k₁ (changesOf cycle (resetFrom (n - (i + 1)) (i + 1) p .changes))) q
+            ∙ ap (λ (z : Book). puts z (changesOf cycle (resetFrom (n - (i + 1)) (i + 1) (resetPin (y .pads) i .pads) .changes))) (e ∙ ap (λ (x : Change). puts k (entryOf cycle x)) (m .change))
+            ∙ sym (puts-append k (entryOf cycle (resetPin (y .pads) i .change)) (changesOf cycle (resetFrom (n - (i + 1)) (i + 1) (resetPin (y .pads) i .pads) .changes)))
+            ∙ ap (puts k) (sym (reset-more (n - (i + 1)) i cycle (y .pads)))
+            ∙ ap (λ (j : ℕ). puts k (changesOf cycle (resetFrom j i (y .pads) .changes))) (sym d)
+            ∙ h .entries;
+      }
+
+  pub reset-ends : n ≤ i → (b₀ : Board) → b ≡ withPads b₀ (unrouted (b₀ .pads)) → n ≡ b₀ .counts .pins → Reset b₀ y cycle k₀ k
+  unfolding resetPins
+  reset-ends g b₀ u c =
+      let d : n - i ≡ 0 = omega (arith, h .within) in
+      let p : y .pads ≡ resetFrom n 0 (b .pads) .pads = sym (none-pads i (y .pads)) ∙ ap (λ (j : ℕ). resetFrom j i (y .pads) .pads) (sym d) ∙ h .pads in
+      let s : resetFrom n 0 (b .pads) ≡ resetFrom (b₀ .counts .pins) 0 (unrouted (b₀ .pads)) =
+      ap (λ (z : Board). resetFrom n 0 (z .pads)) u ∙ ap (λ (j : ℕ). resetFrom j 0 (unrouted (b₀ .pads))) c in
+      record {
+        board = h .board ∙ ap (withPads b) (p ∙ ap (λ (r : Resets). r .pads) s) ∙ ap (λ (z : Board). withPads z (resetFrom (b₀ .counts .pins) 0 (unrouted (b₀ .pads)) .pads)) u;
+        entries = sym (none-entries k i cycle (y .pads)) ∙ ap (λ (j : ℕ). puts k (changesOf cycle (resetFrom j i (y .pads) .changes))) (sym d) ∙ h .entries ∙ ap (λ (r : Resets). puts k₀ (changesOf cycle (r .changes))) s;
+      }

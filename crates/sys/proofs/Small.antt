@@ -3,7 +3,7 @@ use mathlib.Core.Path.{_≡_}
 use native.Mathlib.Omega.{arith}
 use mathlib.Core.Bool.{Bool, true, false, cond}
 use mathlib.Core.List.{List}
-use Prim.Native.Nat.{ℕ, _<_}
+use Prim.Native.Nat.{ℕ, _≤_, _<_}
 use lib.Dec.{eqb, lit<}
 use lib.Ieee.{Float}
 use Rattle.gpio.specs.Gpio.{signalOf}
@@ -21,3 +21,7 @@ signal-small w x i = go (eqb (gpioAt (view w x .pads) i .cfg .mode) 2)
 -- a route that is some pin is one of the 128
 pub route-small : (w : List ℕ) (x : List Float) (s : ℕ) {p : ℕ} → p ≡ routeOf (view w x .pads) s → (p ≡ 128 → ⊥) → p < 128
 route-small w x s e n = omega (arith, bounded w x .route-le s)
+
+-- there are at most 128 pins
+pub pins-small : (w : List ℕ) (x : List Float) {n : ℕ} → n ≡ view w x .counts .pins → n ≤ 128
+pins-small w x e = omega (arith, bounded w x .pins-le)

@@ -3,7 +3,10 @@ use mathlib.Core.Path.{_≡_}
 use Rattle.gpio.specs.declared.Change.{Change}
 use Rattle.book.specs.declared.Changes.{Changes}
 use Rattle.machine.specs.Board.{Board, withPads}
-use Rattle.machine.specs.Sys.{Move, Drive}
+use Rattle.machine.specs.Sys.{Move, Drive, resetPins}
+use Rattle.machine.specs.Step.{changesOf}
+use Rattle.book.specs.Book.{Book, puts}
+use Prim.Native.Nat.{ℕ}
 
 -- one pin's
 pub record Moves (m : Move) (b b₁ : Board) (r : Change) : Type 0 where
@@ -14,3 +17,8 @@ pub record Moves (m : Move) (b b₁ : Board) (r : Change) : Type 0 where
 pub record Drives (d : Drive) (b b₁ : Board) (r : Changes) : Type 0 where
   pub board : b₁ ≡ withPads b (d .pads)
   pub changes : r ≡ d .changes
+
+-- every pin's, put into a book at a cycle
+pub record Reset (b b₁ : Board) (cycle : ℕ) (k k₁ : Book) : Type 0 where
+  pub board : b₁ ≡ withPads b (resetPins (b .pads) (b .counts .pins) .pads)
+  pub entries : k₁ ≡ puts k (changesOf cycle (resetPins (b .pads) (b .counts .pins) .changes))

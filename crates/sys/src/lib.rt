@@ -13,9 +13,11 @@ ghost use lib.Ieee.{Float};
 ghost use Rattle.gpio.specs.Gpio.{bit};
 ghost use Rattle.tim.specs.Change.{output};
 ghost use Rattle.state.specs.View.{view};
-ghost use Rattle.machine.specs.Board.{withPads};
+ghost use lib.ListN.{length};
+ghost use Rattle.book.specs.Book.{book};
+ghost use Rattle.machine.specs.Board.{withPads, plainCfg};
 ghost use Rattle.machine.specs.Sys as S;
-ghost use Rattle.sys.specs.Moves.{Moves, Drives};
+ghost use Rattle.sys.specs.Moves.{Moves, Drives, Reset};
 
 // Re-resolves the level of pin i after any change of its inputs.
 pub fn update_pin(words: &mut [u64; WORDS], reals: &mut [f64; REALS], i: usize) -> Change
@@ -204,4 +206,52 @@ pub fn drive_outputs(
         return no_changes();
     }
     four_channels(words, reals, t, cnt)
+}
+
+// An input with nothing selected.
+fn plain() -> PinCfg
+    ensures { λ r. ⌜ r ≡ plainCfg ⌝ }
+{
+    PinCfg {
+        mode: 0,
+        open_drain: false,
+        odr: 0,
+        pullup: false,
+        pulldown: false,
+    }
+}
+
+// Pin i an input again.
+fn reset_pin(words: &mut [u64; WORDS], reals: &mut [f64; REALS], i: usize) -> Change
+    requires { ⌜ i < 128 ⌝ }
+    ensures { λ r. ⌜ Moves (S.resetPin (view (now (words .entry)) (now (reals .entry)) .pads) i) (view (now (words .entry)) (now (reals .entry))) (view (now (words .exit)) (now (reals .exit))) r ⌝ }
+{
+    let g = state::load_gpio(words, reals, i);
+    state::store_gpio(words, reals, i, gpio::configure(g, plain(), 0));
+    refresh_pin(words, reals, i)
+}
+
+// Resets the pins' electrical state and the routing; what the outside drives is kept. The changes go to the book, pin by pin.
+pub fn reset_pins(
+    words: &mut [u64; WORDS],
+    reals: &mut [f64; REALS],
+    pins: &mut [u8],
+    levels: &mut [u8],
+    cycles: &mut [u64],
+    cycle: u64,
+) -> usize
+    requires { ⌜ (view (now words) (now reals) .counts .pins ≤ length (now pins)) × (view (now words) (now reals) .counts .pins ≤ length (now levels)) × (view (now words) (now reals) .counts .pins ≤ length (now cycles)) ⌝ }
+    ensures { λ r. ⌜ Reset (view (now (words .entry)) (now (reals .entry))) (view (now (words .exit)) (now (reals .exit))) cycle (book (now (pins .entry)) (now (levels .entry)) (now (cycles .entry)) 0) (book (now (pins .exit)) (now (levels .exit)) (now (cycles .exit)) r) ⌝ }
+    ensures { λ r. ⌜ r ≤ view (now (words .entry)) (now (reals .entry)) .counts .pins ⌝ }
+{
+    state::unroute(words);
+    let n = state::pin_count(words);
+    let mut i: usize = 0;
+    let mut k: usize = 0;
+    while i < n {
+        let c = reset_pin(words, reals, i);
+        k = book::append(pins, levels, cycles, k, c, cycle);
+        i += 1;
+    }
+    k
 }

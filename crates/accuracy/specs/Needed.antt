@@ -1,0 +1,111 @@
+-- Thirteen lists of calls in each of which one single condition of the claim fails, and with it the bound. By computation from the first
+-- board on.
+use Prim.Native.Nat.{ℕ, _+_, _-_, _*_}
+use mathlib.Core.Path.{_≡_, refl, sym, ap, _∙_}
+use mathlib.Core.Bool.{Bool, true, _&&_, false}
+use mathlib.Core.List.{List, [], _∷_, map}
+use lib.Dec.{leb}
+use borrow.Author.Tests.{le-leb}
+use lib.ListN.{getD, replicate, set, drop}
+use lib.Ieee as Ieee
+use Rattle.rm0440.specs.Registers.{mask, bits}
+use Rattle.rm0440.specs.Output as Out
+use Rattle.real.specs.Real.{positive}
+use Rattle.pins.specs.Pins.{sensedFrom, resolved}
+use Rattle.clk.specs.Clk.{timerDiv}
+use Rattle.nvic.specs.Nvic.{lineAt, onLine}
+use Rattle.periph.specs.Lane.{laneWrite}
+use Rattle.sig.specs.Signal.{isUart}
+use Rattle.gpio.specs.Gpio as G
+use Rattle.book.specs.Book.{entryOf, entriesOf}
+use Rattle.tim.specs.Change as C
+use Rattle.tim.specs.Count.{upFrom, downFrom, cntAt, synced}
+use Rattle.tim.specs.Next.{compares, consider, nextSteps, nextEvent}
+use Rattle.tim.specs.Regs as R
+use Rattle.machine.specs.Board.{idleLevels, freshBoard}
+use Rattle.machine.specs.Sys as Sys
+use Rattle.machine.specs.Deliver.{lineSettled, rebooked, turn, settled}
+use Rattle.machine.specs.Deliver as D
+use Rattle.machine.specs.Call.{Call, setPin, write}
+use Rattle.machine.specs.Step.{fresh, instsGood, entriesBelow, withinLimits, written, followed, step, run, boardAfter}
+use Rattle.accuracy.specs.Claim.{Within, steadyCall, steady, joined, levelAt, highs, board₁, signal}
+use Rattle.accuracy.specs.Tests.{never}
+use Rattle.accuracy.specs.Quick.{suffice}
+use Rattle.accuracy.specs.Bench.{wire, prepared, plain, usual, Trial, pilot, testsBy, tests, passed, Seen, seenBy, seen, board₂, entries, trial-tests, trial-seen}
+
+-- the failing test by its number, the calls, a window in the span, and the window's highs
+pub record Case : Type 0 where
+  pub fails : ℕ
+  pub trial : Trial
+  pub a : ℕ
+  pub W : ℕ
+  pub H : ℕ
+
+abbrev case : ℕ → List Call → ℕ → List Call → ℕ → ℕ → ℕ → ℕ → Case
+case n before cr1 since last a W H = record { fails = n; trial = record { before = before; cr1 = cr1; since = since; last = last }; a = a; W = W; H = H }
+
+unfoldable pub cases : List Case
+cases =
+    case 3 usual 0x11 [] 120 117 4 4  -- counting down: high for 4 cycles of 10
+    ∷ case 4 (prepared 5 plain 0 0x60 1) 1 [] 120 110 8 0  -- timer 5 never drives: the pin stays low
+    ∷ case 6 (prepared 2 plain 0x80 0x60 1) 0x83 [] 4294967410 4294967399 8 0  -- ARPE and UDIS, so that the reload waits for ever: a period of 2^32 cycles
+    ∷ case 7 (prepared 2 plain 0 0x68 1) 3 [] 120 110 8 0  -- OC1PE and UDIS, so that the compare waits for ever: the pin stays low
+    ∷ case 8 usual 9 [] 120 110 4 4  -- one-pulse: the timer stops at its first update, the pin high
+    ∷ case 11 (prepared 2 plain 0 0x61 1) 1 [] 120 110 8 0  -- an input: the pin stays low
+    ∷ case 12 (prepared 2 plain 0 0x60 0) 1 [] 120 110 8 0  -- CC1E clear: the pin stays low
+    ∷ case 13 (prepared 2 plain 0 0x60 3) 1 [] 120 113 4 4  -- CC1P set: high for 7 cycles of 10
+    ∷ case 14 (prepared 2 plain 0 0x70 1) 1 [] 120 113 4 4  -- PWM mode 2: high for 7 cycles of 10
+    ∷ case 16 (prepared 2 (wire 0 1 0 ∷ []) 0 0x60 1) 1 [] 120 110 8 0  -- open drain, with nothing that pulls up: the pin stays low
+    ∷ case 18 (prepared 2 (wire 0 0 0 ∷ wire 1 0 0 ∷ []) 0 0x60 1) 1 [] 120 110 8 0  -- another pin took the channel last: the pin stays low
+    ∷ case 20 usual 1 (wire 1 0 101 ∷ []) 120 110 4 4  -- another pin takes the channel after the start: the pin stays high
+    ∷ case 20 usual 1 (write 0 0x34 4 7 101 4 ∷ []) 120 110 4 4  -- the compare is written after the start: high for 7 cycles of 10
+    ∷ []
+
+-- every condition but one holds, the window lies in the span, and its highs are these; the period is 10, high for 3
+abbrev pub outcome : Case → List Bool × Seen
+outcome c = (tests (pilot (c .trial)), seen (pilot (c .trial)) (c .a) (c .W))
+
+abbrev pub expected : Case → List Bool × Seen
+expected c = (set passed (c .fails) false, record { inside = true; highs-are = c .H; period-is = 10; high-is = 3 })
+
+-- by few events
+abbrev quickly : Case → Bool × (List Bool × Seen)
+quickly c =
+    let π = pilot (c .trial) in (
+      suffice (board₂ (c .trial)) (c .trial .last),
+      (testsBy π (steady 0 0 (signal π) (board₁ π) (c .trial .since)), seenBy π (c .a) (c .W) (c .trial .last + 1) (entries (c .trial))),
+    )
+
+abbrev wanted : Case → Bool × (List Bool × Seen)
+wanted c = (true, expected c)
+
+one-by : (c : Case) → quickly c ≡ wanted c → outcome c ≡ expected c
+one-by c e =
+    pair (trial-tests (c .trial) ∙ ap (λ (x : Bool × (List Bool × Seen)). x .1 .0) e)
+    (trial-seen (c .trial) (ap (λ (x : Bool × (List Bool × Seen)). x .0) e) (c .a) (c .W) ∙ ap (λ (x : Bool × (List Bool × Seen)). x .1 .1) e)
+  where
+    pair : {l m : List Bool} {x y : Seen} → l ≡ m → x ≡ y → _≡_ {A = List Bool × Seen} (l, x) (m, y)
+    pair p q = cc
+
+all-by : (cs : List Case) → map quickly cs ≡ map wanted cs → map outcome cs ≡ map expected cs
+all-by [] e = refl
+all-by (c ∷ cs) e =
+    let first = one-by c (ap (λ (l : List (Bool × (List Bool × Seen))). getD l 0 (quickly c)) e) in
+    let rest = all-by cs (ap (drop 1) e) in
+    rw (first, rest)
+
+pub cases-hold : map outcome cases ≡ map expected cases
+unfolding cases testsBy seenBy step withinLimits instsGood fresh entriesBelow positive freshBoard Ieee.ofBits Ieee.lt idleLevels isUart mask bits Out.ocref Out.atMatch sensedFrom resolved timerDiv lineAt onLine laneWrite G.sideOf G.updated G.refreshed entryOf entriesOf C.behind C.recomputed C.recomputedAfterUpdate C.ccFlag C.reloaded C.restarted C.ended C.updated C.matched C.compared C.output C.started C.resetState upFrom downFrom cntAt synced compares consider nextSteps nextEvent R.turned R.cr1Written R.arrWritten R.ccrWritten R.ccmrWritten R.ccerWritten R.channelWritten R.regWritten R.channelRead R.regRead R.astray lineSettled rebooked turn D.run settled written followed run boardAfter Sys.updatePin Sys.refreshPin Sys.selectAf Sys.sigOut Sys.driveChannel Sys.driveOutputs Sys.setPin joined steady steadyCall levelAt highs
+cases-hold = all-by cases refl
+
+-- the bound as a test, of the figures
+abbrev pub keeps : ℕ → ℕ → ℕ → ℕ → Bool
+keeps H W P D = leb (H * P) (W * D + D * (P - D)) && leb (W * D) (H * P + D * (P - D))
+
+pub cases-fail : map (λ (c : Case). keeps (c .H) (c .W) 10 3) cases ≡ replicate 13 false
+unfolding cases
+cases-fail = refl
+
+pub apart-by : (H W P D : ℕ) → keeps H W P D ≡ false → Within H W P D → ⊥
+apart-by H W P D e w =
+    never (sym e ∙ rw (le-leb (H * P) (W * D + D * (P - D)) (w .above), le-leb (W * D) (H * P + D * (P - D)) (w .below)))
