@@ -18,7 +18,7 @@ use Rattle.machine.specs.Board.{Board, timerAt, gpioAt, routeOf, firstBoard}
 use Rattle.machine.specs.Sys.{driver, selected}
 use Rattle.machine.specs.Deliver.{dividerOf}
 use Rattle.machine.specs.Call.{Call, setUp, clockTree, enable, setPin, drivePin, resetPins, read, write, peek, resetTimer, deliver, queryBooked, queryNext, queryLevel, queryVolts, queryLine, queryTime, clearPending, Outcome}
-use Rattle.machine.specs.Step.{step, run, boardAfter, register, cfgOf}
+use Rattle.machine.specs.Step.{step, run, boardAfter, clockOn, register, cfgOf}
 use lib.ListN.{getD}
 
 -- ---- the start: "CEN went from 0 to 1 at cycle s (upward: with DIR 0)", by a write that was served
@@ -57,7 +57,7 @@ pub record Settings (b : Board) (timer ch pin : ℕ) : Type 0 where
 -- ---- since then: "refused calls aside, the timer got only reads, peeks, deliveries and writes to SR, DIER, CR2, SMCR; the clock tree and
 -- that pin stayed untouched, no other pin took or left the channel, no set-up or pin reset came"
 
--- "writes to SR, DIER, CR2, SMCR"
+-- "writes to SR, DIER, CR2, SMCR"; a write that the clock gate stops does not reach the timer
 abbrev pub quietRegister : ℕ → Bool
 quietRegister off = eqb off 0x04 || (eqb off 0x08 || (eqb off 0x0c || eqb off 0x10))
 
@@ -69,7 +69,8 @@ steadyCall timer pin s b (clockTree _ _) = false
 steadyCall timer pin s b (setPin q mode od out pu pd f cycle places) =
     not (eqb q pin) && not (eqb (selected (b .pads) q (cfgOf mode od out pu pd) f) s)
 steadyCall timer pin s b (resetPins _ _) = false
-steadyCall timer pin s b (write i offset size value cycle places) = not (eqb i timer) || quietRegister (register offset)
+steadyCall timer pin s b (write i offset size value cycle places) =
+    not (eqb i timer) || (quietRegister (register offset) || not (clockOn b (timerAt b timer)))
 steadyCall timer pin s b (resetTimer i cycle places) = not (eqb i timer)
 steadyCall timer pin s b (enable _ _) = true
 steadyCall timer pin s b (drivePin _ _ _ _) = true

@@ -799,16 +799,29 @@ module _ (b : Board) (i ch s p : ℕ) (w : Wired b i ch s p) where
       (followed-quiet cycle x (quiet-written b (timerAt b i) offset size value cycle q)))
       (frame-last cycle)))))
 
-  -- either
+  -- with the clock gate shut a write does nothing
+  pub frame-write-gated : (offset size value cycle places : ℕ) → clockOn b (timerAt b i) ≡ false → Rest i s p b (step b (write i offset size value cycle places))
+  unfolding step
+  frame-write-gated offset size value cycle places q =
+      either (Rest i s p b) (absent i (b .counts .timers)) (rest-still i s p b 2 0)
+      (either (Rest i s p b) (oddSize size) (rest-still i s p b 3 0)
+      (either (Rest i s p b) (astray b cycle) (rest-still i s p b 5 0)
+      (either (Rest i s p b) (bookFull places) (rest-still i s p b 6 0)
+      (by-test (Rest i s p b) (clockOn b (timerAt b i)) (λ t. let z : _≡_ {A = ℕ} 0 1 = cc in absurd (omega arith)) (λ _. frame-last cycle)))))
+
+  -- any of them
   pub frame-write : (j offset size value cycle places : ℕ)
-      → (not (eqb j i) || (eqb (register offset) 0x04 || (eqb (register offset) 0x08 || (eqb (register offset) 0x0c || eqb (register offset) 0x10)))) ≡ true
+      → (not (eqb j i) || ((eqb (register offset) 0x04 || (eqb (register offset) 0x08 || (eqb (register offset) 0x0c || eqb (register offset) 0x10))) || not (clockOn b (timerAt b i)))) ≡ true
       → Rest i s p b (step b (write j offset size value cycle places))
   frame-write j offset size value cycle places h = go (eqb j i) refl h
     where
-      go : (x : Bool) → eqb j i ≡ x
-          → (not x || (eqb (register offset) 0x04 || (eqb (register offset) 0x08 || (eqb (register offset) 0x0c || eqb (register offset) 0x10)))) ≡ true
-          → Rest i s p b (step b (write j offset size value cycle places))
-      go true e q = rw (eqb-true j i e) (frame-write-quiet offset size value cycle places q)
+      own : (x y : Bool) → (eqb (register offset) 0x04 || (eqb (register offset) 0x08 || (eqb (register offset) 0x0c || eqb (register offset) 0x10))) ≡ x → clockOn b (timerAt b i) ≡ y → (x || not y) ≡ true → Rest i s p b (step b (write i offset size value cycle places))
+      own true y q g h = frame-write-quiet offset size value cycle places q
+      own false false q g h = frame-write-gated offset size value cycle places g
+      own false true q g h = let z : _≡_ {A = ℕ} 0 1 = cc in absurd (omega arith)
+
+      go : (x : Bool) → eqb j i ≡ x → (not x || ((eqb (register offset) 0x04 || (eqb (register offset) 0x08 || (eqb (register offset) 0x0c || eqb (register offset) 0x10))) || not (clockOn b (timerAt b i)))) ≡ true → Rest i s p b (step b (write j offset size value cycle places))
+      go true e q = rw (eqb-true j i e) (own (eqb (register offset) 0x04 || (eqb (register offset) 0x08 || (eqb (register offset) 0x0c || eqb (register offset) 0x10))) (clockOn b (timerAt b i)) refl refl q)
       go false e q = frame-write-other j offset size value cycle places (eqb-false j i e)
 
   reset-other : (j cycle : ℕ) → j < b .counts .timers → (j ≡ i → ⊥) → Rest i s p b (timerReset b j cycle)
@@ -901,7 +914,7 @@ Leaves i p s b (drivePin _ _ _ _) = Unit {0}
 Leaves i p s b (resetPins _ _) = ⊥
 Leaves i p s b (read _ _ _ _) = Unit {0}
 Leaves i p s b (write j offset size value cycle places) =
-    (not (eqb j i) || (eqb (register offset) 0x04 || (eqb (register offset) 0x08 || (eqb (register offset) 0x0c || eqb (register offset) 0x10)))) ≡ true
+    (not (eqb j i) || ((eqb (register offset) 0x04 || (eqb (register offset) 0x08 || (eqb (register offset) 0x0c || eqb (register offset) 0x10))) || not (clockOn b (timerAt b i)))) ≡ true
 Leaves i p s b (peek _ _ _) = Unit {0}
 Leaves i p s b (resetTimer j _ _) = j ≡ i → ⊥
 Leaves i p s b (deliver j _ _) = j ≡ i → ⊥
