@@ -3,3 +3,4 @@ pub mod Places
 pub mod Stores
 pub mod Blank
 mod Unrouted
+mod First

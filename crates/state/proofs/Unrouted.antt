@@ -15,10 +15,15 @@ use Rattle.machine.specs.Sys.{unrouted}
 use Rattle.state.specs.Parts.{start, parts, listed, repeated, length-listed, map-listed, parts-whole}
 use Rattle.state.specs.View.{sizes, realSizes, view, boardOf, pinOf, levelOf}
 
-alike : (a k n : ℕ) → listed (λ j. a) k n ≡ replicate n a
+pub alike : {A : Type 0} (a : A) (k n : ℕ) → listed (λ j. a) k n ≡ replicate n a
 unfolding listed
 alike a k zero = refl
-alike a k (suc n) = ap (λ (l : List ℕ). a ∷ l) (alike a (suc k) n)
+alike {A} a k (suc n) = ap (λ (l : List A). a ∷ l) (alike a (suc k) n)
+
+pub idle-list : (k n : ℕ) → listed idleLevel k n ≡ idleLevels k n
+unfolding listed idleLevels
+idle-list k zero = refl
+idle-list k (suc n) = rw (add-one k, idle-list (suc k) n)
 
 bit-level : (b : Bool) → cond b 1 0 % 2 ≡ cond b 1 0
 bit-level true = refl
@@ -47,4 +52,4 @@ module _ (w₀ w₁ w₂ : List ℕ) (x : List Float) (size : length w₀ ≡ 52
   unfolding view parts start unrouted
   unrouted-view =
       ap (λ (ws : List (List ℕ)). boardOf ws (parts nan realSizes x)) both
-      ∙ rw (map-listed pinOf (λ k. 128) 0 256, alike 128 0 256, map-listed levelOf idleLevel 0 256, idle 0 256)
+      ∙ rw (map-listed pinOf (λ k. 128) 0 256, alike {A = ℕ} 128 0 256, map-listed levelOf idleLevel 0 256, idle 0 256)

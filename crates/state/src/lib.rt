@@ -11,7 +11,8 @@ ghost use Rattle.scheduler.specs.Booking.{least};
 ghost use Rattle.state.specs.Board.{Divided, timerAt, gpioAt, routeAt, sigLevelAt, afAt, enrAt, bookedAt, withTimer, withGpio, withAfAt, withRoute, withSigLevel, withBooking, withNvic, withPads, withTree, withClock, withEnr, withLast, withSizes, withVcc};
 ghost use Rattle.state.specs.Parts.{front, parts, listed, repeated};
 ghost use Rattle.state.specs.View.{sizes, view, dividerOf, treeOf};
-ghost use Rattle.state.specs.Fresh.{freshBoard, blankParts};
+ghost use Rattle.machine.specs.Board.{freshBoard};
+ghost use Rattle.state.specs.Fresh.{blankParts};
 ghost use Rattle.machine.specs.Sys.{unrouted};
 ghost use Rattle.real.specs.Real.{zeroFloat};
 ghost use Rattle.sig.specs.Signal.{idleLevel};
@@ -489,9 +490,9 @@ fn clear_words(words: &mut [u64; WORDS])
     idle_levels(words);
 }
 
-// The board before set-up, at a frequency and a supply: no timers, pins or lines.
+// The board at a frequency and a supply, as after set-up but with no timers, pins or lines. At 1 Hz and 1 volt it is the first board.
 pub fn clear(words: &mut [u64; WORDS], reals: &mut [f64; REALS], hz: f64, vcc: f64)
-    ensures { λ _. ⌜ view (now (words .exit)) (now (reals .exit)) ≡ freshBoard hz vcc ⌝ }
+    ensures { λ _. ⌜ view (now (words .exit)) (now (reals .exit)) ≡ freshBoard hz vcc 0 0 [] [] ⌝ }
 {
     sized_reals(reals);
     clear_words(words);

@@ -1,5 +1,7 @@
 -- The cleared words and reals, with the supply and the clocks.
+use Rattle.state.proofs.First.{first}
 use Rattle.state.proofs.Blank.{flat-divided, fresh}
+use mathlib.Core.Path.{_∙_}
 use borrow.Author.Needs.{needs}
 use Rattle.state.proofs.clear.Statement.{statement}
 use Rattle.state.proofs.clear.Tie as tie
@@ -29,7 +31,7 @@ set-clock-requires : tie.Need-set-clock-requires
 set-clock-requires c κs = search needs
 
 returns : tie.Need-returns
-returns c = let s = c .before .before .before .before .before .before .before .before .before .before .before .before .before .before .before .before in rw (c .set-clock .ensures, c .before .new .ensures, c .before .before .before .before .set-tree .ensures, c .before .before .before .before .before .flat .ensures, c .before .before .before .before .before .before .before .before .set-vcc .ensures) (fresh _ (s .args .reals .now) _ (s .args .hz) (s .args .vcc) (c .before .before .before .before .before .before .before .before .before .before .before .before .before .before .sized-reals .ensures) (c .before .before .before .before .before .before .before .before .before .before .before .before .clear-words .ensures) (c .before .before .before .before .before .before .before .before .before .before .zero-reals .ensures))
+returns c = let s = c .before .before .before .before .before .before .before .before .before .before .before .before .before .before .before .before in (rw (c .set-clock .ensures, c .before .new .ensures, c .before .before .before .before .set-tree .ensures, c .before .before .before .before .before .flat .ensures, c .before .before .before .before .before .before .before .before .set-vcc .ensures) (fresh _ (s .args .reals .now) _ (s .args .hz) (s .args .vcc) (c .before .before .before .before .before .before .before .before .before .before .before .before .before .before .sized-reals .ensures) (c .before .before .before .before .before .before .before .before .before .before .before .before .clear-words .ensures) (c .before .before .before .before .before .before .before .before .before .before .zero-reals .ensures))) ∙ first (s .args .hz) (s .args .vcc)
 
 pub clear-spec : {M : Type 1} → statement M
 clear-spec = tie.close (tie.spec sized-reals-requires clear-words-requires zero-reals-requires set-vcc-requires flat-requires set-tree-requires new-requires set-clock-requires returns)
