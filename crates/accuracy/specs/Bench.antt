@@ -112,17 +112,15 @@ testsBy π since =
     ∷ eqb (ccrAct t (π .ch)) (getD (t .chan .ccr) (π .ch) 0)  -- 7: compare
     ∷ not (OPM (t .regs .cr1))  -- 8: one-pulse
     ∷ ltb (π .ch) (t .inst .channels)
-    ∷ ltb (π .ch) 4
-    ∷ isOutput t (π .ch)  -- 11: output
-    ∷ Out.CCxE (π .ch) (t .regs .ccer)  -- 12: enabled
-    ∷ not (Out.CCxP (π .ch) (t .regs .ccer))  -- 13: polarity
-    ∷ eqb (ocMode t (π .ch)) Out.pwmMode1  -- 14: mode
+    ∷ isOutput t (π .ch)  -- 10: output
+    ∷ Out.CCxE (π .ch) (t .regs .ccer)  -- 11: enabled
+    ∷ not (Out.CCxP (π .ch) (t .regs .ccer))  -- 12: polarity
+    ∷ eqb (ocMode t (π .ch)) Out.pwmMode1  -- 13: mode
     ∷ eqb (g .cfg .mode) alternateMode
-    ∷ not (g .cfg .«open_drain»)  -- 16: push-pull
+    ∷ not (g .cfg .«open_drain»)  -- 15: push-pull
     ∷ eqb (g .sig) (signal π)
-    ∷ eqb (routeOf (board₁ π .pads) (signal π)) (π .pin)  -- 18: last-to-take
-    ∷ ltb (π .pin) 128
-    ∷ since  -- 20: since
+    ∷ eqb (routeOf (board₁ π .pads) (signal π)) (π .pin)  -- 17: last-to-take
+    ∷ since  -- 18: since
     ∷ []
 
 abbrev pub tests : Pilot → List Bool
@@ -130,7 +128,7 @@ tests π = testsBy π (steady (π .timer) (π .pin) (signal π) (board₁ π) (�
 
 -- all of them passed
 abbrev pub passed : List Bool
-passed = replicate 21 true
+passed = replicate 19 true
 
 pub steady-by : (π : Pilot) → tests π ≡ passed → Steady π
 unfolding testsBy
@@ -147,18 +145,16 @@ steady-by π e =
         compare = eqb-true (ccrAct t (π .ch)) (getD (t .chan .ccr) (π .ch) 0) (at 7);
         one-pulse = not-true _ (at 8);
         channel = ltb-true (π .ch) (t .inst .channels) (at 9);
-        four = ltb-true (π .ch) 4 (at 10);
-        output = at 11;
-        enabled = at 12;
-        polarity = not-true _ (at 13);
-        mode = eqb-true (ocMode t (π .ch)) Out.pwmMode1 (at 14);
-        alternate = eqb-true (g .cfg .mode) alternateMode (at 15);
-        push-pull = not-true _ (at 16);
-        set-to = eqb-true (g .sig) (signal π) (at 17);
-        last-to-take = eqb-true (routeOf (board₁ π .pads) (signal π)) (π .pin) (at 18);
-        pin-is = ltb-true (π .pin) 128 (at 19);
+        output = at 10;
+        enabled = at 11;
+        polarity = not-true _ (at 12);
+        mode = eqb-true (ocMode t (π .ch)) Out.pwmMode1 (at 13);
+        alternate = eqb-true (g .cfg .mode) alternateMode (at 14);
+        push-pull = not-true _ (at 15);
+        set-to = eqb-true (g .sig) (signal π) (at 16);
+        last-to-take = eqb-true (routeOf (board₁ π .pads) (signal π)) (π .pin) (at 17);
       };
-      since = at 20;
+      since = at 18;
     }
 
 -- ---- a window

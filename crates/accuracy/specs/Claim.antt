@@ -42,7 +42,6 @@ pub record Settings (b : Board) (timer ch pin : ℕ) : Type 0 where
   pub one-pulse : OPM (timerAt b timer .regs .cr1) ≡ false
   -- "channel below the timer's channel count, an output, enabled, polarity 0", "in PWM mode 1"
   pub channel : ch < timerAt b timer .inst .channels
-  pub four : ch < 4
   pub output : isOutput (timerAt b timer) ch ≡ true
   pub enabled : Out.CCxE ch (timerAt b timer .regs .ccer) ≡ true
   pub polarity : Out.CCxP ch (timerAt b timer .regs .ccer) ≡ false
@@ -52,7 +51,6 @@ pub record Settings (b : Board) (timer ch pin : ℕ) : Type 0 where
   pub push-pull : gpioAt (b .pads) pin .cfg .«open_drain» ≡ false
   pub set-to : gpioAt (b .pads) pin .sig ≡ timSignal (timerAt b timer .inst .n) ch
   pub last-to-take : routeOf (b .pads) (timSignal (timerAt b timer .inst .n) ch) ≡ pin
-  pub pin-is : pin < 128
 
 -- ---- since then: "refused calls aside, the timer got only reads, peeks, deliveries and writes to SR, DIER, CR2, SMCR; the clock tree and
 -- that pin stayed untouched, no other pin took or left the channel, no set-up or pin reset came"

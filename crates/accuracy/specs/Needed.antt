@@ -51,14 +51,14 @@ cases =
     ∷ case 6 (prepared 2 plain 0x80 0x60 1) 0x83 [] 4294967410 4294967399 8 0  -- ARPE and UDIS, so that the reload waits for ever: a period of 2^32 cycles
     ∷ case 7 (prepared 2 plain 0 0x68 1) 3 [] 120 110 8 0  -- OC1PE and UDIS, so that the compare waits for ever: the pin stays low
     ∷ case 8 usual 9 [] 120 110 4 4  -- one-pulse: the timer stops at its first update, the pin high
-    ∷ case 11 (prepared 2 plain 0 0x61 1) 1 [] 120 110 8 0  -- an input: the pin stays low
-    ∷ case 12 (prepared 2 plain 0 0x60 0) 1 [] 120 110 8 0  -- CC1E clear: the pin stays low
-    ∷ case 13 (prepared 2 plain 0 0x60 3) 1 [] 120 113 4 4  -- CC1P set: high for 7 cycles of 10
-    ∷ case 14 (prepared 2 plain 0 0x70 1) 1 [] 120 113 4 4  -- PWM mode 2: high for 7 cycles of 10
-    ∷ case 16 (prepared 2 (wire 0 1 0 ∷ []) 0 0x60 1) 1 [] 120 110 8 0  -- open drain, with nothing that pulls up: the pin stays low
-    ∷ case 18 (prepared 2 (wire 0 0 0 ∷ wire 1 0 0 ∷ []) 0 0x60 1) 1 [] 120 110 8 0  -- another pin took the channel last: the pin stays low
-    ∷ case 20 usual 1 (wire 1 0 101 ∷ []) 120 110 4 4  -- another pin takes the channel after the start: the pin stays high
-    ∷ case 20 usual 1 (write 0 0x34 4 7 101 4 ∷ []) 120 110 4 4  -- the compare is written after the start: high for 7 cycles of 10
+    ∷ case 10 (prepared 2 plain 0 0x61 1) 1 [] 120 110 8 0  -- an input: the pin stays low
+    ∷ case 11 (prepared 2 plain 0 0x60 0) 1 [] 120 110 8 0  -- CC1E clear: the pin stays low
+    ∷ case 12 (prepared 2 plain 0 0x60 3) 1 [] 120 113 4 4  -- CC1P set: high for 7 cycles of 10
+    ∷ case 13 (prepared 2 plain 0 0x70 1) 1 [] 120 113 4 4  -- PWM mode 2: high for 7 cycles of 10
+    ∷ case 15 (prepared 2 (wire 0 1 0 ∷ []) 0 0x60 1) 1 [] 120 110 8 0  -- open drain, with nothing that pulls up: the pin stays low
+    ∷ case 17 (prepared 2 (wire 0 0 0 ∷ wire 1 0 0 ∷ []) 0 0x60 1) 1 [] 120 110 8 0  -- another pin took the channel last: the pin stays low
+    ∷ case 18 usual 1 (wire 1 0 101 ∷ []) 120 110 4 4  -- another pin takes the channel after the start: the pin stays high
+    ∷ case 18 usual 1 (write 0 0x34 4 7 101 4 ∷ []) 120 110 4 4  -- the compare is written after the start: high for 7 cycles of 10
     ∷ []
 
 -- every condition but one holds, the window lies in the span, and its highs are these; the period is 10, high for 3

@@ -1,6 +1,6 @@
 -- The boards that calls lead to are sound, and what a call leaves alone of a pilot: a timer, its channel's signal and the pin that routes it.
 -- Assumes nothing.
-use mathlib.Core.Path.{_≡_, refl, sym, ap, _∙_}
+use mathlib.Core.Path.{_≡_, refl, sym, ap, _∙_, subst}
 use mathlib.Core.Bool.{Bool, true, false, cond, not, _&&_, _||_, and-eq-true-iff}
 use mathlib.Core.List.{List, [], _∷_, _++_, map}
 use Prim.Native.Nat.{ℕ, zero, suc, _+_, _-_, _≤_, _<_}
@@ -178,19 +178,19 @@ inst-applied t (Compare ch) at div = inst-compared t ch
 -- ---- a board with one thing another
 
 sound-pads : (b : Board) (p : Pads) → Sound b → SoundPads p → Sound (withPads b p)
-sound-pads b p h k = record { timers = h .timers; few-timers = h .few-timers; few-pins = h .few-pins; distinct = h .distinct; pads = k }
+sound-pads b p h k = record { timers = h .timers; few-timers = h .few-timers; few-pins = h .few-pins; distinct = h .distinct; channels = h .channels; pads = k }
 
 sound-nvic : (b : Board) (n : Nvic) → Sound b → Sound (withNvic b n)
-sound-nvic b n h = record { timers = h .timers; few-timers = h .few-timers; few-pins = h .few-pins; distinct = h .distinct; pads = h .pads }
+sound-nvic b n h = record { timers = h .timers; few-timers = h .few-timers; few-pins = h .few-pins; distinct = h .distinct; channels = h .channels; pads = h .pads }
 
 sound-booking : (b : Board) (m : List ℕ) → Sound b → Sound (withBooking b m)
-sound-booking b m h = record { timers = h .timers; few-timers = h .few-timers; few-pins = h .few-pins; distinct = h .distinct; pads = h .pads }
+sound-booking b m h = record { timers = h .timers; few-timers = h .few-timers; few-pins = h .few-pins; distinct = h .distinct; channels = h .channels; pads = h .pads }
 
 sound-clocks : (b : Board) (c : Clocks) → Sound b → Sound (withClocks b c)
-sound-clocks b c h = record { timers = h .timers; few-timers = h .few-timers; few-pins = h .few-pins; distinct = h .distinct; pads = h .pads }
+sound-clocks b c h = record { timers = h .timers; few-timers = h .few-timers; few-pins = h .few-pins; distinct = h .distinct; channels = h .channels; pads = h .pads }
 
 sound-last : (b : Board) (cycle : ℕ) → Sound b → Sound (withLast b cycle)
-sound-last b cycle h = record { timers = h .timers; few-timers = h .few-timers; few-pins = h .few-pins; distinct = h .distinct; pads = h .pads }
+sound-last b cycle h = record { timers = h .timers; few-timers = h .few-timers; few-pins = h .few-pins; distinct = h .distinct; channels = h .channels; pads = h .pads }
 
 same-insts : (b : Board) (i : ℕ) (t : Timer) → t .inst ≡ timerAt b i .inst → (j : ℕ) → timerAt (withTimer b i t) j .inst ≡ timerAt b j .inst
 same-insts b i t e j =
@@ -205,6 +205,7 @@ sound-timer b i t e h = record {
   few-pins = h .few-pins;
   distinct = λ j k a c z.
       h .distinct j k a c (sym (ap (λ (x : Inst). x .n) (same-insts b i t e j)) ∙ (z ∙ ap (λ (x : Inst). x .n) (same-insts b i t e k)));
+  channels = λ j a. omega (arith, ap (λ (x : Inst). x .channels) (same-insts b i t e j), h .channels j a);
   pads = h .pads;
 }
 
@@ -237,6 +238,21 @@ insts-distinct (x ∷ xs) h zero (suc j) a b e = absurd (fresh-apart (x .n) xs (
 insts-distinct (x ∷ xs) h (suc i) zero a b e = absurd (fresh-apart (x .n) xs (good-fresh x xs h) i (le-of-suc-le-suc a) e)
 insts-distinct (x ∷ xs) h (suc i) (suc j) a b e = ap suc (insts-distinct xs (good-rest x xs h) i j (le-of-suc-le-suc a) (le-of-suc-le-suc b) e)
 
+-- "0 to 4 channels"
+good-channels : (x : Inst) → instGood x ≡ true → x .channels ≤ 4
+good-channels x h =
+    let a : Bool = leb 1 (x .n) && leb (x .n) 24 && (eqb (x .width) 16 || eqb (x .width) 32) in
+    let d : Bool = leb (x .channels) 4 in
+    let e : Bool = leb (x .«en_reg») 8 in
+    let f : Bool = leb (x .«en_bit») 31 in
+    leb-true (x .channels) 4 (and-right a d (and-left (a && d) e (and-left (a && d && e) f h)))
+
+insts-channels : (is : List Inst) → instsGood is ≡ true → (i : ℕ) → i < length is → getD is i noInst .channels ≤ 4
+unfolding instsGood
+insts-channels [] h i a = absurd (not-suc-le-zero a)
+insts-channels (x ∷ xs) h zero a = good-channels x (and-left (instGood x) (fresh (x .n) xs) (and-left (instGood x && fresh (x .n) xs) (instsGood xs) h))
+insts-channels (x ∷ xs) h (suc i) a = insts-channels xs (good-rest x xs h) i (le-of-suc-le-suc a)
+
 abbrev started : List Inst → List Timer
 started is = map (λ (i : Inst). C.resetState i 1) is
 
@@ -258,6 +274,7 @@ sound-fresh hz vcc pins lines is table few small good = record {
   distinct = λ i j a b e.
       insts-distinct is good i j a b
       (sym (ap (λ (x : Inst). x .n) (fresh-inst is _ i a)) ∙ (e ∙ ap (λ (x : Inst). x .n) (fresh-inst is _ j b)));
+  channels = λ i a. subst (λ (x : Inst). x .channels ≤ 4) (sym (fresh-inst is _ i a)) (insts-channels is good i a);
   pads = unwired _ (length-replicate 128 blankGpio) (length-replicate 256 noPin) (idle-length 0 256) (λ s. all-alike 256 s noPin) .sound;
 }
 

@@ -29,6 +29,7 @@ pub record Sound (b : Board) : Type 0 where
   pub few-timers : b .counts .timers ≤ 8
   pub few-pins : b .counts .pins ≤ 128
   pub distinct : (i j : ℕ) → i < b .counts .timers → j < b .counts .timers → timerAt b i .inst .n ≡ timerAt b j .inst .n → i ≡ j
+  pub channels : (i : ℕ) → i < b .counts .timers → timerAt b i .inst .channels ≤ 4
   pub pads : SoundPads (b .pads)
 
 -- between two pads nothing was done to the signal s and the pin p that routes it (its outside drive and volts aside)
