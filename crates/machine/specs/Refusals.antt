@@ -22,12 +22,12 @@ abbrev pub wrongBoard : Setup → Refusal
 wrongBoard s = 1 when not (withinLimits s)
 
 -- 2, no such post: "no timer, pin or enable word of that index"
-abbrev pub noSuchPost : ℕ → ℕ → Refusal
-noSuchPost index count = 2 when leb count index
+abbrev pub noSuchIndex : ℕ → ℕ → Refusal
+noSuchIndex index count = 2 when leb count index
 
 -- 3, odd plug: "a read or write size other than 1, 2, 4"
-abbrev pub oddPlug : ℕ → Refusal
-oddPlug size = 3 when not (eqb size 1 || (eqb size 2 || eqb size 4))
+abbrev pub badSize : ℕ → Refusal
+badSize size = 3 when not (eqb size 1 || (eqb size 2 || eqb size 4))
 
 -- 4, bad clock: "a tree divider, or a divider that `timer_div` makes of the tree, outside 1 to 8,192, or a frequency not finite and above 0"
 abbrev pub badClock : Bool → Refusal
@@ -52,21 +52,21 @@ counterAstray b timer offset size value cycle =
 unfoldable pub refusals : Board → Call → List Refusal
 refusals b (setUp s) = wrongBoard s ∷ badClock (positive (s .hz)) ∷ []
 refusals b (clockTree t cycle) = badClock (good t) ∷ clockAstray b cycle ∷ []
-refusals b (enable word value) = noSuchPost word 9 ∷ []
+refusals b (enable word value) = noSuchIndex word 9 ∷ []
 refusals b (setPin pin mode openDrain out pullup pulldown function cycle places) =
-    noSuchPost pin (b .counts .pins) ∷ clockAstray b cycle ∷ bookFull 4 places ∷ []
-refusals b (drivePin pin e cycle places) = noSuchPost pin (b .counts .pins) ∷ clockAstray b cycle ∷ bookFull 4 places ∷ []
+    noSuchIndex pin (b .counts .pins) ∷ clockAstray b cycle ∷ bookFull 4 places ∷ []
+refusals b (drivePin pin e cycle places) = noSuchIndex pin (b .counts .pins) ∷ clockAstray b cycle ∷ bookFull 4 places ∷ []
 refusals b (resetPins cycle places) = clockAstray b cycle ∷ bookFull (b .counts .pins) places ∷ []
-refusals b (read timer offset size cycle) = noSuchPost timer (b .counts .timers) ∷ oddPlug size ∷ clockAstray b cycle ∷ []
+refusals b (read timer offset size cycle) = noSuchIndex timer (b .counts .timers) ∷ badSize size ∷ clockAstray b cycle ∷ []
 refusals b (write timer offset size value cycle places) =
-    noSuchPost timer (b .counts .timers) ∷ oddPlug size ∷ clockAstray b cycle ∷ bookFull 4 places ∷ counterAstray b timer offset size value cycle ∷ []
-refusals b (peek timer offset cycle) = noSuchPost timer (b .counts .timers) ∷ clockAstray b cycle ∷ []
-refusals b (resetTimer timer cycle places) = noSuchPost timer (b .counts .timers) ∷ clockAstray b cycle ∷ bookFull 4 places ∷ []
-refusals b (deliver timer cycle places) = noSuchPost timer (b .counts .timers) ∷ clockAstray b cycle ∷ bookFull 4 places ∷ []
-refusals b (queryBooked timer) = noSuchPost timer (b .counts .timers) ∷ []
+    noSuchIndex timer (b .counts .timers) ∷ badSize size ∷ clockAstray b cycle ∷ bookFull 4 places ∷ counterAstray b timer offset size value cycle ∷ []
+refusals b (peek timer offset cycle) = noSuchIndex timer (b .counts .timers) ∷ clockAstray b cycle ∷ []
+refusals b (resetTimer timer cycle places) = noSuchIndex timer (b .counts .timers) ∷ clockAstray b cycle ∷ bookFull 4 places ∷ []
+refusals b (deliver timer cycle places) = noSuchIndex timer (b .counts .timers) ∷ clockAstray b cycle ∷ bookFull 4 places ∷ []
+refusals b (queryBooked timer) = noSuchIndex timer (b .counts .timers) ∷ []
 refusals b queryNext = []
-refusals b (queryLevel pin) = noSuchPost pin (b .counts .pins) ∷ []
-refusals b (queryVolts pin) = noSuchPost pin (b .counts .pins) ∷ []
+refusals b (queryLevel pin) = noSuchIndex pin (b .counts .pins) ∷ []
+refusals b (queryVolts pin) = noSuchIndex pin (b .counts .pins) ∷ []
 refusals b (queryLine irq) = []
 refusals b (queryTime cycle) = clockAstray b cycle ∷ []
 refusals b (clearPending irq) = []

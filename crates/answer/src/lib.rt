@@ -1,0 +1,91 @@
+// What a call answers, and the refusals that calls share (document 01's table), lowest number first.
+use state::WORDS;
+ghost use mathlib.Core.Path.{_≡_};
+ghost use mathlib.Core.List.{List, [], _∷_};
+ghost use lib.Ieee.{Float};
+ghost use Rattle.state.specs.View.{view};
+ghost use Rattle.machine.specs.Step.{astray, oddSize};
+ghost use Rattle.machine.specs.Refusals.{first, noSuchIndex, badSize, clockAstray, bookFull};
+ghost use Rattle.answer.specs.Promise.{answer};
+
+// The number, the value and the number of entries. The entries are in the lent book.
+#[repr(C)]
+pub struct Answer {
+    pub number: u8,
+    pub value: u64,
+    pub count: usize,
+}
+
+// Refused with number n: no value, no entries.
+pub fn refused(n: u8) -> Answer
+    ensures { λ r. ⌜ r ≡ answer n 0 0 ⌝ }
+{
+    Answer {
+        number: n,
+        value: 0,
+        count: 0,
+    }
+}
+
+// Served, with a value and no entries.
+pub fn served(value: u64) -> Answer
+    ensures { λ r. ⌜ r ≡ answer 0 value 0 ⌝ }
+{
+    Answer {
+        number: 0,
+        value,
+        count: 0,
+    }
+}
+
+// A read or write of 1, 2 or 4 bytes is even.
+pub fn odd_size(size: u32) -> bool
+    ensures { λ r. ⌜ r ≡ oddSize size ⌝ }
+{
+    if size == 1 {
+        return false;
+    }
+    if size == 2 {
+        return false;
+    }
+    size != 4
+}
+
+// The cycle is above 2^62 or below that of the last changing call.
+pub fn is_astray(words: &[u64; WORDS], cycle: u64) -> bool
+    ensures { λ r. ⌜ ((x : List Float) → r ≡ astray (view (now (words .entry)) x) cycle) ⌝ }
+{
+    if cycle > 4611686018427387904 {
+        return true;
+    }
+    let last = state::last_cycle(words);
+    cycle < last
+}
+
+// The first of the numbers 2, 3, 5, 6 that applies, 0 if none does: index of so many, a size, a cycle, places where so many are needed.
+// A call without a size passes 4.
+pub fn refusal(
+    words: &[u64; WORDS],
+    index: u32,
+    count: usize,
+    size: u32,
+    cycle: u64,
+    need: usize,
+    places: usize,
+) -> u8
+    ensures { λ r. ⌜ ((x : List Float) → r ≡ first (noSuchIndex index count ∷ badSize size ∷ clockAstray (view (now (words .entry)) x) cycle ∷ bookFull need places ∷ [])) ⌝ }
+{
+    if count <= index as usize {
+        return 2;
+    }
+    if odd_size(size) {
+        return 3;
+    }
+    if is_astray(words, cycle) {
+        return 5;
+    }
+    if places < need {
+        return 6;
+    }
+    0
+}
