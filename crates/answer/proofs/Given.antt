@@ -1,16 +1,18 @@
 -- A call's answer, from the first number that applies. Assumes nothing.
 use mathlib.Core.Path.{_≡_, refl, ap, sym, _∙_}
-use mathlib.Core.Bool.{Bool, true, false}
-use mathlib.Core.List.{List, []}
-use Prim.Native.Nat.{ℕ, _≤_}
+use mathlib.Core.Bool.{Bool, true, false, cond, not, _||_, false≢true}
+use mathlib.Core.List.{List, [], _∷_}
+use Prim.Native.Nat.{ℕ, _≤_, _<_}
 use native.Mathlib.Omega.{arith}
 use lib.ListN.{length}
+use lib.Dec.{eqb, ltb, leb}
+use borrow.Author.Tests.{eqb-true, ltb-false, leb-false}
 use lib.Ieee.{Float}
 use Rattle.book.specs.Book.{Entry, Holds}
 use Rattle.machine.specs.Board.{Board}
 use Rattle.machine.specs.Call.{Call, Outcome, refused}
-use Rattle.machine.specs.Step.{step}
-use Rattle.machine.specs.Refusals.{refusals, first}
+use Rattle.machine.specs.Step.{step, oddSize}
+use Rattle.machine.specs.Refusals.{refusals, first, noSuchIndex, badSize, clockAstray, bookFull}
 use Rattle.machine.specs.NumberLaws.{Verdict, refuses, passes, performed, given, step-given, answered}
 use Rattle.state.specs.View.{view}
 use Rattle.answer.specs.declared.Answer.{Answer}
@@ -50,3 +52,47 @@ gives o r w w₁ x x₁ n v k b h = record {
   board = b;
   kept = λ p q. absurd (h (omega (arith, n)) (omega (arith, n)));
 }
+
+-- ---- where nothing of `refusal`'s list applies
+
+pub record Passed (index count size cycle need places : ℕ) : Type 0 where
+  pub index-lt : index < count
+  pub size-le : size ≤ 4
+  pub cycle-le : cycle ≤ 4611686018427387904
+  pub places-le : need ≤ places
+
+size-small : (size : ℕ) → oddSize size ≡ false → size ≤ 4
+size-small size h = go (eqb size 1) refl (eqb size 2) refl (eqb size 4) refl h
+  where
+    go : (a : Bool) → eqb size 1 ≡ a → (b : Bool) → eqb size 2 ≡ b → (c : Bool) → eqb size 4 ≡ c → not (a || (b || c)) ≡ false → size ≤ 4
+    go true e b f c g h = omega (arith, eqb-true size 1 e)
+    go false e true f c g h = omega (arith, eqb-true size 2 f)
+    go false e false f true g h = omega (arith, eqb-true size 4 g)
+    go false e false f false g h = absurd (false≢true (sym h))
+
+cycle-small : (cycle last : ℕ) → (ltb 4611686018427387904 cycle || ltb cycle last) ≡ false → cycle ≤ 4611686018427387904
+cycle-small cycle last h = go (ltb 4611686018427387904 cycle) refl h
+  where
+    go : (a : Bool) → ltb 4611686018427387904 cycle ≡ a → (a || ltb cycle last) ≡ false → cycle ≤ 4611686018427387904
+    go true e h = absurd (false≢true (sym h))
+    go false e h = ltb-false 4611686018427387904 cycle e
+
+pub passed : (b : Board) (index count size cycle need places : ℕ)
+    → 0 ≡ first (noSuchIndex index count ∷ badSize size ∷ clockAstray b cycle ∷ bookFull need places ∷ [])
+    → Passed index count size cycle need places
+unfolding first
+passed b index count size cycle need places h =
+    go (leb count index) refl (oddSize size) refl (ltb 4611686018427387904 cycle || ltb cycle (b .counts .last)) refl (ltb places need) refl h
+  where
+    go : (t : Bool) → leb count index ≡ t → (u : Bool) → oddSize size ≡ u → (v : Bool) → (ltb 4611686018427387904 cycle || ltb cycle (b .counts .last)) ≡ v
+        → (z : Bool) → ltb places need ≡ z → _≡_ {A = ℕ} 0 (cond t 2 (cond u 3 (cond v 5 (cond z 6 0)))) → Passed index count size cycle need places
+    go true e u f v g z i h = absurd (omega (arith, h))
+    go false e true f v g z i h = absurd (omega (arith, h))
+    go false e false f true g z i h = absurd (omega (arith, h))
+    go false e false f false g true i h = absurd (omega (arith, h))
+    go false e false f false g false i h = record {
+      index-lt = leb-false count index e;
+      size-le = size-small size f;
+      cycle-le = cycle-small cycle (b .counts .last) g;
+      places-le = ltb-false places need i;
+    }
