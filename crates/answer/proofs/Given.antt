@@ -2,6 +2,7 @@
 use mathlib.Core.Path.{_≡_, refl, ap, sym, _∙_}
 use mathlib.Core.Bool.{Bool, true, false, cond, not, _||_, false≢true}
 use mathlib.Core.List.{List, [], _∷_}
+use mathlib.Core.Logic.{_⊎_, inl, inr}
 use Prim.Native.Nat.{ℕ, _≤_, _<_}
 use native.Mathlib.Omega.{arith}
 use lib.ListN.{length}
@@ -12,8 +13,8 @@ use Rattle.book.specs.Book.{Entry, Holds}
 use Rattle.machine.specs.Board.{Board}
 use Rattle.machine.specs.Call.{Call, Outcome, refused}
 use Rattle.machine.specs.Step.{step, oddSize}
-use Rattle.machine.specs.Refusals.{refusals, first, noSuchIndex, badSize, clockAstray, bookFull}
-use Rattle.machine.specs.NumberLaws.{Verdict, refuses, passes, performed, given, step-given, answered}
+use Rattle.machine.specs.Refusals.{refusals, ending, isDelivery, first, noSuchIndex, badSize, clockAstray, bookFull}
+use Rattle.machine.specs.NumberLaws.{Verdict, refuses, passes, performed, given, step-given, answered, performed-number, ending-cases}
 use Rattle.state.specs.View.{view}
 use Rattle.answer.specs.declared.Answer.{Answer}
 use Rattle.answer.specs.Promise.{answer, Answers}
@@ -52,6 +53,33 @@ gives o r w w₁ x x₁ n v k b h = record {
   board = b;
   kept = λ p q. absurd (h (omega (arith, n)) (omega (arith, n)));
 }
+
+-- ---- a call's answer and book, from `refusal`'s number
+
+-- refused: nothing changed, nothing written
+pub turns-away : (w : List ℕ) (x : List Float) (c : Call) (n : ℕ) (r : Answer)
+    → n ≡ first (refusals (view w x) c) → (n ≡ 0 → ⊥) → r ≡ answer n 0 0 → Answers (step (view w x) c) r w w x x
+turns-away w x c n r e z h = away w x (step (view w x) c) n (refused-step (view w x) c n e z) r h
+
+pub turns-away-book : (b : Board) (c : Call) (n : ℕ) (r : Answer) (p l k : List ℕ)
+    → n ≡ first (refusals b c) → (n ≡ 0 → ⊥) → r ≡ answer n 0 0 → Holds (step b c .entries) p p l l k k (r .count)
+turns-away-book b c n r p l k e z h =
+    unbooked (step b c) p l k (r .count) (ap (λ (a : Answer). a .count) h) (ap (λ (o : Outcome). o .entries) (refused-step b c n e z))
+
+-- not refused: as performed, which is never answered 1 to 7
+pub serves : (b : Board) (c : Call) (r : Answer) (w w₁ : List ℕ) (x x₁ : List Float)
+    → 0 ≡ first (refusals b c) → r .number ≡ performed b c .number → r .value ≡ performed b c .value → r .count ≡ length (performed b c .entries)
+    → view w₁ x₁ ≡ performed b c .board → Answers (step b c) r w w₁ x x₁
+serves b c r w w₁ x x₁ e n v k h =
+    rw (served-step b c (sym e)) (gives (performed b c) r w w₁ x x₁ n v k h (λ p q. go (ending-cases b c) (rw (sym (performed-number b c)) p) (rw (sym (performed-number b c)) q)))
+  where
+    go : ((ending b c ≡ 0) ⊎ ((ending b c ≡ 8) × (isDelivery c ≡ true))) → 1 ≤ ending b c → ending b c ≤ 7 → ⊥
+    go (inl z) p q = omega arith
+    go (inr z) p q = omega (arith, z .0)
+
+pub serves-book : (b : Board) (c : Call) (p p₁ l l₁ k k₁ : List ℕ) (n : ℕ)
+    → 0 ≡ first (refusals b c) → Holds (performed b c .entries) p p₁ l l₁ k k₁ n → Holds (step b c .entries) p p₁ l l₁ k k₁ n
+serves-book b c p p₁ l l₁ k k₁ n e h = rw (served-step b c (sym e)) h
 
 -- ---- where nothing of `refusal`'s list applies
 

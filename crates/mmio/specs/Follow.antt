@@ -1,0 +1,27 @@
+-- What parts of a call's function leave: the outputs driven, an outcome's board and entries.
+use mathlib.Core.Path.{_≡_}
+use mathlib.Core.Bool.{Bool, cond}
+use mathlib.Core.List.{[]}
+use Prim.Native.Nat.{ℕ}
+use Rattle.tim.specs.declared.Timer.{Timer}
+use Rattle.book.specs.Book.{Book, puts, entriesOf}
+use Rattle.machine.specs.Board.{Board, timerAt, withPads}
+use Rattle.machine.specs.Sys.{driveOutputs}
+use Rattle.machine.specs.Call.{Outcome}
+use Rattle.machine.specs.Step.{refuseIf, register, written, counterAstray, followed}
+
+-- the outputs driven where `on`, and their changes put into the book
+pub record Driven (on : Bool) (t : Timer) (cnt cycle : ℕ) (b b₁ : Board) (k k₁ : Book) : Type 0 where
+  pub board : b₁ ≡ withPads b (cond on (driveOutputs t cnt (b .pads) .pads) (b .pads))
+  pub entries : k₁ ≡ puts k (cond on (entriesOf cycle (driveOutputs t cnt (b .pads) .changes)) [])
+
+-- the outcome's board, and its entries put into the book
+pub record Leaves (o : Outcome) (b₁ : Board) (k k₁ : Book) : Type 0 where
+  pub board : b₁ ≡ o .board
+  pub entries : k₁ ≡ puts k (o .entries)
+
+-- a write while the timer's clock is on: the part of `step` below its gate
+abbrev pub writtenOn : Board → ℕ → ℕ → ℕ → ℕ → ℕ → Outcome
+writtenOn b i offset size value cycle =
+    let w = written b (timerAt b i) offset size value cycle in
+    refuseIf (counterAstray (register offset) (w .timer)) 7 b (followed b i cycle w)

@@ -1,0 +1,323 @@
+// A timer's calls over the lent board (bus.rs, `Mmio`): read, peek, write, reset; and the clock tree.
+use answer::Answer;
+use clk::ClockTree;
+use state::REALS;
+use state::WORDS;
+use tim::Timer;
+use tim::Written;
+ghost use mathlib.Core.Path.{_≡_};
+ghost use mathlib.Core.Bool.{cond};
+ghost use mathlib.Core.List.{List, []};
+ghost use Prim.Native.Nat.{_<_, _≤_};
+ghost use lib.Ieee.{Float};
+ghost use lib.ListN.{length};
+ghost use Rattle.tim.specs.Timer.{Fit, Ready};
+ghost use Rattle.tim.specs.Regs as R;
+ghost use Rattle.periph.specs.Lane.{laneWrite};
+ghost use Rattle.state.specs.View.{view};
+ghost use Rattle.book.specs.Book.{book, puts, places, Holds};
+ghost use Rattle.machine.specs.Call as Call;
+ghost use Rattle.machine.specs.Deliver.{lineSettled, rebooked};
+ghost use Rattle.machine.specs.Step.{step, register, present, counterAstray, followed, timerReset};
+ghost use Rattle.answer.specs.Promise.{Answers};
+ghost use Rattle.mmio.specs.Follow.{Driven, Leaves, writtenOn};
+
+// ---- reads
+
+// A read: 0 while the timer's clock is off.
+pub fn read(
+    words: &[u64; WORDS],
+    reals: &[f64; REALS],
+    timer: u32,
+    offset: u32,
+    size: u32,
+    cycle: u64,
+) -> Answer
+    ensures { λ r. ⌜ Answers (step (view (now (words .entry)) (now (reals .entry))) (Call.read timer offset size cycle)) r (now (words .entry)) (now (words .entry)) (now (reals .entry)) (now (reals .entry)) ⌝ }
+{
+    let n = state::timer_count(words);
+    let no = answer::refusal(words, timer, n, size, cycle, 0, 0);
+    if no != 0 {
+        return answer::refused(no);
+    }
+    let t = state::load_timer(words, timer as usize);
+    if rcc::clock_on(words, t) {
+        let reg = t.read_reg(offset / 4 * 4, cycle);
+        let v = periph::lane_read(reg, offset, size as u8);
+        return answer::served(v as u64);
+    }
+    answer::served(0)
+}
+
+// A peek: the whole register, clock or not.
+pub fn peek(
+    words: &[u64; WORDS],
+    reals: &[f64; REALS],
+    timer: u32,
+    offset: u32,
+    cycle: u64,
+) -> Answer
+    ensures { λ r. ⌜ Answers (step (view (now (words .entry)) (now (reals .entry))) (Call.peek timer offset cycle)) r (now (words .entry)) (now (words .entry)) (now (reals .entry)) (now (reals .entry)) ⌝ }
+{
+    let n = state::timer_count(words);
+    let no = answer::refusal(words, timer, n, 4, cycle, 0, 0);
+    if no != 0 {
+        return answer::refused(no);
+    }
+    let t = state::load_timer(words, timer as usize);
+    let v = t.read_reg(offset / 4 * 4, cycle);
+    answer::served(v as u64)
+}
+
+// ---- writes
+
+// The register's present value, 0 for EGR.
+fn present(t: Timer, off: u32, cycle: u64) -> u32
+    requires { ⌜ (Fit t) × (cycle < 9223372036854775808) ⌝ }
+    ensures { λ r. ⌜ r ≡ present t off cycle ⌝ }
+{
+    if off == 0x14 {
+        return 0;
+    }
+    t.read_reg(off, cycle)
+}
+
+// The lane merged into its register, and the register written.
+fn written(t: Timer, offset: u32, size: u32, value: u32, cycle: u64, div: u32) -> Written
+    requires { ⌜ (Ready t cycle div) × (size ≤ 4) ⌝ }
+    ensures { λ r. ⌜ r ≡ R.regWritten t (register offset) (laneWrite (present t (register offset) cycle) offset size value) cycle div ⌝ }
+{
+    let off = offset / 4 * 4;
+    let old = present(t, off, cycle);
+    let v = periph::lane_write(old, offset, size as u8, value);
+    t.write_reg(off, v, cycle, div)
+}
+
+// A write to CR1, CNT or ARR after which the timer would run upward with its counter above the active reload + 1.
+fn counter_astray(off: u32, t: Timer) -> bool
+    ensures { λ r. ⌜ r ≡ counterAstray off t ⌝ }
+{
+    if off == 0x00 {
+        return t.is_astray();
+    }
+    if off == 0x24 {
+        return t.is_astray();
+    }
+    if off == 0x2c {
+        return t.is_astray();
+    }
+    false
+}
+
+// Drives timer t's outputs at a count, and writes their changes to the book from place 0 on.
+fn drive(
+    words: &mut [u64; WORDS],
+    reals: &mut [f64; REALS],
+    pins: &mut [u8],
+    levels: &mut [u8],
+    cycles: &mut [u64],
+    on: bool,
+    t: Timer,
+    cnt: u32,
+    cycle: u64,
+) -> usize
+    requires { ⌜ (4 ≤ length (now pins)) × (4 ≤ length (now levels)) × (4 ≤ length (now cycles)) ⌝ }
+    ensures { λ r. ⌜ Driven on t cnt cycle (view (now (words .entry)) (now (reals .entry))) (view (now (words .exit)) (now (reals .exit))) (book (now (pins .entry)) (now (levels .entry)) (now (cycles .entry)) 0) (book (now (pins .exit)) (now (levels .exit)) (now (cycles .exit)) r) ⌝ }
+    ensures { λ r. ⌜ r ≤ 4 ⌝ }
+{
+    if on {
+        let d = sys::drive_outputs(words, reals, t, cnt);
+        return book::append_all(pins, levels, cycles, 0, d, cycle);
+    }
+    0
+}
+
+fn settle_line_if(words: &mut [u64; WORDS], on: bool, t: Timer)
+    ensures { λ _. ⌜ ((x : List Float) → view (now (words .exit)) x ≡ cond on (lineSettled t (view (now (words .entry)) x)) (view (now (words .entry)) x)) ⌝ }
+{
+    if on {
+        rcc::settle_line(words, t);
+    }
+}
+
+fn rebook_if(words: &mut [u64; WORDS], on: bool, i: usize, t: Timer, cycle: u64)
+    requires { ⌜ (i < 8) × (Fit t) ⌝ }
+    ensures { λ _. ⌜ ((x : List Float) → view (now (words .exit)) x ≡ cond on (rebooked i t cycle (view (now (words .entry)) x)) (view (now (words .entry)) x)) ⌝ }
+{
+    if on {
+        rcc::rebook(words, i, t, cycle);
+    }
+}
+
+// What follows from a write: the outputs, the line, the booking. The number of entries.
+fn follow(
+    words: &mut [u64; WORDS],
+    reals: &mut [f64; REALS],
+    pins: &mut [u8],
+    levels: &mut [u8],
+    cycles: &mut [u64],
+    i: usize,
+    w: Written,
+    cycle: u64,
+) -> usize
+    requires { ⌜ (i < 8) × (Fit (w .timer)) ⌝ }
+    requires { ⌜ (4 ≤ length (now pins)) × (4 ≤ length (now levels)) × (4 ≤ length (now cycles)) ⌝ }
+    ensures { λ r. ⌜ Leaves (followed (view (now (words .entry)) (now (reals .entry))) i cycle w) (view (now (words .exit)) (now (reals .exit))) (book (now (pins .entry)) (now (levels .entry)) (now (cycles .entry)) 0) (book (now (pins .exit)) (now (levels .exit)) (now (cycles .exit)) r) ⌝ }
+    ensures { λ r. ⌜ r ≤ 4 ⌝ }
+{
+    let t = w.timer;
+    state::store_timer(words, i, t);
+    let k = drive(words, reals, pins, levels, cycles, w.drive, t, w.cnt, cycle);
+    settle_line_if(words, w.line, t);
+    rebook_if(words, w.book, i, t, cycle);
+    state::set_last(words, cycle);
+    k
+}
+
+// A write while the timer's clock is on.
+fn write_on(
+    words: &mut [u64; WORDS],
+    reals: &mut [f64; REALS],
+    pins: &mut [u8],
+    levels: &mut [u8],
+    cycles: &mut [u64],
+    i: usize,
+    offset: u32,
+    size: u32,
+    value: u32,
+    cycle: u64,
+) -> Answer
+    requires { ⌜ (i < 8) × (size ≤ 4) × (cycle ≤ 4611686018427387904) ⌝ }
+    requires { ⌜ (4 ≤ length (now pins)) × (4 ≤ length (now levels)) × (4 ≤ length (now cycles)) ⌝ }
+    ensures { λ r. ⌜ Answers (writtenOn (view (now (words .entry)) (now (reals .entry))) i offset size value cycle) r (now (words .entry)) (now (words .exit)) (now (reals .entry)) (now (reals .exit)) ⌝ }
+    ensures { λ r. ⌜ Holds (writtenOn (view (now (words .entry)) (now (reals .entry))) i offset size value cycle .entries) (now (pins .entry)) (now (pins .exit)) (now (levels .entry)) (now (levels .exit)) (now (cycles .entry)) (now (cycles .exit)) (r .count) ⌝ }
+{
+    let t = state::load_timer(words, i);
+    let div = rcc::divider(words, reals, t);
+    let w = written(t, offset, size, value, cycle, div);
+    let s = w.timer;
+    if counter_astray(offset / 4 * 4, s) {
+        return answer::refused(7);
+    }
+    let count = follow(words, reals, pins, levels, cycles, i, w, cycle);
+    Answer {
+        number: 0,
+        value: 0,
+        count,
+    }
+}
+
+// A write: nothing but the cycle of the last changing call while the timer's clock is off.
+pub fn write(
+    words: &mut [u64; WORDS],
+    reals: &mut [f64; REALS],
+    pins: &mut [u8],
+    levels: &mut [u8],
+    cycles: &mut [u64],
+    timer: u32,
+    offset: u32,
+    size: u32,
+    value: u32,
+    cycle: u64,
+) -> Answer
+    ensures { λ r. ⌜ Answers (step (view (now (words .entry)) (now (reals .entry))) (Call.write timer offset size value cycle (places (now (pins .entry)) (now (levels .entry)) (now (cycles .entry))))) r (now (words .entry)) (now (words .exit)) (now (reals .entry)) (now (reals .exit)) ⌝ }
+    ensures { λ r. ⌜ Holds (step (view (now (words .entry)) (now (reals .entry))) (Call.write timer offset size value cycle (places (now (pins .entry)) (now (levels .entry)) (now (cycles .entry)))) .entries) (now (pins .entry)) (now (pins .exit)) (now (levels .entry)) (now (levels .exit)) (now (cycles .entry)) (now (cycles .exit)) (r .count) ⌝ }
+{
+    let room = book::room(pins, levels, cycles);
+    let n = state::timer_count(words);
+    let no = answer::refusal(words, timer, n, size, cycle, 4, room);
+    if no != 0 {
+        return answer::refused(no);
+    }
+    if rcc::clock_on(words, state::load_timer(words, timer as usize)) {
+        return write_on(
+            words,
+            reals,
+            pins,
+            levels,
+            cycles,
+            timer as usize,
+            offset,
+            size,
+            value,
+            cycle,
+        );
+    }
+    state::set_last(words, cycle);
+    answer::served(0)
+}
+
+// ---- reset
+
+// Timer i at its reset values, not booked, its outputs and line settled. The number of entries.
+fn reset_timer(
+    words: &mut [u64; WORDS],
+    reals: &mut [f64; REALS],
+    pins: &mut [u8],
+    levels: &mut [u8],
+    cycles: &mut [u64],
+    i: usize,
+    cycle: u64,
+) -> usize
+    requires { ⌜ i < 8 ⌝ }
+    requires { ⌜ (4 ≤ length (now pins)) × (4 ≤ length (now levels)) × (4 ≤ length (now cycles)) ⌝ }
+    ensures { λ r. ⌜ Leaves (timerReset (view (now (words .entry)) (now (reals .entry))) i cycle) (view (now (words .exit)) (now (reals .exit))) (book (now (pins .entry)) (now (levels .entry)) (now (cycles .entry)) 0) (book (now (pins .exit)) (now (levels .exit)) (now (cycles .exit)) r) ⌝ }
+    ensures { λ r. ⌜ r ≤ 4 ⌝ }
+{
+    let t = state::load_timer(words, i);
+    let div = rcc::divider(words, reals, t);
+    let s = t.reset(div);
+    state::store_timer(words, i, s);
+    let k = drive(words, reals, pins, levels, cycles, true, s, 0, cycle);
+    rcc::settle_line(words, s);
+    state::book(words, i, scheduler::NEVER);
+    state::set_last(words, cycle);
+    k
+}
+
+pub fn reset(
+    words: &mut [u64; WORDS],
+    reals: &mut [f64; REALS],
+    pins: &mut [u8],
+    levels: &mut [u8],
+    cycles: &mut [u64],
+    timer: u32,
+    cycle: u64,
+) -> Answer
+    ensures { λ r. ⌜ Answers (step (view (now (words .entry)) (now (reals .entry))) (Call.resetTimer timer cycle (places (now (pins .entry)) (now (levels .entry)) (now (cycles .entry))))) r (now (words .entry)) (now (words .exit)) (now (reals .entry)) (now (reals .exit)) ⌝ }
+    ensures { λ r. ⌜ Holds (step (view (now (words .entry)) (now (reals .entry))) (Call.resetTimer timer cycle (places (now (pins .entry)) (now (levels .entry)) (now (cycles .entry)))) .entries) (now (pins .entry)) (now (pins .exit)) (now (levels .entry)) (now (levels .exit)) (now (cycles .entry)) (now (cycles .exit)) (r .count) ⌝ }
+{
+    let room = book::room(pins, levels, cycles);
+    let n = state::timer_count(words);
+    let no = answer::refusal(words, timer, n, 4, cycle, 4, room);
+    if no != 0 {
+        return answer::refused(no);
+    }
+    let count = reset_timer(words, reals, pins, levels, cycles, timer as usize, cycle);
+    Answer {
+        number: 0,
+        value: 0,
+        count,
+    }
+}
+
+// ---- the clock tree
+
+pub fn set_clock_tree(
+    words: &mut [u64; WORDS],
+    reals: &mut [f64; REALS],
+    t: ClockTree,
+    cycle: u64,
+) -> Answer
+    ensures { λ r. ⌜ Answers (step (view (now (words .entry)) (now (reals .entry))) (Call.clockTree t cycle)) r (now (words .entry)) (now (words .exit)) (now (reals .entry)) (now (reals .exit)) ⌝ }
+{
+    if !t.is_good() {
+        return answer::refused(4);
+    }
+    if answer::is_astray(words, cycle) {
+        return answer::refused(5);
+    }
+    rcc::set_clock_tree(words, reals, t, cycle);
+    state::set_last(words, cycle);
+    answer::served(0)
+}
