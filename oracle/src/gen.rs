@@ -62,6 +62,16 @@ impl Gen {
         (call, answer)
     }
 
+    /// A peek or a query of the generator's board; it changes nothing.
+    pub fn ask(&mut self, call: &Call) -> Answer {
+        let asks = matches!(
+            call,
+            Call::Peek { .. } | Call::Booked { .. } | Call::Next | Call::Level { .. } | Call::Volts { .. } | Call::Line { .. } | Call::Time { .. }
+        );
+        assert!(asks, "{call} may change the board");
+        self.board.call(call)
+    }
+
     fn choose(&mut self) -> Call {
         if let Some(mut call) = self.plan.pop_front() {
             if let Some(cycle) = cycle_of(&mut call) {

@@ -4,6 +4,7 @@ pub mod board;
 pub mod calls;
 pub mod gen;
 pub mod rng;
+pub mod samples;
 
 use std::io::{self, BufRead, Write};
 

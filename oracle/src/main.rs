@@ -1,11 +1,12 @@
 //! `oracle run`: a call list on standard input, its answers on standard output.
 //! `oracle gen SEED N`: N random calls.
+//! `oracle samples DIR`: the fixed sample of lists with their answers.
 
 use std::io::{self, BufWriter, Write};
 use std::process::ExitCode;
 
 use oracle::gen::Gen;
-use oracle::run;
+use oracle::{run, samples};
 
 fn main() -> ExitCode {
     let args: Vec<String> = std::env::args().skip(1).collect();
@@ -16,6 +17,7 @@ fn main() -> ExitCode {
             (Ok(seed), Ok(n)) => gen(seed, n, BufWriter::new(io::stdout().lock())),
             _ => return usage(),
         },
+        ["samples", dir] => samples::write(dir.as_ref()),
         _ => return usage(),
     };
     match done {
@@ -29,7 +31,7 @@ fn main() -> ExitCode {
 }
 
 fn usage() -> ExitCode {
-    eprintln!("usage: oracle run < calls > answers\n       oracle gen SEED N > calls");
+    eprintln!("usage: oracle run < calls > answers\n       oracle gen SEED N > calls\n       oracle samples DIR");
     ExitCode::FAILURE
 }
 

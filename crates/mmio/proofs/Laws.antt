@@ -18,20 +18,22 @@ use Rattle.periph.specs.Lane.{laneRead, laneWrite}
 use Rattle.clk.specs.declared.ClockTree.{ClockTree}
 use Rattle.clk.specs.Clk.{good}
 use Rattle.scheduler.specs.Booking as S
-use Rattle.book.specs.Book.{Book, book, puts, entriesOf, Holds}
+use Rattle.book.specs.Book.{Book, book, puts, entriesOf, places, Holds}
 use Rattle.book.specs.Laws.{holds}
 use Rattle.book.specs.declared.Changes.{Changes}
 use Rattle.machine.specs.Board.{Board, timerAt, withTimer, withPads, withBooking, withLast}
 use Rattle.machine.specs.Sys.{Drive, driveOutputs}
-use Rattle.machine.specs.Deliver.{dividerOf, lineSettled, rebooked}
-use Rattle.machine.specs.Call.{Call, Outcome, read, peek, write, resetTimer, clockTree, refused, served}
-use Rattle.machine.specs.Step.{step, refuseIf, oddSize, astray, clockOn, register, present, written, counterAstray, followed, timerReset, treeSet}
+use Rattle.machine.specs.Deliver.{dividerOf, lineSettled, rebooked, delivered}
+use Rattle.machine.specs.Call.{Call, Outcome, read, peek, write, resetTimer, deliver, clockTree, refused, served}
+use Rattle.machine.specs.Step.{step, refuseIf, oddSize, astray, clockOn, register, present, written, counterAstray, followed, timerReset, deliveredTo, treeSet}
 use Rattle.machine.specs.Refusals.{refusals, first, noSuchIndex, badSize, clockAstray, bookFull}
 use Rattle.machine.specs.Refusals as Refusals
 use Rattle.machine.specs.NumberLaws.{performed}
 use Rattle.state.specs.View.{view}
 use Rattle.state.specs.Bounded.{bounded}
 use Rattle.sys.specs.Moves.{Drives}
+use Rattle.delivery.specs.declared.Delivered.{Delivered}
+use Rattle.delivery.specs.Delivery.{Delivers}
 use Rattle.answer.specs.declared.Answer.{Answer}
 use Rattle.answer.specs.Promise.{answer, Answers}
 use Rattle.answer.proofs.Given.{Passed, passed, away, gives, turns-away, turns-away-book, serves, serves-book, unbooked}
@@ -51,6 +53,13 @@ pub admitted : (w : List ℕ) (x : List Float) (timer n size cycle need room num
 admitted w x timer n size cycle need room num e h z =
     let p = passed (view w x) timer n size cycle need room (sym z ∙ h) in
     record { index-lt = omega (arith, p .index-lt, e, bounded w x .timers-le); size-le = p .size-le; cycle-le = p .cycle-le; places-le = p .places-le }
+
+-- a book of so many places: each slice has them
+pub fits : (p l c : List ℕ) (room : ℕ) → room ≡ places p l c → 4 ≤ room → (4 ≤ length p) × (4 ≤ length l) × (4 ≤ length c)
+fits p l c room e h = (omega arith, omega arith, omega arith)
+
+pub within : (p l c : List ℕ) (room k : ℕ) → room ≡ places p l c → 4 ≤ room → k ≤ 4 → (k ≤ length p) × (k ≤ length l) × (k ≤ length c)
+within p l c room k e h j = (omega arith, omega arith, omega arith)
 
 -- ---- reads
 module _ (w : List ℕ) (x : List Float) (timer offset size cycle n num : ℕ) (r : Answer) (e : n ≡ view w x .counts .timers)
@@ -254,14 +263,38 @@ module _ (w : List ℕ) (x : List Float) (timer cycle room n num : ℕ) (e : n �
   reset-away-book z r a p l c = turns-away-book (view w x) (resetTimer timer cycle room) num r p l c reset-first z a
 
   pub reset-gives : num ≡ 0 → (w₁ : List ℕ) (x₁ : List Float) (p p₁ l l₁ c c₁ : List ℕ) (k : ℕ)
-      → Leaves (timerReset (view w x) timer cycle) (view w₁ x₁) (book p l c 0) (book p₁ l₁ c₁ k) → k ≤ length p → k ≤ length l → k ≤ length c
+      → Leaves (timerReset (view w x) timer cycle) (view w₁ x₁) (book p l c 0) (book p₁ l₁ c₁ k) → (k ≤ length p) × (k ≤ length l) × (k ≤ length c)
       → Answers (step (view w x) (resetTimer timer cycle room)) (answer 0 0 k) w w₁ x x₁ × Holds (step (view w x) (resetTimer timer cycle room) .entries) p p₁ l l₁ c c₁ k
   unfolding performed timerReset
-  reset-gives z w₁ x₁ p p₁ l l₁ c c₁ k m a b d =
-      let q = holds (timerReset (view w x) timer cycle .entries) p l c p₁ l₁ c₁ k (m .entries) a b d in (
+  reset-gives z w₁ x₁ p p₁ l l₁ c c₁ k m f =
+      let q = holds (timerReset (view w x) timer cycle .entries) p l c p₁ l₁ c₁ k (m .entries) (f .0) (f .1) (f .2) in (
         serves (view w x) (resetTimer timer cycle room) (answer 0 0 k) w w₁ x x₁ (sym z ∙ reset-first) refl refl (q .count) (m .board),
         serves-book (view w x) (resetTimer timer cycle room) p p₁ l l₁ c c₁ k (sym z ∙ reset-first) q,
       )
+
+-- ---- events
+module _ (w : List ℕ) (x : List Float) (timer cycle room n num : ℕ) (e : n ≡ view w x .counts .timers)
+    (h : num ≡ asked timer n 4 (view w x) cycle 4 room) where
+  deliver-first : num ≡ first (refusals (view w x) (deliver timer cycle room))
+  unfolding first refusals
+  deliver-first = asked-count timer n 4 (view w x) cycle 4 room num e h
+
+  pub deliver-away : (num ≡ 0 → ⊥) → (r : Answer) → r ≡ answer num 0 0 → Answers (step (view w x) (deliver timer cycle room)) r w w x x
+  deliver-away z r a = turns-away w x (deliver timer cycle room) num r deliver-first z a
+
+  pub deliver-away-book : (num ≡ 0 → ⊥) → (r : Answer) → r ≡ answer num 0 0 → (p l c : List ℕ) → Holds (step (view w x) (deliver timer cycle room) .entries) p p l l c c (r .count)
+  deliver-away-book z r a p l c = turns-away-book (view w x) (deliver timer cycle room) num r p l c deliver-first z a
+
+  pub deliver-gives : num ≡ 0 → (w₁ w₂ : List ℕ) (x₁ : List Float) (p p₁ l l₁ c c₁ : List ℕ) (d : Delivered)
+      → Delivers (delivered (view w x) timer cycle room) (view w x) timer cycle (view w₁ x₁) d p p₁ l l₁ c c₁ → view w₂ x₁ ≡ withLast (view w₁ x₁) cycle
+      → Answers (step (view w x) (deliver timer cycle room)) (answer (d .number) (d .events) (d .count)) w w₂ x x₁
+      × Holds (step (view w x) (deliver timer cycle room) .entries) p p₁ l l₁ c c₁ (d .count)
+  unfolding performed deliveredTo
+  deliver-gives z w₁ w₂ x₁ p p₁ l l₁ c c₁ d m s = (
+    serves (view w x) (deliver timer cycle room) (answer (d .number) (d .events) (d .count)) w w₂ x x₁ (sym z ∙ deliver-first) (m .number) (m .events) (m .entries .count)
+        (s ∙ ap (λ (y : Board). withLast y cycle) (m .board)),
+    serves-book (view w x) (deliver timer cycle room) p p₁ l l₁ c c₁ (d .count) (sym z ∙ deliver-first) (m .entries),
+  )
 
 -- ---- the clock tree
 pub tree-good : (t : ClockTree) (g : Bool) → g ≡ good t → not g ≡ false → good t ≡ true

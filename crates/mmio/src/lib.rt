@@ -301,6 +301,36 @@ pub fn reset(
     }
 }
 
+// ---- events
+
+// Delivers the timer's events that are due.
+pub fn deliver(
+    words: &mut [u64; WORDS],
+    reals: &mut [f64; REALS],
+    pins: &mut [u8],
+    levels: &mut [u8],
+    cycles: &mut [u64],
+    timer: u32,
+    cycle: u64,
+) -> Answer
+    ensures { λ r. ⌜ Answers (step (view (now (words .entry)) (now (reals .entry))) (Call.deliver timer cycle (places (now (pins .entry)) (now (levels .entry)) (now (cycles .entry))))) r (now (words .entry)) (now (words .exit)) (now (reals .entry)) (now (reals .exit)) ⌝ }
+    ensures { λ r. ⌜ Holds (step (view (now (words .entry)) (now (reals .entry))) (Call.deliver timer cycle (places (now (pins .entry)) (now (levels .entry)) (now (cycles .entry)))) .entries) (now (pins .entry)) (now (pins .exit)) (now (levels .entry)) (now (levels .exit)) (now (cycles .entry)) (now (cycles .exit)) (r .count) ⌝ }
+{
+    let room = book::room(pins, levels, cycles);
+    let n = state::timer_count(words);
+    let no = answer::refusal(words, timer, n, 4, cycle, 4, room);
+    if no != 0 {
+        return answer::refused(no);
+    }
+    let d = delivery::deliver(words, reals, pins, levels, cycles, timer as usize, cycle);
+    state::set_last(words, cycle);
+    Answer {
+        number: d.number,
+        value: d.events,
+        count: d.count,
+    }
+}
+
 // ---- the clock tree
 
 pub fn set_clock_tree(

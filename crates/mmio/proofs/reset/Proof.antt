@@ -1,5 +1,5 @@
 -- Refused, or reset.
-use Rattle.mmio.proofs.Laws.{admitted, reset-away, reset-away-book, reset-gives}
+use Rattle.mmio.proofs.Laws.{admitted, fits, within, reset-away, reset-away-book, reset-gives}
 use native.Mathlib.Omega.{arith}
 use mathlib.Core.Path.{sym}
 use borrow.Author.Needs.{needs}
@@ -49,7 +49,7 @@ returns c =
 -- src/lib.rt:285:9
 reset-timer-requires : tie.Need-reset-timer-requires
 reset-timer-requires c κs =
-    (admitted (c .before .before .before .before .before .before .before .before .before .before .before .before .before .before .before .before .before .args .words .now) (c .before .before .before .before .before .before .before .before .before .before .before .before .before .before .before .before .before .args .reals .now) (c .before .before .before .before .before .before .before .before .before .before .before .before .before .before .before .before .before .args .timer) _ 4 (c .before .before .before .before .before .before .before .before .before .before .before .before .before .before .before .before .before .args .cycle) 4 (c .before .before .before .before .before .before .before .before .before .before .room .result) _ (c .before .before .before .before .before .before .before .before .timer-count .ensures (c .before .before .before .before .before .before .before .before .before .before .before .before .before .before .before .before .before .args .reals .now)) (c .before .before .before .before .before .before .refusal .ensures (c .before .before .before .before .before .before .before .before .before .before .before .before .before .before .before .before .before .args .reals .now)) (c .before .before .before .before .before .if1 .left) .index-lt, (omega (arith, admitted (c .before .before .before .before .before .before .before .before .before .before .before .before .before .before .before .before .before .args .words .now) (c .before .before .before .before .before .before .before .before .before .before .before .before .before .before .before .before .before .args .reals .now) (c .before .before .before .before .before .before .before .before .before .before .before .before .before .before .before .before .before .args .timer) _ 4 (c .before .before .before .before .before .before .before .before .before .before .before .before .before .before .before .before .before .args .cycle) 4 (c .before .before .before .before .before .before .before .before .before .before .room .result) _ (c .before .before .before .before .before .before .before .before .timer-count .ensures (c .before .before .before .before .before .before .before .before .before .before .before .before .before .before .before .before .before .args .reals .now)) (c .before .before .before .before .before .before .refusal .ensures (c .before .before .before .before .before .before .before .before .before .before .before .before .before .before .before .before .before .args .reals .now)) (c .before .before .before .before .before .if1 .left) .places-le, c .before .before .before .before .before .before .before .before .before .before .room .ensures), omega (arith, admitted (c .before .before .before .before .before .before .before .before .before .before .before .before .before .before .before .before .before .args .words .now) (c .before .before .before .before .before .before .before .before .before .before .before .before .before .before .before .before .before .args .reals .now) (c .before .before .before .before .before .before .before .before .before .before .before .before .before .before .before .before .before .args .timer) _ 4 (c .before .before .before .before .before .before .before .before .before .before .before .before .before .before .before .before .before .args .cycle) 4 (c .before .before .before .before .before .before .before .before .before .before .room .result) _ (c .before .before .before .before .before .before .before .before .timer-count .ensures (c .before .before .before .before .before .before .before .before .before .before .before .before .before .before .before .before .before .args .reals .now)) (c .before .before .before .before .before .before .refusal .ensures (c .before .before .before .before .before .before .before .before .before .before .before .before .before .before .before .before .before .args .reals .now)) (c .before .before .before .before .before .if1 .left) .places-le, c .before .before .before .before .before .before .before .before .before .before .room .ensures), omega (arith, admitted (c .before .before .before .before .before .before .before .before .before .before .before .before .before .before .before .before .before .args .words .now) (c .before .before .before .before .before .before .before .before .before .before .before .before .before .before .before .before .before .args .reals .now) (c .before .before .before .before .before .before .before .before .before .before .before .before .before .before .before .before .before .args .timer) _ 4 (c .before .before .before .before .before .before .before .before .before .before .before .before .before .before .before .before .before .args .cycle) 4 (c .before .before .before .before .before .before .before .before .before .before .room .result) _ (c .before .before .before .before .before .before .before .before .timer-count .ensures (c .before .before .before .before .before .before .before .before .before .before .before .before .before .before .before .before .before .args .reals .now)) (c .before .before .before .before .before .before .refusal .ensures (c .before .before .before .before .before .before .before .before .before .before .before .before .before .before .before .before .before .args .reals .now)) (c .before .before .before .before .before .if1 .left) .places-le, c .before .before .before .before .before .before .before .before .before .before .room .ensures)))
+    let q = admitted (c .before .before .before .before .before .before .before .before .before .before .before .before .before .before .before .before .before .args .words .now) (c .before .before .before .before .before .before .before .before .before .before .before .before .before .before .before .before .before .args .reals .now) (c .before .before .before .before .before .before .before .before .before .before .before .before .before .before .before .before .before .args .timer) _ 4 (c .before .before .before .before .before .before .before .before .before .before .before .before .before .before .before .before .before .args .cycle) 4 (c .before .before .before .before .before .before .before .before .before .before .room .result) _ (c .before .before .before .before .before .before .before .before .timer-count .ensures (c .before .before .before .before .before .before .before .before .before .before .before .before .before .before .before .before .before .args .reals .now)) (c .before .before .before .before .before .before .refusal .ensures (c .before .before .before .before .before .before .before .before .before .before .before .before .before .before .before .before .before .args .reals .now)) (c .before .before .before .before .before .if1 .left) in (q .index-lt, fits (c .before .before .before .before .before .before .before .before .before .before .before .before .before .before .before .before .before .args .pins .now) (c .before .before .before .before .before .before .before .before .before .before .before .before .before .before .before .before .before .args .levels .now) (c .before .before .before .before .before .before .before .before .before .before .before .before .before .before .before .before .before .args .cycles .now) _ (c .before .before .before .before .before .before .before .before .before .before .room .ensures) (q .places-le))
 
 -- src/lib.rt:267:1
 same-length-4 : tie.Need-same-length-4
@@ -66,7 +66,7 @@ same-length-6 c = search needs
 -- src/lib.rt:267:1
 returns-2 : tie.Need-returns-2
 returns-2 c =
-    reset-gives (c .before .before .before .before .before .before .before .before .before .before .before .before .before .before .before .before .before .before .before .before .before .before .before .before .args .words .now) (c .before .before .before .before .before .before .before .before .before .before .before .before .before .before .before .before .before .before .before .before .before .before .before .before .args .reals .now) (c .before .before .before .before .before .before .before .before .before .before .before .before .before .before .before .before .before .before .before .before .before .before .before .before .args .timer) (c .before .before .before .before .before .before .before .before .before .before .before .before .before .before .before .before .before .before .before .before .before .before .before .before .args .cycle) _ _ _ (c .before .before .before .before .before .before .before .before .before .before .before .before .before .before .before .timer-count .ensures (c .before .before .before .before .before .before .before .before .before .before .before .before .before .before .before .before .before .before .before .before .before .before .before .before .args .reals .now)) (rw (sym (c .before .before .before .before .before .before .before .before .before .before .before .before .before .before .before .before .before .room .ensures)) (c .before .before .before .before .before .before .before .before .before .before .before .before .before .refusal .ensures (c .before .before .before .before .before .before .before .before .before .before .before .before .before .before .before .before .before .before .before .before .before .before .before .before .args .reals .now))) (c .before .before .before .before .before .before .before .before .before .before .before .before .if1 .left) _ _ _ _ _ _ _ _ _ (c .before .before .before .before .before .before .reset-timer .ensures .0) (omega (arith, c .before .before .before .before .before .before .reset-timer .ensures .1, admitted (c .before .before .before .before .before .before .before .before .before .before .before .before .before .before .before .before .before .before .before .before .before .before .before .before .args .words .now) (c .before .before .before .before .before .before .before .before .before .before .before .before .before .before .before .before .before .before .before .before .before .before .before .before .args .reals .now) (c .before .before .before .before .before .before .before .before .before .before .before .before .before .before .before .before .before .before .before .before .before .before .before .before .args .timer) _ 4 (c .before .before .before .before .before .before .before .before .before .before .before .before .before .before .before .before .before .before .before .before .before .before .before .before .args .cycle) 4 (c .before .before .before .before .before .before .before .before .before .before .before .before .before .before .before .before .before .room .result) _ (c .before .before .before .before .before .before .before .before .before .before .before .before .before .before .before .timer-count .ensures (c .before .before .before .before .before .before .before .before .before .before .before .before .before .before .before .before .before .before .before .before .before .before .before .before .args .reals .now)) (c .before .before .before .before .before .before .before .before .before .before .before .before .before .refusal .ensures (c .before .before .before .before .before .before .before .before .before .before .before .before .before .before .before .before .before .before .before .before .before .before .before .before .args .reals .now)) (c .before .before .before .before .before .before .before .before .before .before .before .before .if1 .left) .places-le, c .before .before .before .before .before .before .before .before .before .before .before .before .before .before .before .before .before .room .ensures)) (omega (arith, c .before .before .before .before .before .before .reset-timer .ensures .1, admitted (c .before .before .before .before .before .before .before .before .before .before .before .before .before .before .before .before .before .before .before .before .before .before .before .before .args .words .now) (c .before .before .before .before .before .before .before .before .before .before .before .before .before .before .before .before .before .before .before .before .before .before .before .before .args .reals .now) (c .before .before .before .before .before .before .before .before .before .before .before .before .before .before .before .before .before .before .before .before .before .before .before .before .args .timer) _ 4 (c .before .before .before .before .before .before .before .before .before .before .before .before .before .before .before .before .before .before .before .before .before .before .before .before .args .cycle) 4 (c .before .before .before .before .before .before .before .before .before .before .before .before .before .before .before .before .before .room .result) _ (c .before .before .before .before .before .before .before .before .before .before .before .before .before .before .before .timer-count .ensures (c .before .before .before .before .before .before .before .before .before .before .before .before .before .before .before .before .before .before .before .before .before .before .before .before .args .reals .now)) (c .before .before .before .before .before .before .before .before .before .before .before .before .before .refusal .ensures (c .before .before .before .before .before .before .before .before .before .before .before .before .before .before .before .before .before .before .before .before .before .before .before .before .args .reals .now)) (c .before .before .before .before .before .before .before .before .before .before .before .before .if1 .left) .places-le, c .before .before .before .before .before .before .before .before .before .before .before .before .before .before .before .before .before .room .ensures)) (omega (arith, c .before .before .before .before .before .before .reset-timer .ensures .1, admitted (c .before .before .before .before .before .before .before .before .before .before .before .before .before .before .before .before .before .before .before .before .before .before .before .before .args .words .now) (c .before .before .before .before .before .before .before .before .before .before .before .before .before .before .before .before .before .before .before .before .before .before .before .before .args .reals .now) (c .before .before .before .before .before .before .before .before .before .before .before .before .before .before .before .before .before .before .before .before .before .before .before .before .args .timer) _ 4 (c .before .before .before .before .before .before .before .before .before .before .before .before .before .before .before .before .before .before .before .before .before .before .before .before .args .cycle) 4 (c .before .before .before .before .before .before .before .before .before .before .before .before .before .before .before .before .before .room .result) _ (c .before .before .before .before .before .before .before .before .before .before .before .before .before .before .before .timer-count .ensures (c .before .before .before .before .before .before .before .before .before .before .before .before .before .before .before .before .before .before .before .before .before .before .before .before .args .reals .now)) (c .before .before .before .before .before .before .before .before .before .before .before .before .before .refusal .ensures (c .before .before .before .before .before .before .before .before .before .before .before .before .before .before .before .before .before .before .before .before .before .before .before .before .args .reals .now)) (c .before .before .before .before .before .before .before .before .before .before .before .before .if1 .left) .places-le, c .before .before .before .before .before .before .before .before .before .before .before .before .before .before .before .before .before .room .ensures))
+    reset-gives (c .before .before .before .before .before .before .before .before .before .before .before .before .before .before .before .before .before .before .before .before .before .before .before .before .args .words .now) (c .before .before .before .before .before .before .before .before .before .before .before .before .before .before .before .before .before .before .before .before .before .before .before .before .args .reals .now) (c .before .before .before .before .before .before .before .before .before .before .before .before .before .before .before .before .before .before .before .before .before .before .before .before .args .timer) (c .before .before .before .before .before .before .before .before .before .before .before .before .before .before .before .before .before .before .before .before .before .before .before .before .args .cycle) _ _ _ (c .before .before .before .before .before .before .before .before .before .before .before .before .before .before .before .timer-count .ensures (c .before .before .before .before .before .before .before .before .before .before .before .before .before .before .before .before .before .before .before .before .before .before .before .before .args .reals .now)) (rw (sym (c .before .before .before .before .before .before .before .before .before .before .before .before .before .before .before .before .before .room .ensures)) (c .before .before .before .before .before .before .before .before .before .before .before .before .before .refusal .ensures (c .before .before .before .before .before .before .before .before .before .before .before .before .before .before .before .before .before .before .before .before .before .before .before .before .args .reals .now))) (c .before .before .before .before .before .before .before .before .before .before .before .before .if1 .left) _ _ _ _ _ _ _ _ _ (c .before .before .before .before .before .before .reset-timer .ensures .0) (within (c .before .before .before .before .before .before .before .before .before .before .before .before .before .before .before .before .before .before .before .before .before .before .before .before .args .pins .now) (c .before .before .before .before .before .before .before .before .before .before .before .before .before .before .before .before .before .before .before .before .before .before .before .before .args .levels .now) (c .before .before .before .before .before .before .before .before .before .before .before .before .before .before .before .before .before .before .before .before .before .before .before .before .args .cycles .now) _ _ (c .before .before .before .before .before .before .before .before .before .before .before .before .before .before .before .before .before .room .ensures) (admitted (c .before .before .before .before .before .before .before .before .before .before .before .before .before .before .before .before .before .before .before .before .before .before .before .before .args .words .now) (c .before .before .before .before .before .before .before .before .before .before .before .before .before .before .before .before .before .before .before .before .before .before .before .before .args .reals .now) (c .before .before .before .before .before .before .before .before .before .before .before .before .before .before .before .before .before .before .before .before .before .before .before .before .args .timer) _ 4 (c .before .before .before .before .before .before .before .before .before .before .before .before .before .before .before .before .before .before .before .before .before .before .before .before .args .cycle) 4 (c .before .before .before .before .before .before .before .before .before .before .before .before .before .before .before .before .before .room .result) _ (c .before .before .before .before .before .before .before .before .before .before .before .before .before .before .before .timer-count .ensures (c .before .before .before .before .before .before .before .before .before .before .before .before .before .before .before .before .before .before .before .before .before .before .before .before .args .reals .now)) (c .before .before .before .before .before .before .before .before .before .before .before .before .before .refusal .ensures (c .before .before .before .before .before .before .before .before .before .before .before .before .before .before .before .before .before .before .before .before .before .before .before .before .args .reals .now)) (c .before .before .before .before .before .before .before .before .before .before .before .before .if1 .left) .places-le) (c .before .before .before .before .before .before .reset-timer .ensures .1))
 
 pub reset-spec : {M : Type 1} → statement M
 reset-spec =

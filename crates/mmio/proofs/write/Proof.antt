@@ -1,5 +1,5 @@
 -- Refused, gated off, or written.
-use Rattle.mmio.proofs.Laws.{admitted, write-away, write-away-book, write-below, write-below-book, write-off, write-off-book}
+use Rattle.mmio.proofs.Laws.{admitted, fits, write-away, write-away-book, write-below, write-below-book, write-off, write-off-book}
 use native.Mathlib.Omega.{arith}
 use mathlib.Core.Path.{sym}
 use borrow.Author.Needs.{needs}
@@ -62,7 +62,7 @@ clock-on-requires c κs = search needs
 -- src/lib.rt:233:9
 write-on-requires : tie.Need-write-on-requires
 write-on-requires c κs =
-    ((admitted (c .before .before .before .before .before .before .before .before .before .before .before .before .before .before .before .before .before .before .before .before .before .args .words .now) (c .before .before .before .before .before .before .before .before .before .before .before .before .before .before .before .before .before .before .before .before .before .args .reals .now) (c .before .before .before .before .before .before .before .before .before .before .before .before .before .before .before .before .before .before .before .before .before .args .timer) _ (c .before .before .before .before .before .before .before .before .before .before .before .before .before .before .before .before .before .before .before .before .before .args .size) (c .before .before .before .before .before .before .before .before .before .before .before .before .before .before .before .before .before .before .before .before .before .args .cycle) 4 (c .before .before .before .before .before .before .before .before .before .before .before .before .before .before .room .result) _ (c .before .before .before .before .before .before .before .before .before .before .before .before .timer-count .ensures (c .before .before .before .before .before .before .before .before .before .before .before .before .before .before .before .before .before .before .before .before .before .args .reals .now)) (c .before .before .before .before .before .before .before .before .before .before .refusal .ensures (c .before .before .before .before .before .before .before .before .before .before .before .before .before .before .before .before .before .before .before .before .before .args .reals .now)) (c .before .before .before .before .before .before .before .before .before .if1 .left) .index-lt, admitted (c .before .before .before .before .before .before .before .before .before .before .before .before .before .before .before .before .before .before .before .before .before .args .words .now) (c .before .before .before .before .before .before .before .before .before .before .before .before .before .before .before .before .before .before .before .before .before .args .reals .now) (c .before .before .before .before .before .before .before .before .before .before .before .before .before .before .before .before .before .before .before .before .before .args .timer) _ (c .before .before .before .before .before .before .before .before .before .before .before .before .before .before .before .before .before .before .before .before .before .args .size) (c .before .before .before .before .before .before .before .before .before .before .before .before .before .before .before .before .before .before .before .before .before .args .cycle) 4 (c .before .before .before .before .before .before .before .before .before .before .before .before .before .before .room .result) _ (c .before .before .before .before .before .before .before .before .before .before .before .before .timer-count .ensures (c .before .before .before .before .before .before .before .before .before .before .before .before .before .before .before .before .before .before .before .before .before .args .reals .now)) (c .before .before .before .before .before .before .before .before .before .before .refusal .ensures (c .before .before .before .before .before .before .before .before .before .before .before .before .before .before .before .before .before .before .before .before .before .args .reals .now)) (c .before .before .before .before .before .before .before .before .before .if1 .left) .size-le, admitted (c .before .before .before .before .before .before .before .before .before .before .before .before .before .before .before .before .before .before .before .before .before .args .words .now) (c .before .before .before .before .before .before .before .before .before .before .before .before .before .before .before .before .before .before .before .before .before .args .reals .now) (c .before .before .before .before .before .before .before .before .before .before .before .before .before .before .before .before .before .before .before .before .before .args .timer) _ (c .before .before .before .before .before .before .before .before .before .before .before .before .before .before .before .before .before .before .before .before .before .args .size) (c .before .before .before .before .before .before .before .before .before .before .before .before .before .before .before .before .before .before .before .before .before .args .cycle) 4 (c .before .before .before .before .before .before .before .before .before .before .before .before .before .before .room .result) _ (c .before .before .before .before .before .before .before .before .before .before .before .before .timer-count .ensures (c .before .before .before .before .before .before .before .before .before .before .before .before .before .before .before .before .before .before .before .before .before .args .reals .now)) (c .before .before .before .before .before .before .before .before .before .before .refusal .ensures (c .before .before .before .before .before .before .before .before .before .before .before .before .before .before .before .before .before .before .before .before .before .args .reals .now)) (c .before .before .before .before .before .before .before .before .before .if1 .left) .cycle-le), (omega (arith, admitted (c .before .before .before .before .before .before .before .before .before .before .before .before .before .before .before .before .before .before .before .before .before .args .words .now) (c .before .before .before .before .before .before .before .before .before .before .before .before .before .before .before .before .before .before .before .before .before .args .reals .now) (c .before .before .before .before .before .before .before .before .before .before .before .before .before .before .before .before .before .before .before .before .before .args .timer) _ (c .before .before .before .before .before .before .before .before .before .before .before .before .before .before .before .before .before .before .before .before .before .args .size) (c .before .before .before .before .before .before .before .before .before .before .before .before .before .before .before .before .before .before .before .before .before .args .cycle) 4 (c .before .before .before .before .before .before .before .before .before .before .before .before .before .before .room .result) _ (c .before .before .before .before .before .before .before .before .before .before .before .before .timer-count .ensures (c .before .before .before .before .before .before .before .before .before .before .before .before .before .before .before .before .before .before .before .before .before .args .reals .now)) (c .before .before .before .before .before .before .before .before .before .before .refusal .ensures (c .before .before .before .before .before .before .before .before .before .before .before .before .before .before .before .before .before .before .before .before .before .args .reals .now)) (c .before .before .before .before .before .before .before .before .before .if1 .left) .places-le, c .before .before .before .before .before .before .before .before .before .before .before .before .before .before .room .ensures), omega (arith, admitted (c .before .before .before .before .before .before .before .before .before .before .before .before .before .before .before .before .before .before .before .before .before .args .words .now) (c .before .before .before .before .before .before .before .before .before .before .before .before .before .before .before .before .before .before .before .before .before .args .reals .now) (c .before .before .before .before .before .before .before .before .before .before .before .before .before .before .before .before .before .before .before .before .before .args .timer) _ (c .before .before .before .before .before .before .before .before .before .before .before .before .before .before .before .before .before .before .before .before .before .args .size) (c .before .before .before .before .before .before .before .before .before .before .before .before .before .before .before .before .before .before .before .before .before .args .cycle) 4 (c .before .before .before .before .before .before .before .before .before .before .before .before .before .before .room .result) _ (c .before .before .before .before .before .before .before .before .before .before .before .before .timer-count .ensures (c .before .before .before .before .before .before .before .before .before .before .before .before .before .before .before .before .before .before .before .before .before .args .reals .now)) (c .before .before .before .before .before .before .before .before .before .before .refusal .ensures (c .before .before .before .before .before .before .before .before .before .before .before .before .before .before .before .before .before .before .before .before .before .args .reals .now)) (c .before .before .before .before .before .before .before .before .before .if1 .left) .places-le, c .before .before .before .before .before .before .before .before .before .before .before .before .before .before .room .ensures), omega (arith, admitted (c .before .before .before .before .before .before .before .before .before .before .before .before .before .before .before .before .before .before .before .before .before .args .words .now) (c .before .before .before .before .before .before .before .before .before .before .before .before .before .before .before .before .before .before .before .before .before .args .reals .now) (c .before .before .before .before .before .before .before .before .before .before .before .before .before .before .before .before .before .before .before .before .before .args .timer) _ (c .before .before .before .before .before .before .before .before .before .before .before .before .before .before .before .before .before .before .before .before .before .args .size) (c .before .before .before .before .before .before .before .before .before .before .before .before .before .before .before .before .before .before .before .before .before .args .cycle) 4 (c .before .before .before .before .before .before .before .before .before .before .before .before .before .before .room .result) _ (c .before .before .before .before .before .before .before .before .before .before .before .before .timer-count .ensures (c .before .before .before .before .before .before .before .before .before .before .before .before .before .before .before .before .before .before .before .before .before .args .reals .now)) (c .before .before .before .before .before .before .before .before .before .before .refusal .ensures (c .before .before .before .before .before .before .before .before .before .before .before .before .before .before .before .before .before .before .before .before .before .args .reals .now)) (c .before .before .before .before .before .before .before .before .before .if1 .left) .places-le, c .before .before .before .before .before .before .before .before .before .before .before .before .before .before .room .ensures)))
+    let q = admitted (c .before .before .before .before .before .before .before .before .before .before .before .before .before .before .before .before .before .before .before .before .before .args .words .now) (c .before .before .before .before .before .before .before .before .before .before .before .before .before .before .before .before .before .before .before .before .before .args .reals .now) (c .before .before .before .before .before .before .before .before .before .before .before .before .before .before .before .before .before .before .before .before .before .args .timer) _ (c .before .before .before .before .before .before .before .before .before .before .before .before .before .before .before .before .before .before .before .before .before .args .size) (c .before .before .before .before .before .before .before .before .before .before .before .before .before .before .before .before .before .before .before .before .before .args .cycle) 4 (c .before .before .before .before .before .before .before .before .before .before .before .before .before .before .room .result) _ (c .before .before .before .before .before .before .before .before .before .before .before .before .timer-count .ensures (c .before .before .before .before .before .before .before .before .before .before .before .before .before .before .before .before .before .before .before .before .before .args .reals .now)) (c .before .before .before .before .before .before .before .before .before .before .refusal .ensures (c .before .before .before .before .before .before .before .before .before .before .before .before .before .before .before .before .before .before .before .before .before .args .reals .now)) (c .before .before .before .before .before .before .before .before .before .if1 .left) in ((q .index-lt, q .size-le, q .cycle-le), fits (c .before .before .before .before .before .before .before .before .before .before .before .before .before .before .before .before .before .before .before .before .before .args .pins .now) (c .before .before .before .before .before .before .before .before .before .before .before .before .before .before .before .before .before .before .before .before .before .args .levels .now) (c .before .before .before .before .before .before .before .before .before .before .before .before .before .before .before .before .before .before .before .before .before .args .cycles .now) _ (c .before .before .before .before .before .before .before .before .before .before .before .before .before .before .room .ensures) (q .places-le))
 
 -- src/lib.rt:233:9
 same-length-4 : tie.Need-same-length-4

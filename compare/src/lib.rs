@@ -1,0 +1,32 @@
+//! Differential runs: random call lists through the library and the oracle, side by side.
+
+use std::io::{self, BufRead, Write};
+
+pub use oracle;
+
+pub mod port;
+pub mod run;
+pub mod shrink;
+
+pub use port::{Fault, Port};
+pub use run::{list, Failure, Stats};
+pub use shrink::report;
+
+/// Answers a call list as `oracle::run` does, with the library.
+pub fn run(input: impl BufRead, mut out: impl Write) -> io::Result<()> {
+    let mut port = Port::new();
+    for (i, line) in input.split(b'\n').enumerate() {
+        match oracle::calls::parse(&line?) {
+            Ok(Some(call)) => match port.call(&call) {
+                Ok(answer) => writeln!(out, "{answer}")?,
+                Err(fault) => writeln!(out, "{fault}")?,
+            },
+            Ok(None) => {}
+            Err(reason) => {
+                writeln!(out, "line {}: {reason}", i + 1)?;
+                break;
+            }
+        }
+    }
+    out.flush()
+}

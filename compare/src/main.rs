@@ -1,0 +1,54 @@
+//! `compare COUNT [SEED]`: at least COUNT random calls through the library and the oracle, from fresh seeds or from SEED on.
+
+use std::collections::hash_map::RandomState;
+use std::hash::{BuildHasher, Hasher};
+use std::process::ExitCode;
+use std::time::{Duration, Instant};
+
+use compare::run::{CALLS, KINDS};
+use compare::{list, report, Port, Stats};
+
+fn main() -> ExitCode {
+    let args: Option<Vec<u64>> = std::env::args().skip(1).map(|a| a.parse().ok()).collect();
+    let (count, seed) = match args.as_deref() {
+        Some(&[count]) => (count, fresh()),
+        Some(&[count, seed]) => (count, seed),
+        _ => {
+            eprintln!("usage: compare COUNT [SEED]");
+            return ExitCode::FAILURE;
+        }
+    };
+    let lists = count.div_ceil(CALLS);
+    println!("{lists} lists of {CALLS} calls, seeds {seed} to {}", seed.wrapping_add(lists).wrapping_sub(1));
+    let mut port = Port::new();
+    let mut stats = Stats::default();
+    let start = Instant::now();
+    let mut told = start;
+    for i in 0..lists {
+        if let Err(failure) = list(&mut port, seed.wrapping_add(i), CALLS, &mut stats) {
+            println!("{}", report(&mut port, *failure));
+            return ExitCode::FAILURE;
+        }
+        if told.elapsed() > Duration::from_secs(30) {
+            told = Instant::now();
+            println!("{} calls, all equal so far", stats.calls);
+        }
+    }
+    print(&stats, start.elapsed());
+    ExitCode::SUCCESS
+}
+
+/// A seed that no run has had.
+fn fresh() -> u64 {
+    RandomState::new().build_hasher().finish() >> 16
+}
+
+fn print(s: &Stats, took: Duration) {
+    println!("\n{:>12}{}", "", (0..9).map(|n| format!("{n:>11}")).collect::<String>());
+    for (name, numbers) in KINDS.iter().zip(&s.answers) {
+        let cell = |n: &u64| if *n == 0 { format!("{:>11}", ".") } else { format!("{n:>11}") };
+        println!("{name:>12}{}", numbers.iter().map(cell).collect::<String>());
+    }
+    println!("\n{} calls in {} lists, {} events, {} entries, all equal;", s.calls, s.lists, s.events, s.entries);
+    println!("{} peeks and queries besides, all equal. {:.1} s", s.looks, took.as_secs_f64());
+}

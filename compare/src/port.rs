@@ -1,0 +1,216 @@
+//! The library behind the oracle's `Call`, watched: what it may not touch is looked at after every call.
+
+use std::fmt::{self, Display, Formatter};
+
+use board::ffi::{self, Book, State};
+use oracle::{Answer, Call, Entry, Setup};
+
+/// A book of this many places is as good as any larger one: 100,001 events of 4 entries each, and room for a next.
+pub const MOST: u64 = 400_008;
+/// A table of this many entries is as wrong as any longer one.
+const LONGEST: u32 = 1 << 16;
+/// Places behind the lent ones, looked at as well.
+const BEHIND: usize = 16;
+/// Of a book longer than this, mostly its ends alone are looked at.
+const SHORT: usize = 2048;
+
+// No entry has a pin above 127, a level above 1 or a cycle above 2^62.
+const PIN: u8 = 0xee;
+const LEVEL: u8 = 0xdd;
+const CYCLE: u64 = 0xcccc_cccc_cccc_cccc;
+
+/// What a call got wrong, whatever the oracle says of it.
+#[derive(Clone, Debug, PartialEq, Eq)]
+pub enum Fault {
+    /// The answer is not the oracle's.
+    Answer { oracle: Answer, port: Answer },
+    /// More entries than places.
+    Count { count: usize, places: u64 },
+    /// A place after the count, or behind the book, was written.
+    Place { slice: &'static str, place: usize },
+    /// A refused call, a read, a peek or a query changed the state.
+    State { word: usize },
+}
+
+impl Display for Fault {
+    fn fmt(&self, f: &mut Formatter) -> fmt::Result {
+        match self {
+            Fault::Answer { oracle, port } => write!(f, "oracle {oracle} | port {port}"),
+            Fault::Count { count, places } => write!(f, "{count} entries in {places} places"),
+            Fault::Place { slice, place } => write!(f, "place {place} of the {slice} was written"),
+            Fault::State { word } => write!(f, "a call that may not change the state changed word {word}"),
+        }
+    }
+}
+
+pub struct Port {
+    state: State,
+    /// The state after the last call that may change it.
+    kept: State,
+    pins: Vec<u8>,
+    levels: Vec<u8>,
+    cycles: Vec<u64>,
+    /// Places may be left written.
+    dirty: bool,
+    calls: usize,
+}
+
+impl Default for Port {
+    fn default() -> Self {
+        Self::new()
+    }
+}
+
+impl Port {
+    /// The first board.
+    pub fn new() -> Self {
+        let places = MOST as usize + 3 + BEHIND;
+        let state = State::new();
+        Self { kept: state.clone(), state, pins: vec![PIN; places], levels: vec![LEVEL; places], cycles: vec![CYCLE; places], dirty: false, calls: 0 }
+    }
+
+    /// The first board again.
+    pub fn restart(&mut self) {
+        self.state.blank();
+        self.kept.copy_from(&self.state);
+        self.calls = 0;
+        if std::mem::take(&mut self.dirty) {
+            self.pins.fill(PIN);
+            self.levels.fill(LEVEL);
+            self.cycles.fill(CYCLE);
+        }
+    }
+
+    /// Makes a call and looks at everything around it.
+    pub fn call(&mut self, call: &Call) -> Result<Answer, Fault> {
+        let answer = self.ask(call)?;
+        if changes(call) && matches!(answer.number, 0 | 8) {
+            self.kept.copy_from(&self.state);
+        } else {
+            self.unchanged()?;
+        }
+        Ok(answer)
+    }
+
+    /// Makes a call and looks at the book alone.
+    pub fn ask(&mut self, call: &Call) -> Result<Answer, Fault> {
+        self.calls += 1;
+        let lent = lent(call).min(MOST) as usize;
+        let lengths = self.lengths(lent);
+        self.dirty = true;
+        let a = self.make(call, lengths);
+        if a.count > lent {
+            return Err(Fault::Count { count: a.count, places: lent as u64 });
+        }
+        let entry = |i: usize| Entry { pin: self.pins[i] as u16, level: self.levels[i], cycle: self.cycles[i] };
+        let entries = (0..a.count).map(entry).collect();
+        self.places(a.count, lengths)?;
+        Ok(Answer { number: a.number, value: a.value, entries })
+    }
+
+    /// The state is what it was after the last call that may change it.
+    pub fn unchanged(&self) -> Result<(), Fault> {
+        if self.state.same(&self.kept) {
+            return Ok(());
+        }
+        let word = self.state.words().iter().zip(self.kept.words()).position(|(a, b)| a != b);
+        Err(Fault::State { word: word.unwrap_or(ffi::words()) })
+    }
+
+    /// The three slices' lengths: `lent` is the shortest of them, not always the same one.
+    fn lengths(&self, lent: usize) -> [usize; 3] {
+        let more = [[0, 0, 0], [0, 1, 2], [1, 0, 3], [3, 2, 0], [0, 0, 1], [1, 1, 0], [2, 0, 0]][self.calls % 7];
+        more.map(|m| lent + m)
+    }
+
+    fn make(&mut self, call: &Call, [p, l, c]: [usize; 3]) -> ffi::Answer {
+        let book = &mut Book { pins: &mut self.pins[..p], levels: &mut self.levels[..l], cycles: &mut self.cycles[..c] };
+        let s = &mut self.state;
+        match *call {
+            Call::Setup(ref set) => set_up(s, set),
+            Call::Clock { sys, hclk, dividers, cycle } => s.set_clock_tree(f64::from_bits(sys), f64::from_bits(hclk), dividers, cycle),
+            Call::Enable { word, value } => s.enable(word, value),
+            Call::Pin { pin, mode, open_drain, out, pullup, pulldown, function, cycle, .. } => {
+                s.set_pin(book, pin, mode, open_drain, out, pullup, pulldown, function, cycle)
+            }
+            Call::Drive { pin, kind, volts, cycle, .. } => s.drive_pin(book, pin, kind, f64::from_bits(volts), cycle),
+            Call::ResetPins { cycle, .. } => s.reset_pins(book, cycle),
+            Call::Read { timer, offset, size, cycle } => s.read(timer, offset, size, cycle),
+            Call::Write { timer, offset, size, value, cycle, .. } => s.write(book, timer, offset, size, value, cycle),
+            Call::Peek { timer, offset, cycle } => s.peek(timer, offset, cycle),
+            Call::Reset { timer, cycle, .. } => s.reset(book, timer, cycle),
+            Call::Deliver { timer, cycle, .. } => s.deliver(book, timer, cycle),
+            Call::Booked { timer } => s.booked(timer),
+            Call::Next => s.next(),
+            Call::Level { pin } => s.level(pin),
+            Call::Volts { pin } => s.volts(pin),
+            Call::Line { irq } => s.line(irq),
+            Call::Time { cycle } => s.time(cycle),
+            Call::Clear { irq } => s.clear_pending(irq),
+        }
+    }
+
+    /// Nothing was written from `count` on; then the places used are made untouched again.
+    fn places(&mut self, count: usize, [p, l, c]: [usize; 3]) -> Result<(), Fault> {
+        let all = self.calls.is_multiple_of(16);
+        let touched = |slice, place| Err(Fault::Place { slice, place });
+        if let Some(i) = written(&self.pins, PIN, count, p, all) {
+            return touched("pins", i);
+        }
+        if let Some(i) = written(&self.levels, LEVEL, count, l, all) {
+            return touched("levels", i);
+        }
+        if let Some(i) = written(&self.cycles, CYCLE, count, c, all) {
+            return touched("cycles", i);
+        }
+        self.pins[..count].fill(PIN);
+        self.levels[..count].fill(LEVEL);
+        self.cycles[..count].fill(CYCLE);
+        self.dirty = false;
+        Ok(())
+    }
+}
+
+/// The first place from `count` on, up to some behind `len`, that is not `blank`. Of a long book the middle is looked
+/// at only if `all`.
+fn written<T: Copy + PartialEq>(slice: &[T], blank: T, count: usize, len: usize, all: bool) -> Option<usize> {
+    let end = len + BEHIND;
+    let look = |from: usize, to: usize| slice[from..to].iter().position(|&x| x != blank).map(|i| from + i);
+    if all || end - count <= SHORT {
+        look(count, end)
+    } else {
+        look(count, count + SHORT / 2).or_else(|| look(end - SHORT / 2, end))
+    }
+}
+
+fn set_up(s: &mut State, set: &Setup) -> ffi::Answer {
+    let timers: Vec<u32> = set.timers.iter().flat_map(|t| [t.number, t.width, t.channels, t.bus, t.word, t.bit, t.irq]).collect();
+    let mut table = vec![0; set.len.min(LONGEST) as usize];
+    for &(i, signal) in &set.signals {
+        if let Some(entry) = table.get_mut(i as usize) {
+            *entry = signal;
+        }
+    }
+    s.set_up(f64::from_bits(set.hz), f64::from_bits(set.vcc), set.pins, set.lines, &timers, &table)
+}
+
+/// The places lent to a call; those that are lent none get 0 of them.
+fn lent(call: &Call) -> u64 {
+    match *call {
+        Call::Pin { book, .. }
+        | Call::Drive { book, .. }
+        | Call::ResetPins { book, .. }
+        | Call::Write { book, .. }
+        | Call::Reset { book, .. }
+        | Call::Deliver { book, .. } => book,
+        _ => 0,
+    }
+}
+
+/// The call may change the state, if it is served.
+fn changes(call: &Call) -> bool {
+    !matches!(
+        call,
+        Call::Read { .. } | Call::Peek { .. } | Call::Booked { .. } | Call::Next | Call::Level { .. } | Call::Volts { .. } | Call::Line { .. } | Call::Time { .. }
+    )
+}

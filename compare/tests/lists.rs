@@ -1,0 +1,17 @@
+//! The oracle's own tests that replay lists, with the library in the oracle's place: document 01's bench figures, its
+//! refusals, docs/differences and samples.
+#![allow(clippy::duplicate_mod)] // each of them has its own `common`
+
+// In those files `oracle` is this crate, whose `run` is the library's.
+extern crate self as oracle;
+pub use compare::oracle::{board, gen, Answer, Board, Call};
+pub use compare::run;
+
+#[path = "../../oracle/tests/differences.rs"]
+mod differences;
+#[path = "../../oracle/tests/figures.rs"]
+mod figures;
+#[path = "../../oracle/tests/refusals.rs"]
+mod refusals;
+#[path = "../../oracle/tests/samples.rs"]
+mod samples;

@@ -1,0 +1,261 @@
+-- The delivery over any timer, board and book: what is still due leads to the same end. Assumes nothing.
+use mathlib.Core.Path.{_≡_, refl, ap, sym, subst, _∙_}
+use mathlib.Core.Bool.{Bool, true, false, cond}
+use mathlib.Core.List.{List, [], _∷_}
+use Prim.Native.Nat.{ℕ, zero, suc, _+_, _-_, _<_, _≤_}
+use native.Mathlib.Nat.{add-zero}
+use native.Mathlib.Omega.{arith}
+use lib.Dec.{ltb, leb, lit<}
+use lib.Ieee.{Float}
+use lib.ListN.{length}
+use borrow.Author.Tests.{le-leb, lt-leb, le-ltb, ltb-false, leb-true, leb-false}
+use Rattle.tim.specs.declared.Timer.{Timer}
+use Rattle.tim.specs.declared.Ahead.{Ahead}
+use Rattle.tim.specs.declared.Next.{Next}
+use Rattle.tim.specs.declared.Next.the-variants.{Update, Compare}
+use Rattle.tim.specs.declared.Due.{Due}
+use Rattle.tim.specs.declared.Due.the-variants.{At, Stopped}
+use Rattle.tim.specs.Timer.{Fit}
+use Rattle.tim.specs.Next.{nextEvent, nextSteps, consider, compares, compareSteps}
+use Rattle.tim.proofs.Fit.{either, fit-updated, fit-compared}
+use Rattle.book.specs.declared.Changes.{Changes}
+use Rattle.book.specs.Book.{Entry, Book, book, put, puts, entriesOf}
+use Rattle.book.specs.Laws.{puts-append, holds}
+use Rattle.state.specs.View.{view}
+use Rattle.state.specs.Bounded.{bounded}
+use Rattle.machine.specs.Board.{Board, Pads, timerAt, withPads, withTimer}
+use Rattle.machine.specs.Sys.{driveOutputs}
+use Rattle.machine.specs.Deliver.{applied, countAt, Turn, turn, Run, stop, after, run, mostEvents, dividerOf, lineSettled, rebooked, delivered, settled}
+use Rattle.sys.specs.Moves.{Drives}
+use Rattle.delivery.specs.declared.Ran.{Ran}
+use Rattle.delivery.specs.Delivery.{OfFour, verdictOf, Driven, Ends, Delivers}
+
+-- ---- an event's channel is one of four
+
+record Near (a : Ahead) : Type 0 where
+  near : OfFour (a .next)
+
+near-consider : (t : Timer) (ch : ℕ) (best : Ahead) → ch < 4 → Near best → Near (consider t ch best)
+unfolding consider
+near-consider t ch best h n = either Near (compares t ch) (either Near (ltb (compareSteps t ch) (best .steps)) (record { near = h }) n) n
+
+near-steps : (t : Timer) → Near (nextSteps t)
+unfolding nextSteps
+near-steps t =
+    near-consider t 3 _ (lit< tt) (near-consider t 2 _ (lit< tt) (near-consider t 1 _ (lit< tt) (near-consider t 0 _ (lit< tt) (record { near = tt }))))
+
+abbrev DueNear : Due → Type 0
+DueNear (At at e) = OfFour e
+DueNear Stopped = Unit {0}
+
+pub of-four : (t : Timer) (d : Due) (at : ℕ) (e : Next) → d ≡ nextEvent t → d ≡ At at e → OfFour e
+unfolding nextEvent
+of-four t d at e p q = subst DueNear (sym p ∙ q) (either DueNear (t .count .running) (near-steps t .near) tt)
+
+pub fit-applied : (t : Timer) (e : Next) (at div : ℕ) → Fit t → at < 9223372036854775808 → 1 ≤ div → div ≤ 8192 → Fit (applied t e at div)
+fit-applied t Update at div f h p d = fit-updated t f at div h p d
+fit-applied t (Compare ch) at div f h p d = fit-compared t f ch
+
+-- ---- one event's outputs
+
+pub driven : (b b₁ : Board) (k k₁ : Book) (t : Timer) (e : Next) (cnt at : ℕ) (c : Changes) → cnt ≡ countAt t e
+    → Drives (driveOutputs t cnt (b .pads)) b b₁ c → k₁ ≡ puts k (entriesOf at c) → Driven (driveOutputs t (countAt t e) (b .pads)) at b b₁ k k₁
+driven b b₁ k k₁ t e cnt at c h d w = record {
+  board = d .board ∙ ap (λ (n : ℕ). withPads b (driveOutputs t n (b .pads) .pads)) h;
+  entries = w ∙ ap (λ (x : Changes). puts k (entriesOf at x)) (d .changes ∙ ap (λ (n : ℕ). driveOutputs t n (b .pads) .changes) h);
+}
+
+-- the same as machine's turn
+record Turns (s : Turn) (t₁ : Timer) (p₁ : Pads) (k k₁ : Book) : Type 0 where
+  timer : t₁ ≡ s .timer
+  pads : p₁ ≡ s .pads
+  entries : k₁ ≡ puts k (s .entries)
+
+turns : (t t₁ : Timer) (e : Next) (at div : ℕ) (b b₁ : Board) (k k₁ : Book) → t₁ ≡ applied t e at div
+    → Driven (driveOutputs t₁ (countAt t₁ e) (b .pads)) at b b₁ k k₁ → Turns (turn t (b .pads) e at div) t₁ (b₁ .pads) k k₁
+unfolding turn
+turns t t₁ e at div b b₁ k k₁ h d = record {
+  timer = h;
+  pads = ap (λ (x : Board). x .pads) (d .board) ∙ ap (λ (u : Timer). driveOutputs u (countAt u e) (b .pads) .pads) h;
+  entries = d .entries ∙ ap (λ (u : Timer). puts k (entriesOf at (driveOutputs u (countAt u e) (b .pads) .changes))) h;
+}
+
+-- ---- the verdict
+
+pub record Goes (at cycle events left : ℕ) : Type 0 where
+  pub due : at ≤ cycle
+  pub few : events < mostEvents
+  pub free : 4 ≤ left
+
+pub goes : (at cycle events left v : ℕ) → v ≡ verdictOf at cycle events left → v ≡ 1 → Goes at cycle events left
+unfolding verdictOf
+goes at cycle events left v h g = go (leb at cycle) refl (leb mostEvents events) refl (ltb left 4) refl (sym h ∙ g)
+  where
+    go : (a : Bool) → leb at cycle ≡ a → (b : Bool) → leb mostEvents events ≡ b → (c : Bool) → ltb left 4 ≡ c
+        → _≡_ {A = ℕ} (cond a (cond b 8 (cond c 8 1)) 0) 1 → Goes at cycle events left
+    go true p false q false r k = record { due = leb-true at cycle p; few = leb-false mostEvents events q; free = ltb-false left 4 r }
+    go true p false q true r k = absurd (omega arith)
+    go true p true q c r k = absurd (omega arith)
+    go false p b q c r k = absurd (omega arith)
+
+-- ---- the run, by the next event
+
+module _ (cycle div left : ℕ) (t : Timer) (p : Pads) where
+  run-none : (f : ℕ) → nextEvent t ≡ Stopped → run f cycle div left t p ≡ stop t p 0
+  unfolding run
+  run-none zero h = rw h
+  run-none (suc f) h = rw h
+
+  module _ (at : ℕ) (e : Next) (d : nextEvent t ≡ At at e) where
+    run-stop : (f events v : ℕ) → f ≡ mostEvents - events → v ≡ verdictOf at cycle events left → (v ≡ 1 → ⊥) → run f cycle div left t p ≡ stop t p v
+    unfolding run verdictOf
+    run-stop zero events v g h n =
+        let k : mostEvents ≤ events = omega arith in
+        rw d (ap (stop t p) (sym (rw (le-leb mostEvents events k) at h)))
+    run-stop (suc f) events v g h n =
+        let k : events < mostEvents = omega arith in
+        rw d (go (leb at cycle) (ltb left 4) _ (rw (lt-leb mostEvents events k) at h))
+      where
+        go : (a b : Bool) (x : Run) → v ≡ cond a (cond b 8 1) 0 → cond a (cond b (stop t p 8) x) (stop t p 0) ≡ stop t p v
+        go true true x y = ap (stop t p) (sym y)
+        go true false x y = absurd (n y)
+        go false b x y = ap (stop t p) (sym y)
+
+    run-turn : (f : ℕ) → at ≤ cycle → 4 ≤ left → (s : Turn) → s ≡ turn t p e at div
+        → run (suc f) cycle div left t p ≡ after (s .entries) (run f cycle div (left - length (s .entries)) (s .timer) (s .pads))
+    unfolding run
+    run-turn f x y s h = rw (h, d, le-leb at cycle x, le-ltb left 4 y)
+
+-- ---- what a run leaves of a book and a count of events
+
+pub record Final : Type 0 where
+  pub timer : Timer
+  pub pads : Pads
+  pub book : Book
+  pub events : ℕ
+  pub number : ℕ
+
+abbrev pub settle : Book → ℕ → Run → Final
+settle k n o = record { timer = o .timer; pads = o .pads; book = puts k (o .entries); events = n + o .events; number = o .number }
+
+settle-after : (k : Book) (n : ℕ) (es : List Entry) (o : Run) → settle k n (after es o) ≡ settle (puts k es) (n + 1) o
+settle-after k n es o =
+    let e : n + (o .events + 1) ≡ n + 1 + o .events = omega arith in
+    rw (puts-append k es (o .entries), e)
+
+settle-stop : (k : Book) (n : ℕ) (t : Timer) (p : Pads) (v : ℕ) → settle k n (stop t p v) ≡ record { timer = t; pads = p; book = k; events = n; number = v }
+unfolding puts
+settle-stop k n t p v = rw add-zero
+
+puts-count : (k : Book) (es : List Entry) → puts k es .count ≡ k .count + length es
+unfolding puts
+puts-count k [] = sym (add-zero (k .count))
+puts-count k (e ∷ es) = puts-count (put k e) es ∙ one (length es)
+  where
+    one : (n : ℕ) → k .count + 1 + n ≡ k .count + suc n
+    one n = omega arith
+
+-- ---- the invariant
+
+pub record Going (cycle div room : ℕ) (o : Run) (b₀ : Board) (k₀ : Book) (t : Timer) (b : Board) (k : Book) (events : ℕ) : Type 0 where
+  pub fit : Fit t
+  pub within : k .count ≤ room
+  pub few : events ≤ mostEvents
+  pub board : b ≡ withPads b₀ (b .pads)
+  pub same : settle k₀ 0 o ≡ settle k events (run (mostEvents - events) cycle div (room - k .count) t (b .pads))
+
+pub begins : (cycle div room : ℕ) (t : Timer) (b : Board) (k : Book) → Fit t → k .count ≡ 0
+    → Going cycle div room (run mostEvents cycle div room t (b .pads)) b k t b k 0
+begins cycle div room t b k f h =
+    let e : room ≡ room - k .count = omega arith in
+    record {
+      fit = f;
+      within = omega arith;
+      few = omega arith;
+      board = refl;
+      same = ap (λ (n : ℕ). settle k 0 (run mostEvents cycle div n t (b .pads))) e;
+    }
+
+ended : (o : Run) (b₀ b : Board) (k₀ k : Book) (r : Ran) → b ≡ withPads b₀ (b .pads)
+    → settle k₀ 0 o ≡ record { timer = r .timer; pads = b .pads; book = k; events = r .events; number = r .number } → Ends o b₀ b k₀ k r
+ended o b₀ b k₀ k r h e = record {
+  timer = sym (ap (λ (x : Final). x .timer) e);
+  number = sym (ap (λ (x : Final). x .number) e);
+  events = omega (arith, ap (λ (x : Final). x .events) e);
+  board = h ∙ ap (withPads b₀) (sym (ap (λ (x : Final). x .pads) e));
+  entries = sym (ap (λ (x : Final). x .book) e);
+}
+
+module _ (cycle div room : ℕ) (o : Run) (b₀ : Board) (k₀ : Book) (t : Timer) (b : Board) (k : Book) (events : ℕ) (d : Due)
+    (g : Going cycle div room o b₀ k₀ t b k events) (n : d ≡ nextEvent t) where
+  pub ends-none : d ≡ Stopped → (count : ℕ) → Ends o b₀ b k₀ k (record { timer = t; number = 0; events = events; count = count })
+  ends-none h count =
+      ended o b₀ b k₀ k _ (g .board)
+      (g .same ∙ ap (settle k events) (run-none cycle div (room - k .count) t (b .pads) (mostEvents - events) (sym n ∙ h)) ∙ settle-stop k events t (b .pads) 0)
+
+  module _ (at : ℕ) (e : Next) (h : d ≡ At at e) (v : ℕ) (j : v ≡ verdictOf at cycle events (room - k .count)) where
+    pub ends-stop : (v ≡ 1 → ⊥) → (count : ℕ) → Ends o b₀ b k₀ k (record { timer = t; number = v; events = events; count = count })
+    ends-stop x count =
+        ended o b₀ b k₀ k _ (g .board)
+        (g .same ∙ ap (settle k events) (run-stop cycle div (room - k .count) t (b .pads) at e (sym n ∙ h) (mostEvents - events) events v refl j x)
+        ∙ settle-stop k events t (b .pads) v)
+
+    pub going-on : v ≡ 1 → cycle < 9223372036854775808 → 1 ≤ div → div ≤ 8192 → (t₁ : Timer) (b₁ : Board) (k₁ : Book) → t₁ ≡ applied t e at div
+        → Driven (driveOutputs t₁ (countAt t₁ e) (b .pads)) at b b₁ k k₁ → k₁ .count ≤ k .count + 4 → Going cycle div room o b₀ k₀ t₁ b₁ k₁ (events + 1)
+    going-on x c p q t₁ b₁ k₁ a w r =
+        let y = goes at cycle events (room - k .count) v j x in
+        let s = turn t (b .pads) e at div in
+        let z : Turns s t₁ (b₁ .pads) k k₁ = turns t t₁ e at div b b₁ k k₁ a w in
+        let m : mostEvents - events ≡ suc (mostEvents - (events + 1)) = omega (arith, y .few) in
+        let l : room - k .count - length (s .entries) ≡ room - k₁ .count =
+        omega (arith, ap (λ (u : Book). u .count) (z .entries), puts-count k (s .entries)) in
+        record {
+          fit = rw a (fit-applied t e at div (g .fit) (omega (arith, y .due)) p q);
+          within = omega (arith, y .free, g .within);
+          few = omega (arith, y .few);
+          board = w .board ∙ ap (λ (u : Board). withPads u (driveOutputs t₁ (countAt t₁ e) (b .pads) .pads)) (g .board)
+              ∙ ap (withPads b₀) (sym (ap (λ (u : Board). u .pads) (w .board)));
+          same = g .same
+              ∙ ap (λ (f : ℕ). settle k events (run f cycle div (room - k .count) t (b .pads))) m
+              ∙ ap (settle k events) (run-turn cycle div (room - k .count) t (b .pads) at e (sym n ∙ h) (mostEvents - (events + 1)) (y .due) (y .free) s refl)
+              ∙ settle-after k events (s .entries) (run (mostEvents - (events + 1)) cycle div (room - k .count - length (s .entries)) (s .timer) (s .pads))
+              ∙ ap (λ (i : ℕ). settle (puts k (s .entries)) (events + 1) (run (mostEvents - (events + 1)) cycle div i (s .timer) (s .pads))) l
+              ∙ ap (λ (u : Book). settle u (events + 1) (run (mostEvents - (events + 1)) cycle div (room - k₁ .count) (s .timer) (s .pads))) (sym (z .entries))
+              ∙ ap (λ (u : Timer). settle k₁ (events + 1) (run (mostEvents - (events + 1)) cycle div (room - k₁ .count) u (s .pads))) (sym (z .timer))
+              ∙ ap (λ (u : Pads). settle k₁ (events + 1) (run (mostEvents - (events + 1)) cycle div (room - k₁ .count) t₁ u)) (sym (z .pads));
+        }
+
+-- the places that are lent
+pub room-ends : (cycle div room places : ℕ) (t : Timer) (b b₁ : Board) (k k₁ : Book) (r : Ran) → room ≡ places
+    → Ends (run mostEvents cycle div room t (b .pads)) b b₁ k k₁ r → Ends (run mostEvents cycle div places t (b .pads)) b b₁ k k₁ r
+room-ends cycle div room places t b b₁ k k₁ r h e = subst (λ (n : ℕ). Ends (run mostEvents cycle div n t (b .pads)) b b₁ k k₁ r) h e
+
+-- ---- the whole
+
+pub loaded-fit : (w : List ℕ) (x : List Float) (i : ℕ) (t : Timer) → t ≡ timerAt (view w x) i → Fit t
+loaded-fit w x i t h = rw h (bounded w x .timer-fit i)
+
+module _ (b b₁ b₂ b₃ b₄ : Board) (i cycle div places : ℕ) (t : Timer) (r : Ran) (load : t ≡ timerAt b i) (steps : div ≡ dividerOf b t) where
+  same-run : run mostEvents cycle div places t (b .pads) ≡ delivered b i cycle places
+  unfolding delivered
+  same-run =
+      ap (λ (n : ℕ). run mostEvents cycle n places t (b .pads)) steps
+      ∙ ap (λ (u : Timer). run mostEvents cycle (dividerOf b u) places u (b .pads)) load
+
+  pub delivers : (p l c p₁ l₁ c₁ : List ℕ)
+      → Ends (run mostEvents cycle div places t (b .pads)) b b₁ (book p l c 0) (book p₁ l₁ c₁ (r .count)) r
+      → r .count ≤ length p → r .count ≤ length l → r .count ≤ length c
+      → b₂ ≡ withTimer b₁ i (r .timer) → b₃ ≡ lineSettled (r .timer) b₂ → b₄ ≡ rebooked i (r .timer) cycle b₃
+      → Delivers (delivered b i cycle places) b i cycle b₄ (record { number = r .number; events = r .events; count = r .count }) p p₁ l l₁ c c₁
+  unfolding settled
+  delivers p l c p₁ l₁ c₁ e′ x y z store line book′ =
+      let o = delivered b i cycle places in
+      let e : Ends o b b₁ (book p l c 0) (book p₁ l₁ c₁ (r .count)) r =
+      subst (λ (q : Run). Ends q b b₁ (book p l c 0) (book p₁ l₁ c₁ (r .count)) r) same-run e′ in
+      record {
+        number = e .number;
+        events = e .events;
+        board = book′ ∙ ap (rebooked i (r .timer) cycle) (line ∙ ap (lineSettled (r .timer)) (store ∙ ap (λ (u : Board). withTimer u i (r .timer)) (e .board)))
+            ∙ ap (λ (u : Timer). rebooked i u cycle (lineSettled u (withPads (withTimer b i u) (o .pads)))) (e .timer);
+        entries = holds (o .entries) p l c p₁ l₁ c₁ (r .count) (e .entries) x y z;
+      }

@@ -1,0 +1,162 @@
+// The delivery of a timer's due events over the lent state, their level changes into the lent book (tim.rs, on_event).
+use state::REALS;
+use state::WORDS;
+use tim::Due;
+use tim::Next;
+use tim::Timer;
+ghost use mathlib.Core.Path.{_≡_};
+ghost use Prim.Native.Nat.{_+_, _<_, _≤_};
+ghost use lib.ListN.{length};
+ghost use Rattle.tim.specs.Timer.{Fit};
+ghost use Rattle.book.specs.Book.{book, places};
+ghost use Rattle.state.specs.View.{view};
+ghost use Rattle.machine.specs.Sys.{driveOutputs};
+ghost use Rattle.machine.specs.Deliver.{applied, countAt, run, mostEvents, delivered};
+ghost use Rattle.delivery.specs.Delivery.{OfFour, verdictOf, Driven, Ends, Delivers};
+
+// What a delivery answers: 0 or 8, the events handled, and the entries made.
+pub struct Delivered {
+    pub number: u8,
+    pub events: u64,
+    pub count: usize,
+}
+
+// The same, with the timer that the events leave.
+pub struct Ran {
+    pub timer: Timer,
+    pub number: u8,
+    pub events: u64,
+    pub count: usize,
+}
+
+// Whether an event due at `at` is handled (1), or the delivery stops, with 0 or 8.
+fn verdict(at: u64, cycle: u64, events: u64, left: usize) -> u8
+    ensures { λ r. ⌜ r ≡ verdictOf at cycle events left ⌝ }
+{
+    if at > cycle {
+        return 0;
+    }
+    if events >= 100001 {
+        return 8;
+    }
+    if left < 4 {
+        return 8;
+    }
+    1
+}
+
+// The timer after an event at its due cycle.
+fn apply(t: Timer, e: Next, at: u64, div: u32) -> Timer
+    requires { ⌜ (OfFour e) × (Fit t) × (div ≤ 8192) ⌝ }
+    ensures { λ r. ⌜ r ≡ applied t e at div ⌝ }
+{
+    match e {
+        Next::Update => t.update(at, div),
+        Next::Compare(ch) => t.compare(ch),
+    }
+}
+
+// The count at an event, of the timer that it leaves.
+fn count_at(t: Timer, e: Next) -> u32
+    requires { ⌜ OfFour e ⌝ }
+    ensures { λ r. ⌜ r ≡ countAt t e ⌝ }
+{
+    let act = t.chan.ccr_act;
+    match e {
+        Next::Update => t.count.cnt0,
+        Next::Compare(ch) => act[ch],
+    }
+}
+
+// Drives the outputs after an event, and writes their level changes at its due cycle from place n on; the next place.
+fn drive(
+    words: &mut [u64; WORDS],
+    reals: &mut [f64; REALS],
+    pins: &mut [u8],
+    levels: &mut [u8],
+    cycles: &mut [u64],
+    n: usize,
+    t: Timer,
+    e: Next,
+    at: u64,
+) -> usize
+    requires { ⌜ OfFour e ⌝ }
+    requires { ⌜ (n + 4 ≤ length (now pins)) × (n + 4 ≤ length (now levels)) × (n + 4 ≤ length (now cycles)) ⌝ }
+    ensures { λ r. ⌜ Driven (driveOutputs t (countAt t e) (view (now (words .entry)) (now (reals .entry)) .pads)) at (view (now (words .entry)) (now (reals .entry))) (view (now (words .exit)) (now (reals .exit))) (book (now (pins .entry)) (now (levels .entry)) (now (cycles .entry)) n) (book (now (pins .exit)) (now (levels .exit)) (now (cycles .exit)) r) ⌝ }
+    ensures { λ r. ⌜ r ≤ n + 4 ⌝ }
+{
+    let cnt = count_at(t, e);
+    let changes = sys::drive_outputs(words, reals, t, cnt);
+    book::append_all(pins, levels, cycles, n, changes, at)
+}
+
+// Handles the events of timer t that are due at cycle, each at its own due cycle.
+fn run(
+    words: &mut [u64; WORDS],
+    reals: &mut [f64; REALS],
+    pins: &mut [u8],
+    levels: &mut [u8],
+    cycles: &mut [u64],
+    timer: Timer,
+    div: u32,
+    cycle: u64,
+) -> Ran
+    requires { ⌜ (Fit timer) × (1 ≤ div) × (div ≤ 8192) × (cycle < 9223372036854775808) ⌝ }
+    ensures { λ r. ⌜ Ends (run mostEvents cycle div (places (now (pins .entry)) (now (levels .entry)) (now (cycles .entry))) timer (view (now (words .entry)) (now (reals .entry)) .pads)) (view (now (words .entry)) (now (reals .entry))) (view (now (words .exit)) (now (reals .exit))) (book (now (pins .entry)) (now (levels .entry)) (now (cycles .entry)) 0) (book (now (pins .exit)) (now (levels .exit)) (now (cycles .exit)) (r .count)) r ⌝ }
+    ensures { λ r. ⌜ (Fit (r .timer)) × (r .count ≤ length (now (pins .entry))) × (r .count ≤ length (now (levels .entry))) × (r .count ≤ length (now (cycles .entry))) ⌝ }
+{
+    let room = book::room(pins, levels, cycles);
+    let mut t = timer;
+    let mut events: u64 = 0;
+    let mut count: usize = 0;
+    loop {
+        let due = t.next_event();
+        let Due::At(at, e) = due else {
+            return Ran {
+                timer: t,
+                number: 0,
+                events,
+                count,
+            };
+        };
+        let v = verdict(at, cycle, events, room - count);
+        if v != 1 {
+            return Ran {
+                timer: t,
+                number: v,
+                events,
+                count,
+            };
+        }
+        t = apply(t, e, at, div);
+        count = drive(words, reals, pins, levels, cycles, count, t, e, at);
+        events += 1;
+    }
+}
+
+// Delivers timer i's events that are due at cycle; then its interrupt line follows and its next event is booked.
+pub fn deliver(
+    words: &mut [u64; WORDS],
+    reals: &mut [f64; REALS],
+    pins: &mut [u8],
+    levels: &mut [u8],
+    cycles: &mut [u64],
+    i: usize,
+    cycle: u64,
+) -> Delivered
+    requires { ⌜ (i < 8) × (cycle < 9223372036854775808) ⌝ }
+    ensures { λ r. ⌜ Delivers (delivered (view (now (words .entry)) (now (reals .entry))) i cycle (places (now (pins .entry)) (now (levels .entry)) (now (cycles .entry)))) (view (now (words .entry)) (now (reals .entry))) i cycle (view (now (words .exit)) (now (reals .exit))) r (now (pins .entry)) (now (pins .exit)) (now (levels .entry)) (now (levels .exit)) (now (cycles .entry)) (now (cycles .exit)) ⌝ }
+{
+    let t = state::load_timer(words, i);
+    let div = rcc::divider(words, reals, t);
+    let r = run(words, reals, pins, levels, cycles, t, div, cycle);
+    let s = r.timer;
+    state::store_timer(words, i, s);
+    rcc::settle_line(words, s);
+    rcc::rebook(words, i, s, cycle);
+    Delivered {
+        number: r.number,
+        events: r.events,
+        count: r.count,
+    }
+}

@@ -1,0 +1,211 @@
+//! The library's own interface: every exported function once, safe to call, nothing decided here. [`Board`](crate::Board)
+//! is what a server uses; this is for comparisons and benchmarks, which lend books of their own and look at the state.
+//!
+//! The only `unsafe` of the crate. No exported function asks anything of its arguments. What is left to this file: the
+//! pointers are live, do not overlap, and are as long as said. The state's two lengths are the library's own,
+//! [`words`] and [`reals`], and a [`State`] cannot be made with others.
+
+/// What every call answers.
+#[repr(C)]
+#[derive(Clone, Copy, Debug, PartialEq, Eq)]
+pub struct Answer {
+    /// 0 served, else the number of [`Error`](crate::Error).
+    pub number: u8,
+    /// The register, the events handled, what a query asks, else 0.
+    pub value: u64,
+    /// Entries made in the book.
+    pub count: usize,
+}
+
+/// A lent book: three slices, filled from place 0. Its length is the shortest of the three.
+pub struct Book<'a> {
+    /// The pin of each entry.
+    pub pins: &'a mut [u8],
+    /// The level it took.
+    pub levels: &'a mut [u8],
+    /// The cycle it did.
+    pub cycles: &'a mut [u64],
+}
+
+/// A board's state, in the library's layout.
+#[derive(Clone)]
+pub struct State {
+    words: Box<[u64]>,
+    reals: Box<[f64]>,
+}
+
+// The declarations must be the exports of crates/board; nothing but the comparison with the oracle checks them.
+unsafe extern "C" {
+    safe fn board_words() -> usize;
+    safe fn board_reals() -> usize;
+    fn board_blank(w: *mut u64, r: *mut f64);
+    fn board_set_up(w: *mut u64, r: *mut f64, hz: f64, vcc: f64, pins: u32, lines: u32, timers: *const u32, timers_len: usize, table: *const u32, table_len: usize) -> Answer;
+    fn board_set_clock_tree(w: *mut u64, r: *mut f64, sysclk_hz: f64, hclk_hz: f64, ppre1: u32, ppre2: u32, ppre3: u32, ppre4: u32, tim1: u32, tim2: u32, cycle: u64) -> Answer;
+    fn board_enable(w: *mut u64, r: *mut f64, word: u32, value: u32) -> Answer;
+    fn board_set_pin(w: *mut u64, r: *mut f64, p: *mut u8, np: usize, l: *mut u8, nl: usize, c: *mut u64, nc: usize, pin: u32, mode: u32, open_drain: u32, out: u32, pullup: u32, pulldown: u32, function: u32, cycle: u64) -> Answer;
+    fn board_drive_pin(w: *mut u64, r: *mut f64, p: *mut u8, np: usize, l: *mut u8, nl: usize, c: *mut u64, nc: usize, pin: u32, kind: u32, volts: f64, cycle: u64) -> Answer;
+    fn board_reset_pins(w: *mut u64, r: *mut f64, p: *mut u8, np: usize, l: *mut u8, nl: usize, c: *mut u64, nc: usize, cycle: u64) -> Answer;
+    fn board_read(w: *const u64, r: *const f64, timer: u32, offset: u32, size: u32, cycle: u64) -> Answer;
+    fn board_write(w: *mut u64, r: *mut f64, p: *mut u8, np: usize, l: *mut u8, nl: usize, c: *mut u64, nc: usize, timer: u32, offset: u32, size: u32, value: u32, cycle: u64) -> Answer;
+    fn board_peek(w: *const u64, r: *const f64, timer: u32, offset: u32, cycle: u64) -> Answer;
+    fn board_reset(w: *mut u64, r: *mut f64, p: *mut u8, np: usize, l: *mut u8, nl: usize, c: *mut u64, nc: usize, timer: u32, cycle: u64) -> Answer;
+    fn board_deliver(w: *mut u64, r: *mut f64, p: *mut u8, np: usize, l: *mut u8, nl: usize, c: *mut u64, nc: usize, timer: u32, cycle: u64) -> Answer;
+    fn board_booked(w: *const u64, r: *const f64, timer: u32) -> Answer;
+    fn board_next(w: *const u64, r: *const f64) -> Answer;
+    fn board_level(w: *const u64, r: *const f64, pin: u32) -> Answer;
+    fn board_volts(w: *const u64, r: *const f64, pin: u32) -> Answer;
+    fn board_line(w: *const u64, r: *const f64, irq: u32) -> Answer;
+    fn board_time(w: *const u64, r: *const f64, cycle: u64) -> Answer;
+    fn board_clear_pending(w: *mut u64, r: *mut f64, irq: u32) -> Answer;
+}
+
+/// A call that reads the state.
+macro_rules! ask {
+    ($f:ident, $s:ident $(, $arg:expr)*) => {
+        // SAFETY: two live arrays of the library's own lengths.
+        unsafe { $f($s.words.as_ptr(), $s.reals.as_ptr() $(, $arg)*) }
+    };
+}
+
+/// A call that changes the state.
+macro_rules! change {
+    ($f:ident, $s:ident $(, $arg:expr)*) => {
+        // SAFETY: as above, held exclusively; other slices are passed with their lengths.
+        unsafe { $f($s.words.as_mut_ptr(), $s.reals.as_mut_ptr() $(, $arg)*) }
+    };
+}
+
+/// A call that changes the state and is lent a book.
+macro_rules! lend {
+    ($f:ident, $s:ident, $b:ident $(, $arg:expr)*) => {
+        change!($f, $s, $b.pins.as_mut_ptr(), $b.pins.len(), $b.levels.as_mut_ptr(), $b.levels.len(), $b.cycles.as_mut_ptr(), $b.cycles.len() $(, $arg)*)
+    };
+}
+
+/// The words of a state.
+pub fn words() -> usize {
+    board_words()
+}
+
+/// The floats of a state.
+pub fn reals() -> usize {
+    board_reals()
+}
+
+impl Default for State {
+    fn default() -> Self {
+        Self::new()
+    }
+}
+
+/// The exported functions, as they are. [`Board`](crate::Board) says what each does.
+#[allow(missing_docs, clippy::too_many_arguments)]
+impl State {
+    /// The first board.
+    pub fn new() -> Self {
+        let mut s = Self { words: vec![0; words()].into(), reals: vec![0.0; reals()].into() };
+        s.blank();
+        s
+    }
+
+    /// The state's words, in a layout that is the library's alone.
+    pub fn words(&self) -> &[u64] {
+        &self.words
+    }
+
+    /// The state's floats.
+    pub fn reals(&self) -> &[f64] {
+        &self.reals
+    }
+
+    /// Takes over another board's state.
+    pub fn copy_from(&mut self, other: &State) {
+        self.words.copy_from_slice(&other.words);
+        self.reals.copy_from_slice(&other.reals);
+    }
+
+    /// The same to the last bit.
+    pub fn same(&self, other: &State) -> bool {
+        self.words == other.words && self.reals.iter().zip(&other.reals).all(|(a, b)| a.to_bits() == b.to_bits())
+    }
+
+    pub fn blank(&mut self) {
+        change!(board_blank, self)
+    }
+
+    /// `timers`: seven numbers each. `table`: 16 signals a pin.
+    pub fn set_up(&mut self, hz: f64, vcc: f64, pins: u32, lines: u32, timers: &[u32], table: &[u32]) -> Answer {
+        change!(board_set_up, self, hz, vcc, pins, lines, timers.as_ptr(), timers.len(), table.as_ptr(), table.len())
+    }
+
+    /// `dividers`: PPRE1 to PPRE4, TIM1, TIM2.
+    pub fn set_clock_tree(&mut self, sysclk_hz: f64, hclk_hz: f64, dividers: [u32; 6], cycle: u64) -> Answer {
+        let [ppre1, ppre2, ppre3, ppre4, tim1, tim2] = dividers;
+        change!(board_set_clock_tree, self, sysclk_hz, hclk_hz, ppre1, ppre2, ppre3, ppre4, tim1, tim2, cycle)
+    }
+
+    pub fn enable(&mut self, word: u32, value: u32) -> Answer {
+        change!(board_enable, self, word, value)
+    }
+
+    pub fn set_pin(&mut self, book: &mut Book, pin: u32, mode: u32, open_drain: u32, out: u32, pullup: u32, pulldown: u32, function: u32, cycle: u64) -> Answer {
+        lend!(board_set_pin, self, book, pin, mode, open_drain, out, pullup, pulldown, function, cycle)
+    }
+
+    /// `kind`: 1 low, 2 high, 3 analogue, else nothing.
+    pub fn drive_pin(&mut self, book: &mut Book, pin: u32, kind: u32, volts: f64, cycle: u64) -> Answer {
+        lend!(board_drive_pin, self, book, pin, kind, volts, cycle)
+    }
+
+    pub fn reset_pins(&mut self, book: &mut Book, cycle: u64) -> Answer {
+        lend!(board_reset_pins, self, book, cycle)
+    }
+
+    pub fn read(&self, timer: u32, offset: u32, size: u32, cycle: u64) -> Answer {
+        ask!(board_read, self, timer, offset, size, cycle)
+    }
+
+    pub fn write(&mut self, book: &mut Book, timer: u32, offset: u32, size: u32, value: u32, cycle: u64) -> Answer {
+        lend!(board_write, self, book, timer, offset, size, value, cycle)
+    }
+
+    pub fn peek(&self, timer: u32, offset: u32, cycle: u64) -> Answer {
+        ask!(board_peek, self, timer, offset, cycle)
+    }
+
+    pub fn reset(&mut self, book: &mut Book, timer: u32, cycle: u64) -> Answer {
+        lend!(board_reset, self, book, timer, cycle)
+    }
+
+    pub fn deliver(&mut self, book: &mut Book, timer: u32, cycle: u64) -> Answer {
+        lend!(board_deliver, self, book, timer, cycle)
+    }
+
+    pub fn booked(&self, timer: u32) -> Answer {
+        ask!(board_booked, self, timer)
+    }
+
+    pub fn next(&self) -> Answer {
+        ask!(board_next, self)
+    }
+
+    pub fn level(&self, pin: u32) -> Answer {
+        ask!(board_level, self, pin)
+    }
+
+    pub fn volts(&self, pin: u32) -> Answer {
+        ask!(board_volts, self, pin)
+    }
+
+    pub fn line(&self, irq: u32) -> Answer {
+        ask!(board_line, self, irq)
+    }
+
+    pub fn time(&self, cycle: u64) -> Answer {
+        ask!(board_time, self, cycle)
+    }
+
+    pub fn clear_pending(&mut self, irq: u32) -> Answer {
+        change!(board_clear_pending, self, irq)
+    }
+}
