@@ -14,7 +14,7 @@ use Rattle.scheduler.specs.Booking.{least}
 use Rattle.real.specs.Real.{bitsOf}
 use Rattle.words.specs.declared.Gpio.{Gpio}
 use Rattle.machine.specs.Board.{Board, gpioAt, withNvic}
-use Rattle.machine.specs.Call.{Outcome, refused, served, enable, queryBooked, queryNext, queryLevel, queryVolts, queryLine, queryTime, clearPending}
+use Rattle.machine.specs.Call.{Outcome, served, enable, queryBooked, queryNext, queryLevel, queryVolts, queryLine, queryTime, clearPending}
 use Rattle.machine.specs.Step.{step, refuseIf, astray}
 use Rattle.state.specs.Board.{bookedAt, withEnr}
 use Rattle.state.specs.View.{view}
