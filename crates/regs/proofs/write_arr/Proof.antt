@@ -1,8 +1,13 @@
 -- By ARPE.
-use Rattle.regs.specs.Regs.{arrWritten}
+use Rattle.tim.specs.declared.Timer.{Timer}
+use Rattle.regs.specs.Regs.{arrWritten, booked, only, withArr, withArrAct}
+use Prim.Native.Nat.{ℕ}
+use Rattle.tim.specs.Change.{recomputed}
+use Rattle.tim.specs.Count.{synced}
+use lib.Bits.{bitAnd}
+use mathlib.Core.Path.{_∙_, ap}
 use borrow.Author.Needs.{needs}
 use borrow.Author.Tests.{eq-eqb, ne-eqb}
-use mathlib.Core.Path.{_∙_}
 use Rattle.regs.proofs.write_arr.Statement.{statement}
 use Rattle.regs.proofs.write_arr.Tie as tie
 
@@ -20,7 +25,7 @@ only-requires c κs = search needs
 
 returns : tie.Need-returns
 unfolding arrWritten
-returns c = rw (eq-eqb _ _ (c .before .if1 .taken)) (cc)
+returns c = rw (eq-eqb _ _ (c .before .if1 .taken)) (c .only .ensures ∙ ap (λ (s : Timer). only s) (c .before .before .before .with-arr .ensures ∙ (ap (λ (s : Timer). withArr s (bitAnd (c .before .before .before .before .before .before .args .v) (c .before .before .before .before .before .max .result))) (c .before .before .before .before .sync .ensures) ∙ ap (λ (m : ℕ). withArr (synced (c .before .before .before .before .before .before .args .timer) (c .before .before .before .before .before .before .args .now)) (bitAnd (c .before .before .before .before .before .before .args .v) m)) (c .before .before .before .before .before .max .ensures))))
 
 with-arr-act-requires : tie.Need-with-arr-act-requires
 with-arr-act-requires c κs = search needs
@@ -33,7 +38,7 @@ booked-requires c κs = search needs
 
 returns-2 : tie.Need-returns-2
 unfolding arrWritten
-returns-2 c = rw (ne-eqb _ _ (c .before .before .before .if1 .left)) (c .booked .ensures ∙ rw (c .before .recompute-cc-done .ensures, c .before .before .with-arr-act .ensures, c .before .before .before .before .before .with-arr .ensures, c .before .before .before .before .before .before .sync .ensures, c .before .before .before .before .before .before .before .max .ensures))
+returns-2 c = rw (ne-eqb _ _ (c .before .before .before .if1 .left)) (c .booked .ensures ∙ ap (λ (s : Timer). booked s) (c .before .recompute-cc-done .ensures ∙ ap recomputed (c .before .before .with-arr-act .ensures ∙ (ap (λ (s : Timer). withArrAct s (bitAnd (c .before .before .before .before .before .before .before .before .args .v) (c .before .before .before .before .before .before .before .max .result))) (c .before .before .before .before .before .with-arr .ensures ∙ ap (λ (s : Timer). withArr s (bitAnd (c .before .before .before .before .before .before .before .before .args .v) (c .before .before .before .before .before .before .before .max .result))) (c .before .before .before .before .before .before .sync .ensures)) ∙ ap (λ (m : ℕ). withArrAct (withArr (synced (c .before .before .before .before .before .before .before .before .args .timer) (c .before .before .before .before .before .before .before .before .args .now)) (bitAnd (c .before .before .before .before .before .before .before .before .args .v) m)) (bitAnd (c .before .before .before .before .before .before .before .before .args .v) m)) (c .before .before .before .before .before .before .before .max .ensures)))))
 
 pub write-arr-spec : {M : Type 1} → statement M
 write-arr-spec = tie.close (tie.spec max-requires sync-requires with-arr-requires only-requires returns with-arr-act-requires recompute-cc-done-requires booked-requires returns-2)

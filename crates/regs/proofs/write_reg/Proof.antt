@@ -1,7 +1,11 @@
 -- One case for each register.
+use Rattle.tim.specs.declared.Timer.{Timer}
+use Rattle.regs.specs.Regs.{booked, counted, generated, lined, only, regWritten, withDier, withPsc}
+use Prim.Native.Nat.{ℕ}
+use lib.Bits.{bitAnd}
+use mathlib.Core.Path.{_∙_, ap}
 use Rattle.rm0440.specs.Registers.{bits, mask}
 use Rattle.regs.proofs.Fit.{fit-egr}
-use Rattle.regs.specs.Regs.{regWritten}
 use borrow.Author.Needs.{needs}
 use borrow.Author.Tests.{ne-eqb}
 use Rattle.regs.proofs.write_reg.Statement.{statement}
@@ -69,35 +73,35 @@ write-channel-requires c κs = search needs
 
 returns : tie.Need-returns
 unfolding regWritten
-returns c = rw (c .before .before .match .keys1) (cc)
+returns c = rw (c .before .before .match .keys1) (c .booked .ensures ∙ ap (λ (t : Timer). booked t) (c .before .write-cr1 .ensures))
 
 returns-2 : tie.Need-returns-2
 unfolding regWritten
-returns-2 c = rw (c .before .before .match .keys2) (cc)
+returns-2 c = rw (c .before .before .match .keys2) (c .only .ensures ∙ ap (λ (t : Timer). only t) (c .before .with-cr2 .ensures))
 
 returns-3 : tie.Need-returns-3
 unfolding regWritten
-returns-3 c = rw (c .before .before .match .keys3) (cc)
+returns-3 c = rw (c .before .before .match .keys3) (c .only2 .ensures ∙ ap (λ (t : Timer). only t) (c .before .with-smcr .ensures))
 
 returns-4 : tie.Need-returns-4
 unfolding regWritten
-returns-4 c = rw (c .before .before .before .match .keys4) (cc)
+returns-4 c = rw (c .before .before .before .match .keys4) (c .lined .ensures ∙ ap (λ (t : Timer). lined t) (c .before .with-dier .ensures ∙ ap (λ (m : ℕ). withDier (c .before .before .before .before .args .timer) (bitAnd (c .before .before .before .before .args .v) m)) (c .before .before .kept .ensures)))
 
 returns-5 : tie.Need-returns-5
 unfolding regWritten mask bits
-returns-5 c = rw (c .before .before .before .match .keys5) (cc)
+returns-5 c = rw (c .before .before .before .match .keys5) (c .lined2 .ensures ∙ ap (λ (t : Timer). lined t) (c .before .with-sr .ensures))
 
 returns-6 : tie.Need-returns-6
 unfolding regWritten
-returns-6 c = rw (c .before .before .match .keys6) (cc)
+returns-6 c = rw (c .before .before .match .keys6) (c .generated .ensures ∙ ap (λ (t : Timer). generated t (c .before .before .before .args .now)) (c .before .write-egr .ensures))
 
 returns-7 : tie.Need-returns-7
 unfolding regWritten
-returns-7 c = rw (c .before .before .match .keys7) (cc)
+returns-7 c = rw (c .before .before .match .keys7) (c .counted .ensures ∙ ap (λ (t : Timer). counted t) (c .before .write-cnt .ensures))
 
 returns-8 : tie.Need-returns-8
 unfolding regWritten
-returns-8 c = rw (c .before .before .before .match .keys8) (cc)
+returns-8 c = rw (c .before .before .before .match .keys8) (c .only3 .ensures ∙ ap (λ (t : Timer). only t) (c .before .with-psc .ensures ∙ ap (λ (m : ℕ). withPsc (c .before .before .before .before .args .timer) (bitAnd (c .before .before .before .before .args .v) m)) (c .before .before .kept2 .ensures)))
 
 returns-9 : tie.Need-returns-9
 unfolding regWritten
