@@ -13,12 +13,12 @@ use Rattle.rm0440.specs.Output as Out
 use Rattle.rm0440.specs.Counter.{stepCycles}
 use Rattle.tim.specs.declared.Timer.{Timer}
 use Rattle.tim.specs.declared.Inst.{Inst}
-use Rattle.tim.specs.declared.Written.{Written}
+use Rattle.regs.specs.declared.Written.{Written}
 use Rattle.clk.specs.Clk.{timerDiv}
 use Rattle.tim.specs.Timer.{isOutput, ccmrByte}
 use Rattle.tim.specs.Count.{synced}
 use Rattle.tim.specs.Change as C
-use Rattle.tim.specs.Regs as R
+use Rattle.regs.specs.Regs as R
 use Rattle.machine.specs.Board.{Board, Clocks, timerAt, noTimer}
 use Rattle.machine.specs.Deliver.{dividerOf, lineSettled, rebooked}
 use Rattle.machine.specs.Call.{write, Outcome}

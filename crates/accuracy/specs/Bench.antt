@@ -24,7 +24,7 @@ use Rattle.tim.specs.Timer.{isOutput, ocMode, ccrAct}
 use Rattle.tim.specs.Change as C
 use Rattle.tim.specs.Count.{upFrom, downFrom, cntAt, synced}
 use Rattle.tim.specs.Next.{compares, consider, nextSteps, nextEvent}
-use Rattle.tim.specs.Regs as R
+use Rattle.regs.specs.Regs as R
 use Rattle.machine.specs.Board.{Board, idleLevels, freshBoard, timerAt, gpioAt, routeOf, one}
 use Rattle.machine.specs.Sys as Sys
 use Rattle.machine.specs.Sys.{driver}

@@ -21,7 +21,7 @@ use Rattle.book.specs.Book.{entryOf, entriesOf}
 use Rattle.tim.specs.Change as C
 use Rattle.tim.specs.Count.{upFrom, downFrom, cntAt, synced}
 use Rattle.tim.specs.Next.{compares, consider, nextSteps, nextEvent}
-use Rattle.tim.specs.Regs as R
+use Rattle.regs.specs.Regs as R
 use Rattle.machine.specs.Board.{idleLevels, freshBoard}
 use Rattle.machine.specs.Sys as Sys
 use Rattle.machine.specs.Deliver.{lineSettled, rebooked, turn, settled}

@@ -12,7 +12,7 @@ use lib.ListN.{length, set, getD, replicate, length-set, length-append, length-m
 use borrow.Author.Tests.{leb-true, leb-false, not-false}
 use Rattle.tim.specs.declared.Timer.{Timer}
 use Rattle.tim.specs.declared.Inst.{Inst}
-use Rattle.tim.specs.declared.Written.{Written}
+use Rattle.regs.specs.declared.Written.{Written}
 use Rattle.tim.specs.Change.{resetState, retimed}
 use Rattle.clk.specs.declared.ClockTree.{ClockTree}
 use Rattle.real.specs.Real.{positive}

@@ -15,7 +15,7 @@ use Rattle.rm0440.specs.Bits.{field, isSet, UDIS, URS, CEN, ARPE}
 use Rattle.rm0440.specs.Output as Out
 use Rattle.tim.specs.declared.Timer.{Timer}
 use Rattle.tim.specs.declared.Inst.{Inst}
-use Rattle.tim.specs.declared.Written.{Written}
+use Rattle.regs.specs.declared.Written.{Written}
 use Rattle.tim.specs.declared.Due.{Due}
 use Rattle.tim.specs.declared.Due.the-variants.{At, Stopped}
 use Rattle.tim.specs.declared.Next.{Next}
@@ -24,7 +24,7 @@ use Rattle.tim.specs.Timer.{isOutput, ccmrByte}
 use Rattle.tim.specs.Count.{synced}
 use Rattle.tim.specs.Next.{nextEvent}
 use Rattle.tim.specs.Change as C
-use Rattle.tim.specs.Regs as R
+use Rattle.regs.specs.Regs as R
 use Rattle.clk.specs.declared.ClockTree.{ClockTree}
 use Rattle.clk.specs.Clk.{good, differing}
 use Rattle.real.specs.Real.{positive}

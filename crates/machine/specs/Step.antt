@@ -6,8 +6,8 @@ use lib.Dec.{eqb, ltb, leb}
 use lib.ListN.{getD, set, length}
 use Rattle.tim.specs.declared.Timer.{Timer}
 use Rattle.tim.specs.declared.Inst.{Inst}
-use Rattle.tim.specs.declared.Written.{Written}
-use Rattle.tim.specs.Regs as R
+use Rattle.regs.specs.declared.Written.{Written}
+use Rattle.regs.specs.Regs as R
 use Rattle.tim.specs.Change.{resetState, retimed}
 use Rattle.rm0440.specs.Bits.{isSet}
 use Rattle.periph.specs.Lane.{laneRead, laneWrite}

@@ -7,7 +7,7 @@ use native.Mathlib.Omega.{arith}
 use lib.Dec.{leb}
 use lib.ListN.{length}
 use borrow.Author.Tests.{leb-false}
-use Rattle.tim.specs.declared.Written.{Written}
+use Rattle.regs.specs.declared.Written.{Written}
 use Rattle.tim.specs.Change.{resetState, retimed}
 use Rattle.clk.specs.declared.ClockTree.{ClockTree}
 use Rattle.clk.specs.Clk.{differing}

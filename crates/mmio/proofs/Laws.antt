@@ -9,11 +9,12 @@ use borrow.Author.Tests.{ltb-false, not-true, not-false}
 use lib.Ieee.{Float}
 use lib.ListN.{length}
 use Rattle.tim.specs.declared.Timer.{Timer}
-use Rattle.tim.specs.declared.Written.{Written}
+use Rattle.regs.specs.declared.Written.{Written}
 use Rattle.tim.specs.Timer.{Fit, Ready}
-use Rattle.tim.specs.Regs as R
+use Rattle.regs.specs.Regs as R
 use Rattle.tim.specs.Change.{resetState}
-use Rattle.tim.proofs.Fit.{fit-written, fit-reset}
+use Rattle.tim.proofs.Fit.{fit-reset}
+use Rattle.regs.proofs.Fit.{fit-written}
 use Rattle.periph.specs.Lane.{laneRead, laneWrite}
 use Rattle.clk.specs.declared.ClockTree.{ClockTree}
 use Rattle.clk.specs.Clk.{good}

@@ -1,10 +1,10 @@
 // A timer's calls over the lent board (bus.rs, `Mmio`): read, peek, write, reset; and the clock tree.
 use answer::Answer;
 use clk::ClockTree;
+use regs::Written;
 use state::REALS;
 use state::WORDS;
 use tim::Timer;
-use tim::Written;
 ghost use mathlib.Core.Path.{_≡_};
 ghost use mathlib.Core.Bool.{cond};
 ghost use mathlib.Core.List.{List, []};
@@ -12,7 +12,7 @@ ghost use Prim.Native.Nat.{_<_, _≤_};
 ghost use lib.Ieee.{Float};
 ghost use lib.ListN.{length};
 ghost use Rattle.tim.specs.Timer.{Fit, Ready};
-ghost use Rattle.tim.specs.Regs as R;
+ghost use Rattle.regs.specs.Regs as R;
 ghost use Rattle.periph.specs.Lane.{laneWrite};
 ghost use Rattle.state.specs.View.{view};
 ghost use Rattle.book.specs.Book.{book, puts, places, Holds};
@@ -42,7 +42,7 @@ pub fn read(
     }
     let t = state::load_timer(words, timer as usize);
     if rcc::clock_on(words, t) {
-        let reg = t.read_reg(offset / 4 * 4, cycle);
+        let reg = regs::read_reg(t, offset / 4 * 4, cycle);
         let v = periph::lane_read(reg, offset, size as u8);
         return answer::served(v as u64);
     }
@@ -65,7 +65,7 @@ pub fn peek(
         return answer::refused(no);
     }
     let t = state::load_timer(words, timer as usize);
-    let v = t.read_reg(offset / 4 * 4, cycle);
+    let v = regs::read_reg(t, offset / 4 * 4, cycle);
     answer::served(v as u64)
 }
 
@@ -79,7 +79,7 @@ fn present(t: Timer, off: u32, cycle: u64) -> u32
     if off == 0x14 {
         return 0;
     }
-    t.read_reg(off, cycle)
+    regs::read_reg(t, off, cycle)
 }
 
 // The lane merged into its register, and the register written.
@@ -90,7 +90,7 @@ fn written(t: Timer, offset: u32, size: u32, value: u32, cycle: u64, div: u32) -
     let off = offset / 4 * 4;
     let old = present(t, off, cycle);
     let v = periph::lane_write(old, offset, size as u8, value);
-    t.write_reg(off, v, cycle, div)
+    regs::write_reg(t, off, v, cycle, div)
 }
 
 // A write to CR1, CNT or ARR after which the timer would run upward with its counter above the active reload + 1.
@@ -98,13 +98,13 @@ fn counter_astray(off: u32, t: Timer) -> bool
     ensures { λ r. ⌜ r ≡ counterAstray off t ⌝ }
 {
     if off == 0x00 {
-        return t.is_astray();
+        return regs::is_astray(t);
     }
     if off == 0x24 {
-        return t.is_astray();
+        return regs::is_astray(t);
     }
     if off == 0x2c {
-        return t.is_astray();
+        return regs::is_astray(t);
     }
     false
 }

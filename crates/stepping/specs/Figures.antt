@@ -9,7 +9,7 @@ use Rattle.tim.specs.declared.Inst.{Inst}
 use Rattle.tim.specs.Timer.{down}
 use Rattle.tim.specs.Count.{upFrom, downFrom, ticksAt, cntAt, synced}
 use Rattle.tim.specs.Change.{behind, recomputed, started, stopped, retimed, resetState}
-use Rattle.tim.specs.Regs.{turned, cr1Written, cntWritten, arrWritten, regWritten, regRead}
+use Rattle.regs.specs.Regs.{turned, cr1Written, cntWritten, arrWritten, regWritten, regRead}
 
 -- timer 2: 32 bits, four channels
 abbrev inst : Inst

@@ -1,6 +1,7 @@
 -- Bounds of what the timer's definitions give. Assumes nothing.
 use mathlib.Core.Path.{_≡_, refl, ap, sym}
 use mathlib.Core.Bool.{Bool, true, false, cond}
+use mathlib.Core.List.{List, [], _∷_}
 use Prim.Native.Nat.{ℕ, _+_, _-_, _*_, _%_, _^_, _≤_, _<_}
 use lib.Dec.{ltb, eqb}
 use native.Mathlib.Omega.{arith}
@@ -68,3 +69,7 @@ odd x h = go (eqb (x % 2) 1) refl
     go : (b : Bool) → eqb (x % 2) 1 ≡ b → b ≡ true
     go true e = refl
     go false e = absurd (h (omega (arith, mod-lt x {m = 2} (omega arith), eqb-false (x % 2) 1 e)))
+
+-- four channels, each equal
+pub four : {a b c d a′ b′ c′ d′ : Bool} → a ≡ a′ → b ≡ b′ → c ≡ c′ → d ≡ d′ → (a ∷ b ∷ c ∷ d ∷ []) ≡ (a′ ∷ b′ ∷ c′ ∷ d′ ∷ [])
+four p q r s = rw (p, q, r, s)

@@ -1,5 +1,3 @@
 pub mod Laws
 pub mod Fit
 pub mod Fixed
-pub mod Cases
-mod Table

@@ -2,5 +2,3 @@ pub mod Timer
 pub mod Count
 pub mod Next
 pub mod Change
-pub mod Regs
-pub mod Laws

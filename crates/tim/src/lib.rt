@@ -1,19 +1,17 @@
-// A general-purpose timer by value: the Rust's periph/tim.rs. It knows nothing of pins, lines or booking.
+// A general-purpose timer by value: the Rust's periph/tim.rs, without its registers (crate regs). It knows nothing of
+// pins, lines or booking.
 ghost use mathlib.Core.Path.{_≡_};
 ghost use mathlib.Core.Bool.{Bool};
 ghost use Prim.Native.Nat.{ℕ, _+_, _-_, _*_, _/_, _%_, _<_, _≤_, min};
 ghost use lib.Dec.{eqb};
-ghost use lib.Bits.{bitAnd, bitOr};
 ghost use lib.ListN.{getD, set};
 ghost use Rattle.rm0440.specs.Counter.{stepCycles, restart};
 ghost use Rattle.rm0440.specs.Output as Out;
-ghost use Rattle.rm0440.specs.Registers.{keptMask};
 ghost use Rattle.tim.specs.Timer as T;
-ghost use Rattle.tim.specs.Timer.{Fit, Ready, withCount};
+ghost use Rattle.tim.specs.Timer.{Fit, withCount};
 ghost use Rattle.tim.specs.Count.{upFrom, downFrom, ticksAt, cntAt, synced, atCount};
 ghost use Rattle.tim.specs.Next.{updateSteps, compares, compareSteps, ahead, consider, nextSteps, nextEvent};
 ghost use Rattle.tim.specs.Change as C;
-ghost use Rattle.tim.specs.Regs as R;
 
 // What set-up fixes: the timer's number, width, channel count, bus, interrupt and enable bit.
 pub struct Inst {
@@ -80,44 +78,6 @@ pub struct Ahead {
 pub enum Due {
     At(u64, Next),
     Stopped,
-}
-
-// What a register write leaves: the next timer, and whether the outputs are driven (at a count), the interrupt
-// line settled and the next event booked.
-pub struct Written {
-    pub timer: Timer,
-    pub drive: bool,
-    pub cnt: u32,
-    pub line: bool,
-    pub book: bool,
-}
-
-const KEPT: [u32; 17] = [
-    0x3ff,
-    0xffff_ffff,
-    0xffff_ffff,
-    0x5f5f,
-    0x1e5f,
-    0,
-    0xffff_ffff,
-    0xffff_ffff,
-    0x3333,
-    0xffff_ffff,
-    0xffff,
-    0xffff_ffff,
-    0,
-    0xffff_ffff,
-    0xffff_ffff,
-    0xffff_ffff,
-    0xffff_ffff,
-];
-
-// The bits that register reg (its offset / 4) keeps of a write.
-pub fn kept(reg: usize) -> u32
-    requires { ⌜ reg < 17 ⌝ }
-    ensures { λ r. ⌜ r ≡ keptMask reg ⌝ }
-{
-    KEPT[reg]
 }
 
 fn count_up(reload: u32, cnt: u32, ticks: u64) -> u32
@@ -317,7 +277,7 @@ impl Timer {
         now - (now - self.count.base) % self.count.tick as u64
     }
 
-    fn at_count(mut self, cnt: u32, base: u64) -> Timer
+    pub fn at_count(mut self, cnt: u32, base: u64) -> Timer
         ensures { λ r. ⌜ r ≡ withCount self (atCount (self .count) cnt base) ⌝ }
     {
         self.count.cnt0 = cnt;
@@ -337,7 +297,7 @@ impl Timer {
     }
 
     // Channel ch's byte of CCMR1 or CCMR2.
-    fn ccmr_byte(self, ch: usize) -> u32
+    pub fn ccmr_byte(self, ch: usize) -> u32
         requires { ⌜ ch < 4 ⌝ }
         ensures { λ r. ⌜ r ≡ T.ccmrByte self ch ⌝ }
     {
@@ -469,7 +429,7 @@ impl Timer {
     }
 
     // Channel ch's compare lies behind the counter.
-    fn is_behind(self, ch: usize) -> bool
+    pub fn is_behind(self, ch: usize) -> bool
         requires { ⌜ ch < 4 ⌝ }
         ensures { λ r. ⌜ r ≡ C.behind self ch ⌝ }
     {
@@ -503,7 +463,7 @@ impl Timer {
         false
     }
 
-    fn with_done(mut self, done: [bool; 4]) -> Timer
+    pub fn with_done(mut self, done: [bool; 4]) -> Timer
         ensures { λ r. ⌜ r ≡ C.withDone self done ⌝ }
     {
         let mut h = self.chan;
@@ -650,7 +610,7 @@ impl Timer {
     }
 
     // A match of channel ch: the reference that its mode latches, and its flag.
-    fn matched(mut self, ch: usize) -> Timer
+    pub fn matched(mut self, ch: usize) -> Timer
         requires { ⌜ ch < 4 ⌝ }
         ensures { λ r. ⌜ r ≡ C.matched self ch ⌝ }
     {
@@ -739,331 +699,6 @@ impl Timer {
         }
         self.with_flag(1)
     }
-
-    fn with_cr1(mut self, v: u32) -> Timer
-        ensures { λ r. ⌜ r ≡ R.withCr1 self v ⌝ }
-    {
-        self.regs.cr1 = v;
-        self
-    }
-
-    fn with_cr2(mut self, v: u32) -> Timer
-        ensures { λ r. ⌜ r ≡ R.withCr2 self v ⌝ }
-    {
-        self.regs.cr2 = v;
-        self
-    }
-
-    fn with_smcr(mut self, v: u32) -> Timer
-        ensures { λ r. ⌜ r ≡ R.withSmcr self v ⌝ }
-    {
-        self.regs.smcr = v;
-        self
-    }
-
-    fn with_dier(mut self, v: u32) -> Timer
-        ensures { λ r. ⌜ r ≡ R.withDier self v ⌝ }
-    {
-        self.regs.dier = v;
-        self
-    }
-
-    fn with_sr(mut self, v: u32) -> Timer
-        ensures { λ r. ⌜ r ≡ R.withSr self v ⌝ }
-    {
-        self.regs.sr = v;
-        self
-    }
-
-    fn with_ccer(mut self, v: u32) -> Timer
-        ensures { λ r. ⌜ r ≡ R.withCcer self v ⌝ }
-    {
-        self.regs.ccer = v;
-        self
-    }
-
-    fn with_psc(mut self, v: u32) -> Timer
-        ensures { λ r. ⌜ r ≡ R.withPsc self v ⌝ }
-    {
-        self.regs.psc = v;
-        self
-    }
-
-    fn with_arr(mut self, v: u32) -> Timer
-        ensures { λ r. ⌜ r ≡ R.withArr self v ⌝ }
-    {
-        self.regs.arr = v;
-        self
-    }
-
-    fn with_arr_act(mut self, v: u32) -> Timer
-        ensures { λ r. ⌜ r ≡ R.withArrAct self v ⌝ }
-    {
-        self.count.arr_act = v;
-        self
-    }
-
-    fn with_ccmr(mut self, i: usize, v: u32) -> Timer
-        requires { ⌜ i < 2 ⌝ }
-        ensures { λ r. ⌜ r ≡ R.withCcmr self i v ⌝ }
-    {
-        let mut h = self.chan;
-        let mut a = h.ccmr;
-        a[i] = v;
-        h.ccmr = a;
-        self.chan = h;
-        self
-    }
-
-    fn with_ccr(mut self, ch: usize, v: u32) -> Timer
-        requires { ⌜ ch < 4 ⌝ }
-        ensures { λ r. ⌜ r ≡ R.withCcr self ch v ⌝ }
-    {
-        let mut h = self.chan;
-        let mut a = h.ccr;
-        a[ch] = v;
-        h.ccr = a;
-        self.chan = h;
-        self
-    }
-
-    fn with_ccr_act(mut self, ch: usize, v: u32) -> Timer
-        requires { ⌜ ch < 4 ⌝ }
-        ensures { λ r. ⌜ r ≡ R.withCcrAct self ch v ⌝ }
-    {
-        let mut h = self.chan;
-        let mut a = h.ccr_act;
-        a[ch] = v;
-        h.ccr_act = a;
-        self.chan = h;
-        self
-    }
-
-    // The bits that CR1 keeps: those of a basic timer without channels.
-    fn kept_cr1(self, v: u32) -> u32
-        ensures { λ r. ⌜ r ≡ R.keptCr1 self v ⌝ }
-    {
-        if self.inst.channels == 0 {
-            return v & Self::CR1_BASIC;
-        }
-        v & kept(0)
-    }
-
-    // A direction change settles again which compares are done.
-    fn turn(self, old: u32) -> Timer
-        ensures { λ r. ⌜ r ≡ R.turned old self ⌝ }
-    {
-        if old / 16 % 2 == self.regs.cr1 / 16 % 2 {
-            return self;
-        }
-        self.recompute_cc_done()
-    }
-
-    fn write_cr1(self, v: u32, now: u64, div: u32) -> Timer
-        requires { ⌜ Ready self now div ⌝ }
-        ensures { λ r. ⌜ r ≡ R.cr1Written self v now div ⌝ }
-    {
-        let old = self.regs.cr1;
-        let new = self.kept_cr1(v);
-        let s = self.sync(now);
-        let t = s.with_cr1(new);
-        if new % 2 == 1 {
-            if old % 2 == 1 {
-                return t.turn(old);
-            }
-            return t.start(now, div);
-        }
-        if old % 2 == 1 {
-            return t.stop(now);
-        }
-        t.turn(old)
-    }
-
-    fn egr_match(self, v: u32, ch: usize) -> Timer
-        requires { ⌜ ch < 4 ⌝ }
-        ensures { λ r. ⌜ r ≡ R.egrMatch v ch self ⌝ }
-    {
-        if (v >> (ch + 1)) % 2 == 0 {
-            return self;
-        }
-        if self.is_output(ch) {
-            return self.matched(ch);
-        }
-        self
-    }
-
-    fn egr_update(self, v: u32, now: u64, div: u32) -> Timer
-        requires { ⌜ Ready self now div ⌝ }
-        ensures { λ r. ⌜ r ≡ R.egrUpdate self v now div ⌝ }
-    {
-        let s = self.sync(now);
-        if v % 2 == 1 {
-            return s.generate_update(now, div);
-        }
-        s
-    }
-
-    fn write_egr(self, v: u32, now: u64, div: u32) -> Timer
-        requires { ⌜ Ready self now div ⌝ }
-        ensures { λ r. ⌜ r ≡ R.egrWritten self v now div ⌝ }
-    {
-        let t = self.egr_update(v, now, div);
-        let a = t.egr_match(v, 0);
-        let b = a.egr_match(v, 1);
-        let c = b.egr_match(v, 2);
-        c.egr_match(v, 3)
-    }
-
-    fn write_cnt(self, v: u32, now: u64) -> Timer
-        requires { ⌜ (Fit self) × (now < 9223372036854775808) ⌝ }
-        ensures { λ r. ⌜ r ≡ R.cntWritten self v now ⌝ }
-    {
-        let s = self.sync(now);
-        let t = s.at_count(v & self.max(), now);
-        t.recompute_cc_done()
-    }
-
-    fn write_arr(self, v: u32, now: u64) -> Written
-        requires { ⌜ (Fit self) × (now < 9223372036854775808) ⌝ }
-        ensures { λ r. ⌜ r ≡ R.arrWritten self v now ⌝ }
-    {
-        let arr = v & self.max();
-        let s = self.sync(now);
-        let t = s.with_arr(arr);
-        if self.regs.cr1 / 128 % 2 == 1 {
-            return only(t);
-        }
-        let a = t.with_arr_act(arr);
-        booked(a.recompute_cc_done())
-    }
-
-    // An immediate compare settles its own channel.
-    fn settle(self, ch: usize) -> Timer
-        requires { ⌜ ch < 4 ⌝ }
-        ensures { λ r. ⌜ r ≡ R.settled self ch ⌝ }
-    {
-        let mut done = self.chan.cc_done;
-        let behind = self.is_behind(ch);
-        done[ch] = behind;
-        self.with_done(done)
-    }
-
-    fn write_ccr(self, ch: usize, v: u32, now: u64) -> Written
-        requires { ⌜ (Fit self) × (now < 9223372036854775808) × (ch < 4) ⌝ }
-        ensures { λ r. ⌜ r ≡ R.ccrWritten self ch v now ⌝ }
-    {
-        let ccr = v & self.max();
-        let s = self.sync(now);
-        let t = s.with_ccr(ch, ccr);
-        if self.ccmr_byte(ch) / 8 % 2 == 1 {
-            return only(t);
-        }
-        let a = t.with_ccr_act(ch, ccr);
-        let cnt = a.cnt_at(now);
-        driven(a.settle(ch), cnt, true)
-    }
-
-    fn write_ccmr(self, i: usize, v: u32, now: u64) -> Written
-        requires { ⌜ (Fit self) × (now < 9223372036854775808) × (i < 2) ⌝ }
-        ensures { λ r. ⌜ r ≡ R.ccmrWritten self i v now ⌝ }
-    {
-        let s = self.sync(now);
-        let t = s.with_ccmr(i, v);
-        let cnt = t.cnt_at(now);
-        driven(t, cnt, true)
-    }
-
-    fn write_ccer(self, v: u32, now: u64) -> Written
-        requires { ⌜ (Fit self) × (now < 9223372036854775808) ⌝ }
-        ensures { λ r. ⌜ r ≡ R.ccerWritten self v now ⌝ }
-    {
-        let t = self.with_ccer(v & kept(8));
-        let cnt = t.cnt_at(now);
-        driven(t, cnt, false)
-    }
-
-    fn write_channel(self, off: u32, v: u32, now: u64) -> Written
-        requires { ⌜ (Fit self) × (now < 9223372036854775808) ⌝ }
-        ensures { λ r. ⌜ r ≡ R.channelWritten self off v now ⌝ }
-    {
-        if self.inst.channels == 0 {
-            return only(self);
-        }
-        match off {
-            0x18 => self.write_ccmr(0, v, now),
-            0x1c => self.write_ccmr(1, v, now),
-            0x20 => self.write_ccer(v, now),
-            0x34..=0x43 => self.write_ccr(((off - 0x34) / 4) as usize, v, now),
-            _ => only(self),
-        }
-    }
-
-    // A register write: the next timer, and what follows.
-    pub fn write_reg(self, off: u32, v: u32, now: u64, div: u32) -> Written
-        requires { ⌜ Ready self now div ⌝ }
-        ensures { λ r. ⌜ r ≡ R.regWritten self off v now div ⌝ }
-    {
-        match off {
-            0x00 => booked(self.write_cr1(v, now, div)),
-            0x04 => only(self.with_cr2(v)),
-            0x08 => only(self.with_smcr(v)),
-            0x0c => lined(self.with_dier(v & kept(3))),
-            0x10 => lined(self.with_sr(self.regs.sr & (v | Self::SR_STAYS))),
-            0x14 => generated(self.write_egr(v, now, div), now),
-            0x24 => counted(self.write_cnt(v, now)),
-            0x28 => only(self.with_psc(v & kept(10))),
-            0x2c => self.write_arr(v, now),
-            _ => self.write_channel(off, v, now),
-        }
-    }
-
-    fn read_channel(self, off: u32) -> u32
-        ensures { λ r. ⌜ r ≡ R.channelRead self off ⌝ }
-    {
-        if self.inst.channels == 0 {
-            return 0;
-        }
-        let ccmr = self.chan.ccmr;
-        let ccr = self.chan.ccr;
-        match off {
-            0x18 => ccmr[0],
-            0x1c => ccmr[1],
-            0x20 => self.regs.ccer,
-            0x34..=0x43 => ccr[((off - 0x34) / 4) as usize],
-            _ => 0,
-        }
-    }
-
-    // A register's value at a cycle.
-    pub fn read_reg(self, off: u32, now: u64) -> u32
-        requires { ⌜ (Fit self) × (now < 9223372036854775808) ⌝ }
-        ensures { λ r. ⌜ r ≡ R.regRead self off now ⌝ }
-    {
-        match off {
-            0x00 => self.regs.cr1,
-            0x04 => self.regs.cr2,
-            0x08 => self.regs.smcr,
-            0x0c => self.regs.dier,
-            0x10 => self.regs.sr,
-            0x24 => self.cnt_at(now),
-            0x28 => self.regs.psc,
-            0x2c => self.regs.arr,
-            _ => self.read_channel(off),
-        }
-    }
-
-    // Running upward with the counter above the active reload + 1: a write that leaves this is refused.
-    pub fn is_astray(self) -> bool
-        ensures { λ r. ⌜ r ≡ R.astray self ⌝ }
-    {
-        if !self.count.running {
-            return false;
-        }
-        if self.down() {
-            return false;
-        }
-        self.count.arr_act as u64 + 1 < self.count.cnt0 as u64
-    }
 }
 
 fn max_of(inst: Inst) -> u32
@@ -1102,72 +737,4 @@ fn ref_of(mode: u32, down: bool, cnt: u32, ccr: u32, latched: bool) -> bool
         return !pwm1(down, cnt, ccr);
     }
     latched
-}
-
-fn only(timer: Timer) -> Written
-    ensures { λ r. ⌜ r ≡ R.only timer ⌝ }
-{
-    Written {
-        timer,
-        drive: false,
-        cnt: 0,
-        line: false,
-        book: false,
-    }
-}
-
-fn lined(timer: Timer) -> Written
-    ensures { λ r. ⌜ r ≡ R.lined timer ⌝ }
-{
-    Written {
-        timer,
-        drive: false,
-        cnt: 0,
-        line: true,
-        book: false,
-    }
-}
-
-fn booked(timer: Timer) -> Written
-    ensures { λ r. ⌜ r ≡ R.booked timer ⌝ }
-{
-    Written {
-        timer,
-        drive: false,
-        cnt: 0,
-        line: false,
-        book: true,
-    }
-}
-
-fn driven(timer: Timer, cnt: u32, book: bool) -> Written
-    ensures { λ r. ⌜ r ≡ R.driven timer cnt book ⌝ }
-{
-    Written {
-        timer,
-        drive: true,
-        cnt,
-        line: false,
-        book,
-    }
-}
-
-fn counted(timer: Timer) -> Written
-    ensures { λ r. ⌜ r ≡ R.counted timer ⌝ }
-{
-    driven(timer, timer.count.cnt0, true)
-}
-
-fn generated(timer: Timer, now: u64) -> Written
-    requires { ⌜ (Fit timer) × (now < 9223372036854775808) ⌝ }
-    ensures { λ r. ⌜ r ≡ R.generated timer now ⌝ }
-{
-    let cnt = timer.cnt_at(now);
-    Written {
-        timer,
-        drive: true,
-        cnt,
-        line: true,
-        book: true,
-    }
 }

@@ -5,7 +5,7 @@ use Rattle.mmio.proofs.counter_astray.Statement.{statement}
 use Rattle.mmio.proofs.counter_astray.Tie as tie
 use Rattle.mmio.proofs.counter_astray.Reads as reads
 use Rattle.mmio.proofs.counter_astray.Lts as lts
-use Rattle.tim.proofs.Timer.is_astray.Reads as is-astray-reads
+use Rattle.regs.proofs.is_astray.Reads as is-astray-reads
 
 -- src/lib.rt:101:9
 is-astray-requires : tie.Need-is-astray-requires

@@ -11,7 +11,7 @@ use Rattle.answer.proofs.refused.Reads as refused-reads
 use Rattle.answer.proofs.served.Reads as served-reads
 use Rattle.state.proofs.load_timer.Reads as load-timer-reads
 use Rattle.state.proofs.timer_count.Reads as timer-count-reads
-use Rattle.tim.proofs.Timer.read_reg.Reads as read-reg-reads
+use Rattle.regs.proofs.read_reg.Reads as read-reg-reads
 
 -- src/lib.rt:62:9
 timer-count-requires : tie.Need-timer-count-requires

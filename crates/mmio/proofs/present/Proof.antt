@@ -5,7 +5,7 @@ use Rattle.mmio.proofs.present.Statement.{statement}
 use Rattle.mmio.proofs.present.Tie as tie
 use Rattle.mmio.proofs.present.Reads as reads
 use Rattle.mmio.proofs.present.Lts as lts
-use Rattle.tim.proofs.Timer.read_reg.Reads as read-reg-reads
+use Rattle.regs.proofs.read_reg.Reads as read-reg-reads
 
 -- src/lib.rt:80:9
 returns : tie.Need-returns

@@ -13,7 +13,7 @@ use Rattle.periph.proofs.lane_read.Reads as lane-read-reads
 use Rattle.rcc.proofs.clock_on.Reads as clock-on-reads
 use Rattle.state.proofs.load_timer.Reads as load-timer-reads
 use Rattle.state.proofs.timer_count.Reads as timer-count-reads
-use Rattle.tim.proofs.Timer.read_reg.Reads as read-reg-reads
+use Rattle.regs.proofs.read_reg.Reads as read-reg-reads
 
 -- src/lib.rt:38:9
 timer-count-requires : tie.Need-timer-count-requires

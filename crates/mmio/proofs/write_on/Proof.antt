@@ -1,6 +1,6 @@
 -- Astray, or followed.
 use Rattle.mmio.proofs.Laws.{loaded-ready, write-astray, write-astray-book, write-follows}
-use Rattle.tim.proofs.Fit.{fit-written}
+use Rattle.regs.proofs.Fit.{fit-written}
 use native.Mathlib.Omega.{arith}
 use borrow.Author.Needs.{needs}
 use Rattle.mmio.proofs.write_on.Statement.{statement}

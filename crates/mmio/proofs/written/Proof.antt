@@ -8,7 +8,7 @@ use Rattle.mmio.proofs.written.Reads as reads
 use Rattle.mmio.proofs.written.Lts as lts
 use Rattle.mmio.proofs.present.Reads as present-reads
 use Rattle.periph.proofs.lane_write.Reads as lane-write-reads
-use Rattle.tim.proofs.Timer.write_reg.Reads as write-reg-reads
+use Rattle.regs.proofs.write_reg.Reads as write-reg-reads
 
 -- src/lib.rt:90:15
 mul-off : tie.Need-mul-off

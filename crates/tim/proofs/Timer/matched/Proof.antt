@@ -1,4 +1,5 @@
 -- The reference by the mode, and the flag.
+use mathlib.Core.Path.{_∙_}
 use Rattle.tim.specs.Change.{matched}
 use borrow.Author.Needs.{needs}
 use Rattle.tim.proofs.Timer.matched.Statement.{statement}
@@ -24,7 +25,7 @@ with-flag-requires c κs = search needs
 
 returns : tie.Need-returns
 unfolding matched
-returns c = cc
+returns c = c .with-flag .ensures ∙ rw (c .before .cc-flag .ensures, c .before .before .at-match .ensures, c .before .before .before .before .before .oc-mode .ensures)
 
 pub matched-spec : {M : Type 1} → statement M
 matched-spec = tie.close (tie.spec oc-mode-requires array-read-at-match at-match-requires array-write-oc cc-flag-requires with-flag-requires returns)

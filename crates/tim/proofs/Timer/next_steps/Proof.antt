@@ -1,5 +1,8 @@
 -- The update and the four compares, one after the other.
-use Rattle.tim.specs.Next.{nextSteps}
+use Prim.Native.Nat.{ℕ}
+use Rattle.tim.specs.declared.Next.the-variants.{Update}
+use Rattle.tim.specs.Next.{consider, nextSteps}
+use mathlib.Core.Path.{_∙_, ap}
 use borrow.Author.Needs.{needs}
 use Rattle.tim.proofs.Timer.next_steps.Statement.{statement}
 use Rattle.tim.proofs.Timer.next_steps.Tie as tie
@@ -21,7 +24,7 @@ consider-requires-4 c κs = search needs
 
 returns : tie.Need-returns
 unfolding nextSteps
-returns c = cc
+returns c = c .consider4 .ensures ∙ ap (consider (c .before .before .before .before .before .args .self) 3) (c .before .consider3 .ensures ∙ ap (consider (c .before .before .before .before .before .args .self) 2) (c .before .before .consider2 .ensures ∙ ap (consider (c .before .before .before .before .before .args .self) 1) (c .before .before .before .consider .ensures ∙ ap (λ (n : ℕ). consider (c .before .before .before .before .before .args .self) 0 (record { steps = n; next = Update })) (c .before .before .before .before .update-steps .ensures))))
 
 pub next-steps-spec : {M : Type 1} → statement M
 next-steps-spec = tie.close (tie.spec update-steps-requires consider-requires consider-requires-2 consider-requires-3 consider-requires-4 returns)

@@ -1,4 +1,5 @@
 -- The mode, the direction and the compare in use.
+use mathlib.Core.Path.{_∙_}
 use borrow.Author.Needs.{needs}
 use Rattle.tim.proofs.Timer.ocref.Statement.{statement}
 use Rattle.tim.proofs.Timer.ocref.Tie as tie
@@ -22,7 +23,7 @@ ref-of-requires : tie.Need-ref-of-requires
 ref-of-requires c κs = search needs
 
 returns : tie.Need-returns
-returns c = cc
+returns c = c .ref-of .ensures ∙ rw (c .before .down .ensures, c .before .before .before .before .oc-mode .ensures)
 
 pub ocref-spec : {M : Type 1} → statement M
 ocref-spec = tie.close (tie.spec oc-mode-requires down-requires mul-ref-of array-read-ref-of array-read-ref-of-2 ref-of-requires returns)

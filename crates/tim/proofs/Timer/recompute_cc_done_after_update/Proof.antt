@@ -1,5 +1,9 @@
 -- Channel by channel.
-use Rattle.tim.specs.Change.{recomputedAfterUpdate}
+use Rattle.tim.specs.Change.{recomputedAfterUpdate, withDone}
+use Rattle.tim.proofs.Laws.{four}
+use mathlib.Core.Bool.{Bool}
+use mathlib.Core.List.{List}
+use mathlib.Core.Path.{_∙_, ap}
 use borrow.Author.Needs.{needs}
 use Rattle.tim.proofs.Timer.recompute_cc_done_after_update.Statement.{statement}
 use Rattle.tim.proofs.Timer.recompute_cc_done_after_update.Tie as tie
@@ -21,7 +25,7 @@ with-done-requires c κs = search needs
 
 returns : tie.Need-returns
 unfolding recomputedAfterUpdate
-returns c = cc
+returns c = c .with-done .ensures ∙ ap (λ (d : List Bool). withDone (c .before .before .before .before .before .args .self) d) (four (c .before .before .before .before .is-done-after-update .ensures) (c .before .before .before .is-done-after-update2 .ensures) (c .before .before .is-done-after-update3 .ensures) (c .before .is-done-after-update4 .ensures))
 
 pub recompute-cc-done-after-update-spec : {M : Type 1} → statement M
 recompute-cc-done-after-update-spec = tie.close (tie.spec is-done-after-update-requires is-done-after-update-requires-2 is-done-after-update-requires-3 is-done-after-update-requires-4 with-done-requires returns)

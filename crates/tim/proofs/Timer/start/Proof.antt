@@ -1,5 +1,7 @@
 -- From now on, and settled.
-use Rattle.tim.specs.Change.{started}
+use Rattle.tim.specs.Change.{ranFrom, recomputed, started}
+use Prim.Native.Nat.{ℕ}
+use mathlib.Core.Path.{_∙_, ap}
 use borrow.Author.Needs.{needs}
 use Rattle.tim.proofs.Timer.start.Statement.{statement}
 use Rattle.tim.proofs.Timer.start.Tie as tie
@@ -15,7 +17,7 @@ recompute-cc-done-requires c κs = search needs
 
 returns : tie.Need-returns
 unfolding started
-returns c = cc
+returns c = c .recompute-cc-done .ensures ∙ ap recomputed (c .before .run-from .ensures ∙ ap (λ (k : ℕ). ranFrom (c .before .before .before .args .self) (c .before .before .before .args .now) k) (c .before .before .step-cycles .ensures))
 
 pub start-spec : {M : Type 1} → statement M
 start-spec = tie.close (tie.spec step-cycles-requires run-from-requires recompute-cc-done-requires returns)

@@ -1,6 +1,8 @@
 -- Reload, restart, settle, end.
+use Rattle.tim.specs.declared.Timer.{Timer}
+use Rattle.tim.specs.Change.{ended, recomputedAfterUpdate, restarted, updated}
+use mathlib.Core.Path.{_∙_, ap}
 use Rattle.tim.proofs.Laws.{reloaded-psc}
-use Rattle.tim.specs.Change.{updated}
 use borrow.Author.Needs.{needs}
 use Rattle.tim.proofs.Timer.update.Statement.{statement}
 use Rattle.tim.proofs.Timer.update.Tie as tie
@@ -19,7 +21,7 @@ end-requires c κs = search needs
 
 returns : tie.Need-returns
 unfolding updated
-returns c = cc
+returns c = c .end .ensures ∙ ap ended (c .before .recompute-cc-done-after-update .ensures ∙ ap recomputedAfterUpdate (c .before .before .restart .ensures ∙ ap (λ (t : Timer). restarted t (c .before .before .before .before .args .at) (c .before .before .before .before .args .div)) (c .before .before .before .reload .ensures)))
 
 pub update-spec : {M : Type 1} → statement M
 update-spec = tie.close (tie.spec reload-requires restart-requires recompute-cc-done-after-update-requires end-requires returns)
