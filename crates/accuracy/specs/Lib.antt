@@ -14,3 +14,4 @@ pub mod Accurate
 pub mod Quick
 pub mod Bench
 pub mod Needed
+pub mod Figures

@@ -12,21 +12,21 @@ use Rattle.tim.specs.Change.{behind, recomputed, started, stopped, retimed, res
 use Rattle.regs.specs.Regs.{turned, cr1Written, cntWritten, arrWritten, regWritten, regRead}
 
 -- timer 2: 32 bits, four channels
-abbrev inst : Inst
+abbrev pub inst : Inst
 inst = record { n = 2; width = 32; channels = 4; apb = 1; irq = 28; «en_reg» = 0; «en_bit» = 0 }
 
-abbrev write : ℕ → ℕ → ℕ → ℕ → Timer → Timer
+abbrev pub write : ℕ → ℕ → ℕ → ℕ → Timer → Timer
 write off v now t timer = regWritten timer off v now t .timer
 
 -- out of reset, ARR 9 and CNT written, then started by a write to CR1 at a cycle; a step is t cycles
-abbrev run : ℕ → ℕ → ℕ → ℕ → Timer
+abbrev pub run : ℕ → ℕ → ℕ → ℕ → Timer
 run cr1 cnt start t = write 0x00 cr1 start t (write 0x24 cnt 0 t (write 0x2c 9 0 t (resetState inst t)))
 
 -- CR1: CEN; DIR and CEN
-abbrev up : ℕ
+abbrev pub up : ℕ
 up = 0x01
 
-abbrev dn : ℕ
+abbrev pub dn : ℕ
 dn = 0x11
 
 pub record Figure : Type 0 where
