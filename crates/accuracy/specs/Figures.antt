@@ -55,7 +55,7 @@ pub record Twelve : Type 0 where
   -- "t 8, started at cycle 0, changed to t 4 at 13: CNT at 13 is 2"
   pub changed : counts (retimed (run up 0 0 8) 13 4) (13 ∷ []) ≡ 2 ∷ []
   -- "2^53 + 1 becomes 2^53; 2^53 + 3 becomes 2^53 + 4", which is (2^51 + 1) x 2^2
-  pub nearest : map nearestTo (2 ^ 53 + 1 ∷ 2 ^ 53 + 3 ∷ []) ≡ fin false 1 (pos 53) ∷ fin false (2 ^ 51 + 1) (pos 2) ∷ []
+  pub nearest : map nearestTo ((2 ^ 53 + 1) ∷ (2 ^ 53 + 3) ∷ []) ≡ fin false 1 (pos 53) ∷ fin false (2 ^ 51 + 1) (pos 2) ∷ []
   -- "supply 5.0: 3.0 V is high, 1.5 low, 2.0 holds"
   pub analogue : (held : ℕ) → levels held (v3·0 ∷ v1·5 ∷ v2·0 ∷ []) ≡ 1 ∷ 0 ∷ held ∷ []
   -- "SR 1f, written fffffffe, is 1e"
