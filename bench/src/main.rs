@@ -1,5 +1,6 @@
 //! `bench [WORD]`: the library's exported functions beside the published Rust's own; only rows whose name has WORD.
 
+mod probe;
 mod rows;
 mod sides;
 mod table;
@@ -9,7 +10,9 @@ use std::process::ExitCode;
 fn main() -> ExitCode {
     let only = std::env::args().nth(1).unwrap_or_default();
     println!("Best of many turns, the two sides in turn, same calls, one process. A delivery of events: for each event.");
-    match table::print("call", rows::calls(), &only) {
+    let calls = table::print("call", rows::calls(), &only);
+    let inner = table::print("below the calls", probe::rows(), &only);
+    match calls && inner {
         true => ExitCode::SUCCESS,
         false => ExitCode::FAILURE,
     }

@@ -45,7 +45,7 @@ fn pilots(prescaler: u32) -> [(u32, u32); 11] {
 }
 
 /// A board of the published Rust with four running pilots on pins 0 to 3.
-fn rust(prescaler: u32) -> Rust {
+pub fn rust(prescaler: u32) -> Rust {
     let mut b = Rust::new(&instances(), &table());
     b.sys.enr[3] = u32::MAX;
     for pin in 0..4 {
@@ -61,7 +61,7 @@ fn rust(prescaler: u32) -> Rust {
 }
 
 /// The same board of the port.
-fn port(prescaler: u32, places: usize) -> Port {
+pub fn port(prescaler: u32, places: usize) -> Port {
     let mut b = Port::new(places);
     assert_eq!(b.state.enable(3, u32::MAX).number, 0);
     for pin in 0..4 {

@@ -1,0 +1,59 @@
+// Functions below the calls, exported for measurement alone (bench/).
+use gpio::Change;
+use state::REALS;
+use state::WORDS;
+ghost use mathlib.Core.Path.{_≡_};
+ghost use mathlib.Core.List.{List};
+ghost use Prim.Native.Nat.{_%_};
+ghost use lib.Ieee.{Float};
+ghost use Rattle.state.specs.View.{view};
+ghost use Rattle.machine.specs.Board.{timerAt, withTimer, withPads};
+ghost use Rattle.machine.specs.Sys.{refreshPin, sigOut};
+ghost use Rattle.probe.specs.Probe.{Moved, moves};
+
+// 1 if a pin's level changed.
+fn has_moved(c: Change) -> u8
+    ensures { λ r. ⌜ r ≡ moves c ⌝ }
+{
+    match c {
+        Change::Same => 0,
+        Change::Level(_, _) => 1,
+    }
+}
+
+// Signal s, of 256, driven to a level.
+#[no_mangle]
+pub extern "C" fn probe_sig_out(
+    words: &mut [u64; WORDS],
+    reals: &mut [f64; REALS],
+    s: u32,
+    level: u8,
+) -> u8
+    ensures { λ r. ⌜ Moved (sigOut (view (now (words .entry)) (now (reals .entry)) .pads) (s % 256) (level % 2)) (view (now (words .entry)) (now (reals .entry))) (view (now (words .exit)) (now (reals .exit))) r ⌝ }
+{
+    let c = sys::sig_out(words, reals, (s % 256) as usize, level % 2);
+    has_moved(c)
+}
+
+// Pin i, of 128, refreshed.
+#[no_mangle]
+pub extern "C" fn probe_refresh_pin(
+    words: &mut [u64; WORDS],
+    reals: &mut [f64; REALS],
+    i: u32,
+) -> u8
+    ensures { λ r. ⌜ Moved (refreshPin (view (now (words .entry)) (now (reals .entry)) .pads) (i % 128)) (view (now (words .entry)) (now (reals .entry))) (view (now (words .exit)) (now (reals .exit))) r ⌝ }
+{
+    let c = sys::refresh_pin(words, reals, (i % 128) as usize);
+    has_moved(c)
+}
+
+// Timer i, of 8, loaded and stored.
+#[no_mangle]
+pub extern "C" fn probe_timer(words: &mut [u64; WORDS], i: u32)
+    ensures { λ _. ⌜ ((x : List Float) → view (now (words .exit)) x ≡ withTimer (view (now (words .entry)) x) (i % 8) (timerAt (view (now (words .entry)) x) (i % 8))) ⌝ }
+{
+    let k = (i % 8) as usize;
+    let t = state::load_timer(words, k);
+    state::store_timer(words, k, t);
+}
