@@ -1,0 +1,75 @@
+-- A part that fits is as long as it says.
+use borrow.Author.Needs.{needs}
+use lib.Seq.{length-take-le}
+use mathlib.Core.Path.{sym}
+use Rattle.replay.proofs.lend.Statement.{statement}
+use Rattle.replay.proofs.lend.Tie as tie
+
+returns : tie.Need-returns
+returns c = search needs
+
+returns-2 : tie.Need-returns-2
+returns-2 c = search needs
+
+returns-3 : tie.Need-returns-3
+returns-3 c = search needs
+
+returns-4 : tie.Need-returns-4
+returns-4 c = search needs
+
+slice-aggregate-run : tie.Need-slice-aggregate-run
+slice-aggregate-run c = sym (length-take-le _ _ (c .before .before .before .before .before .before .if1 .left))
+
+slice-relend-prefix-run : tie.Need-slice-relend-prefix-run
+slice-relend-prefix-run c = search needs
+
+slice-aggregate-run-2 : tie.Need-slice-aggregate-run-2
+slice-aggregate-run-2 c = sym (length-take-le _ _ (c .before .before .before .before .before .before .if2 .left))
+
+slice-relend-prefix-run-2 : tie.Need-slice-relend-prefix-run-2
+slice-relend-prefix-run-2 c = search needs
+
+slice-aggregate-run-3 : tie.Need-slice-aggregate-run-3
+slice-aggregate-run-3 c = sym (length-take-le _ _ (c .before .before .before .before .before .before .if3 .left))
+
+slice-relend-prefix-run-3 : tie.Need-slice-relend-prefix-run-3
+slice-relend-prefix-run-3 c = search needs
+
+slice-aggregate-run-4 : tie.Need-slice-aggregate-run-4
+slice-aggregate-run-4 c = sym (length-take-le _ _ (c .before .before .before .before .before .before .if4 .left))
+
+run-requires : tie.Need-run-requires
+run-requires c κs = search needs
+
+same-length : tie.Need-same-length
+same-length c = search needs
+
+same-length-2 : tie.Need-same-length-2
+same-length-2 c = search needs
+
+same-length-3 : tie.Need-same-length-3
+same-length-3 c = search needs
+
+returns-5 : tie.Need-returns-5
+returns-5 c = search needs
+
+pub lend-spec : {M : Type 1} → statement M
+lend-spec =
+    tie.close
+    (tie.spec
+    returns
+    returns-2
+    returns-3
+    returns-4
+    slice-aggregate-run
+    slice-relend-prefix-run
+    slice-aggregate-run-2
+    slice-relend-prefix-run-2
+    slice-aggregate-run-3
+    slice-relend-prefix-run-3
+    slice-aggregate-run-4
+    run-requires
+    same-length
+    same-length-2
+    same-length-3
+    returns-5)

@@ -1,0 +1,34 @@
+-- Place by place.
+use Prim.Native.Nat.{_-_}
+use borrow.Author.Needs.{needs}
+use native.Mathlib.Omega.{arith}
+use Rattle.replay.proofs.line.clear.Statement.{statement}
+use Rattle.replay.proofs.line.clear.Tie as tie
+
+abbrev Inv-loop : tie.InvT-loop
+Inv-loop call₀ from end i₀ call i = Unit {0}
+
+abbrev μ-loop : tie.MeasureT-loop
+μ-loop call₀ from end i₀ call i = end - i
+
+loop-holds : tie.Need-loop-holds Inv-loop μ-loop
+loop-holds c = tt
+
+put-requires : tie.Need-put-requires Inv-loop μ-loop
+put-requires c κs = search needs
+
+add-i : tie.Need-add-i Inv-loop μ-loop
+add-i c = omega arith
+
+loop-less : tie.Need-loop-less Inv-loop μ-loop
+loop-less c = omega arith
+
+loop-again : tie.Need-loop-again Inv-loop μ-loop
+loop-again c = tt
+
+returns : tie.Need-returns Inv-loop μ-loop
+returns c = tt
+
+pub clear-spec : {M : Type 1} → statement M
+clear-spec =
+    tie.close (tie.spec Inv-loop μ-loop loop-holds put-requires add-i loop-less loop-again returns)

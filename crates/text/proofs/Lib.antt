@@ -1,0 +1,4 @@
+pub mod Laws
+pub mod Spelled
+pub mod Table
+pub mod WordLaws

@@ -1,0 +1,5 @@
+pub mod Numbers
+pub mod Words
+pub mod Digits
+pub mod ReadsBack
+pub mod Figures
