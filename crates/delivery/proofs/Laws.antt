@@ -23,9 +23,10 @@ use Rattle.book.specs.Book.{Entry, Book, book, put, puts, entriesOf}
 use Rattle.book.specs.Laws.{puts-append, holds}
 use Rattle.state.specs.View.{view}
 use Rattle.state.specs.Bounded.{bounded}
+use Rattle.state.specs.Board.{withBooking}
 use Rattle.machine.specs.Board.{Board, Pads, timerAt, withPads, withTimer}
 use Rattle.machine.specs.Sys.{driveOutputs}
-use Rattle.machine.specs.Deliver.{applied, countAt, Turn, turn, Run, stop, after, run, mostEvents, dividerOf, lineSettled, rebooked, delivered, settled}
+use Rattle.machine.specs.Deliver.{applied, countAt, Turn, turn, Run, stop, after, run, mostEvents, dividerOf, bookingOf, lineSettled, rebooked, delivered, settled}
 use Rattle.sys.specs.Moves.{Drives}
 use Rattle.delivery.specs.declared.Ran.{Ran}
 use Rattle.delivery.specs.Delivery.{OfFour, verdictOf, Driven, Ends, Delivers}
@@ -188,14 +189,14 @@ ended o b₀ b k₀ k r h e = record {
 
 module _ (cycle div room : ℕ) (o : Run) (b₀ : Board) (k₀ : Book) (t : Timer) (b : Board) (k : Book) (events : ℕ) (d : Due)
     (g : Going cycle div room o b₀ k₀ t b k events) (n : d ≡ nextEvent t) where
-  pub ends-none : d ≡ Stopped → (count : ℕ) → Ends o b₀ b k₀ k (record { timer = t; number = 0; events = events; count = count })
-  ends-none h count =
+  pub ends-none : d ≡ Stopped → (u : Due) (count : ℕ) → Ends o b₀ b k₀ k (record { timer = t; due = u; number = 0; events = events; count = count })
+  ends-none h u count =
       ended o b₀ b k₀ k _ (g .board)
       (g .same ∙ ap (settle k events) (run-none cycle div (room - k .count) t (b .pads) (mostEvents - events) (sym n ∙ h)) ∙ settle-stop k events t (b .pads) 0)
 
   module _ (at : ℕ) (e : Next) (h : d ≡ At at e) (v : ℕ) (j : v ≡ verdictOf at cycle events (room - k .count)) where
-    pub ends-stop : (v ≡ 1 → ⊥) → (count : ℕ) → Ends o b₀ b k₀ k (record { timer = t; number = v; events = events; count = count })
-    ends-stop x count =
+    pub ends-stop : (v ≡ 1 → ⊥) → (u : Due) (count : ℕ) → Ends o b₀ b k₀ k (record { timer = t; due = u; number = v; events = events; count = count })
+    ends-stop x u count =
         ended o b₀ b k₀ k _ (g .board)
         (g .same ∙ ap (settle k events) (run-stop cycle div (room - k .count) t (b .pads) at e (sym n ∙ h) (mostEvents - events) events v refl j x)
         ∙ settle-stop k events t (b .pads) v)
@@ -234,6 +235,10 @@ room-ends cycle div room places t b b₁ k k₁ r h e = subst (λ (n : ℕ). End
 
 pub loaded-fit : (w : List ℕ) (x : List Float) (i : ℕ) (t : Timer) → t ≡ timerAt (view w x) i → Fit t
 loaded-fit w x i t h = rw h (bounded w x .timer-fit i)
+
+pub due-booked : (b b₁ : Board) (i cycle : ℕ) (t : Timer) (d : Due) → d ≡ nextEvent t → b₁ ≡ withBooking b i (bookingOf d cycle) → b₁ ≡ rebooked i t cycle b
+unfolding rebooked
+due-booked b b₁ i cycle t d h e = e ∙ ap (λ (x : Due). withBooking b i (bookingOf x cycle)) h
 
 module _ (b b₁ b₂ b₃ b₄ : Board) (i cycle div places : ℕ) (t : Timer) (r : Ran) (load : t ≡ timerAt b i) (steps : div ≡ dividerOf b t) where
   same-run : run mostEvents cycle div places t (b .pads) ≡ delivered b i cycle places

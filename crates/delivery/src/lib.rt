@@ -7,7 +7,9 @@ use tim::Timer;
 ghost use mathlib.Core.Path.{_≡_};
 ghost use Prim.Native.Nat.{_+_, _<_, _≤_};
 ghost use lib.ListN.{length};
-ghost use Rattle.tim.specs.Timer.{Fit};
+ghost use Rattle.tim.specs.Timer.{Fit, ccrAct};
+ghost use Rattle.tim.specs.Next.{nextEvent};
+ghost use Rattle.tim.specs.Change.{compared};
 ghost use Rattle.book.specs.Book.{book, places};
 ghost use Rattle.state.specs.View.{view};
 ghost use Rattle.machine.specs.Sys.{driveOutputs};
@@ -21,9 +23,10 @@ pub struct Delivered {
     pub count: usize,
 }
 
-// The same, with the timer that the events leave.
+// The same, with the timer that the events leave and what is due next.
 pub struct Ran {
     pub timer: Timer,
+    pub due: Due,
     pub number: u8,
     pub events: u64,
     pub count: usize,
@@ -45,6 +48,23 @@ fn verdict(at: u64, cycle: u64, events: u64, left: usize) -> u8
     1
 }
 
+// A compare event, the channel written out: a timer of constant places stays in registers.
+fn compare(t: Timer, ch: usize) -> Timer
+    requires { ⌜ ch < 4 ⌝ }
+    ensures { λ r. ⌜ r ≡ compared t ch ⌝ }
+{
+    if ch == 0 {
+        return t.compare(0);
+    }
+    if ch == 1 {
+        return t.compare(1);
+    }
+    if ch == 2 {
+        return t.compare(2);
+    }
+    t.compare(3)
+}
+
 // The timer after an event at its due cycle.
 fn apply(t: Timer, e: Next, at: u64, div: u32) -> Timer
     requires { ⌜ (OfFour e) × (Fit t) × (div ≤ 8192) ⌝ }
@@ -52,8 +72,26 @@ fn apply(t: Timer, e: Next, at: u64, div: u32) -> Timer
 {
     match e {
         Next::Update => t.update(at, div),
-        Next::Compare(ch) => t.compare(ch),
+        Next::Compare(ch) => compare(t, ch),
     }
+}
+
+// The compare value of channel ch in use.
+fn compare_value(t: Timer, ch: usize) -> u32
+    requires { ⌜ ch < 4 ⌝ }
+    ensures { λ r. ⌜ r ≡ ccrAct t ch ⌝ }
+{
+    let act = t.chan.ccr_act;
+    if ch == 0 {
+        return act[0];
+    }
+    if ch == 1 {
+        return act[1];
+    }
+    if ch == 2 {
+        return act[2];
+    }
+    act[3]
 }
 
 // The count at an event, of the timer that it leaves.
@@ -61,10 +99,9 @@ fn count_at(t: Timer, e: Next) -> u32
     requires { ⌜ OfFour e ⌝ }
     ensures { λ r. ⌜ r ≡ countAt t e ⌝ }
 {
-    let act = t.chan.ccr_act;
     match e {
         Next::Update => t.count.cnt0,
-        Next::Compare(ch) => act[ch],
+        Next::Compare(ch) => compare_value(t, ch),
     }
 }
 
@@ -86,7 +123,11 @@ fn drive(
     ensures { λ r. ⌜ r ≤ n + 4 ⌝ }
 {
     let cnt = count_at(t, e);
-    let changes = sys::drive_outputs(words, reals, t, cnt);
+    let l = t.output(0, cnt);
+    let l1 = t.output(1, cnt);
+    let l2 = t.output(2, cnt);
+    let l3 = t.output(3, cnt);
+    let changes = sys::drive_levels(words, reals, t.inst.n, t.inst.channels, l, l1, l2, l3);
     book::append_all(pins, levels, cycles, n, changes, at)
 }
 
@@ -103,7 +144,7 @@ fn run(
 ) -> Ran
     requires { ⌜ (Fit timer) × (1 ≤ div) × (div ≤ 8192) × (cycle < 9223372036854775808) ⌝ }
     ensures { λ r. ⌜ Ends (run mostEvents cycle div (places (now (pins .entry)) (now (levels .entry)) (now (cycles .entry))) timer (view (now (words .entry)) (now (reals .entry)) .pads)) (view (now (words .entry)) (now (reals .entry))) (view (now (words .exit)) (now (reals .exit))) (book (now (pins .entry)) (now (levels .entry)) (now (cycles .entry)) 0) (book (now (pins .exit)) (now (levels .exit)) (now (cycles .exit)) (r .count)) r ⌝ }
-    ensures { λ r. ⌜ (Fit (r .timer)) × (r .count ≤ length (now (pins .entry))) × (r .count ≤ length (now (levels .entry))) × (r .count ≤ length (now (cycles .entry))) ⌝ }
+    ensures { λ r. ⌜ (Fit (r .timer)) × (r .due ≡ nextEvent (r .timer)) × (r .count ≤ length (now (pins .entry))) × (r .count ≤ length (now (levels .entry))) × (r .count ≤ length (now (cycles .entry))) ⌝ }
 {
     let room = book::room(pins, levels, cycles);
     let mut t = timer;
@@ -114,6 +155,7 @@ fn run(
         let Due::At(at, e) = due else {
             return Ran {
                 timer: t,
+                due,
                 number: 0,
                 events,
                 count,
@@ -123,6 +165,7 @@ fn run(
         if v != 1 {
             return Ran {
                 timer: t,
+                due,
                 number: v,
                 events,
                 count,
@@ -151,9 +194,10 @@ pub fn deliver(
     let div = rcc::divider(words, reals, t);
     let r = run(words, reals, pins, levels, cycles, t, div, cycle);
     let s = r.timer;
+    let due = r.due;
     state::store_timer(words, i, s);
     rcc::settle_line(words, s);
-    rcc::rebook(words, i, s, cycle);
+    rcc::book_due(words, i, due, cycle);
     Delivered {
         number: r.number,
         events: r.events,

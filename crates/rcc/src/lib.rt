@@ -12,6 +12,7 @@ ghost use lib.Ieee.{Float};
 ghost use Rattle.tim.specs.Timer.{Fit};
 ghost use Rattle.clk.specs.Clk.{good};
 ghost use Rattle.state.specs.View.{view};
+ghost use Rattle.state.specs.Board.{withBooking};
 ghost use Rattle.machine.specs.Deliver.{dividerOf, lineSettled, bookingOf, rebooked};
 ghost use Rattle.machine.specs.Step.{clockOn, timerRetimed, allRetimed, treeSet};
 
@@ -64,14 +65,22 @@ fn booking_of(due: Due, cycle: u64) -> u64
     }
 }
 
+// Books timer i at what is due next.
+pub fn book_due(words: &mut [u64; WORDS], i: usize, due: Due, cycle: u64)
+    requires { ⌜ i < 8 ⌝ }
+    ensures { λ _. ⌜ ((x : List Float) → view (now (words .exit)) x ≡ withBooking (view (now (words .entry)) x) i (bookingOf due cycle)) ⌝ }
+{
+    let at = booking_of(due, cycle);
+    state::book(words, i, at);
+}
+
 // Books timer i, now t, at its next event.
 pub fn rebook(words: &mut [u64; WORDS], i: usize, t: Timer, cycle: u64)
     requires { ⌜ (i < 8) × (Fit t) ⌝ }
     ensures { λ _. ⌜ ((x : List Float) → view (now (words .exit)) x ≡ rebooked i t cycle (view (now (words .entry)) x)) ⌝ }
 {
     let due = t.next_event();
-    let at = booking_of(due, cycle);
-    state::book(words, i, at);
+    book_due(words, i, due, cycle);
 }
 
 // Timer i takes the tree's divider; a running one is booked anew.

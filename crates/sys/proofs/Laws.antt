@@ -1,5 +1,5 @@
 -- What the functions leave, over any board: each step's equation in, the definition's board out. Assumes nothing.
-use mathlib.Core.Path.{_≡_, refl, ap, sym, _∙_}
+use mathlib.Core.Path.{_≡_, refl, ap, sym, subst, _∙_}
 use mathlib.Core.Bool.{Bool, true, false, cond}
 use Prim.Native.Nat.{ℕ, suc, _+_, _-_, _≤_, _<_}
 use native.Mathlib.Nat.{sub-zero}
@@ -20,11 +20,11 @@ use Rattle.gpio.specs.declared.Moved.{Moved}
 use Rattle.gpio.specs.Gpio.{signalOf, updated, refreshed, configured, connected, bit}
 use Rattle.book.specs.declared.Changes.{Changes}
 use Rattle.machine.specs.Board.{Board, Pads, gpioAt, routeOf, levelOf, withPads, withGpio, withSigLevel, noPin}
-use Rattle.machine.specs.Sys.{Move, updatePin, refreshPin, leave, take, selected, selectAf, setPin, drivePin, sigOut, driver, driveChannel, fourChannels, noChanges, driveOutputs, unrouted, resetPin, Resets, resetFrom, resetPins}
+use Rattle.machine.specs.Sys.{Move, Drive, updatePin, refreshPin, leave, take, selected, selectAf, setPin, drivePin, sigOut, driver, driveChannel, fourChannels, noChanges, driveOutputs, unrouted, resetPin, Resets, resetFrom, resetPins}
 use Rattle.machine.specs.Step.{changesOf}
 use Rattle.book.specs.Book.{Book, puts, entryOf}
 use Rattle.book.specs.Laws.{puts-append}
-use Rattle.sys.specs.Moves.{Moves, Drives, Reset}
+use Rattle.sys.specs.Moves.{Moves, Drives, Reset, levelDriven, fourDriven, levelsDriven}
 
 module _ (b b₁ : Board) (i : ℕ) (g : Gpio) (v : Float) (m : Moved) (load : g ≡ gpioAt (b .pads) i) (supply : v ≡ b .pads .vcc)
     (store : b₁ ≡ withPads b (withGpio (b .pads) i (m .gpio))) where
@@ -88,38 +88,62 @@ module _ (b : Board) (s l : ℕ) where
         (then-moves b b₁ b₂ (withSigLevel (b .pads) s l) (λ (x : Pads). refreshPin x p) r e m)
 
 -- ---- a timer's channels
-module _ (b b₁ : Board) (t : Timer) (cnt ch s l : ℕ) (r : Change) where
-  pub channel-drives : ch < t .inst .channels → s ≡ timSignal (t .inst .n) ch → l ≡ bit (output t ch cnt)
-      → Moves (sigOut (b .pads) s l) b b₁ r → Moves (driveChannel t cnt ch (b .pads)) b b₁ r
-  unfolding driveChannel
-  channel-drives h p q m = simp (lt-ltb ch (t .inst .channels) h, ← p, ← q) m
+pub channel-drives : (b b₁ : Board) (channels ch s k : ℕ) (l : Bool) (r : Change) → ch < channels → k ≡ bit l
+    → Moves (sigOut (b .pads) s k) b b₁ r → Moves (levelDriven channels ch s l (b .pads)) b b₁ r
+unfolding levelDriven
+channel-drives b b₁ channels ch s k l r h q m = simp (lt-ltb ch channels h, ← q) m
 
-pub channel-still : (b : Board) (t : Timer) (cnt ch : ℕ) → t .inst .channels ≤ ch → Moves (driveChannel t cnt ch (b .pads)) b b Same
-unfolding driveChannel
-channel-still b t cnt ch h = simp (le-ltb ch (t .inst .channels) h) (record { board = refl; change = refl })
+pub channel-still : (b : Board) (channels ch s : ℕ) (l : Bool) → channels ≤ ch → Moves (levelDriven channels ch s l (b .pads)) b b Same
+unfolding levelDriven
+channel-still b channels ch s l h = simp (le-ltb ch channels h) (record { board = refl; change = refl })
 
-pub four : (b b₁ b₂ b₃ b₄ : Board) (t : Timer) (cnt : ℕ) (a₀ a₁ a₂ a₃ : Change)
-    → Moves (driveChannel t cnt 0 (b .pads)) b b₁ a₀ → Moves (driveChannel t cnt 1 (b₁ .pads)) b₁ b₂ a₁
-    → Moves (driveChannel t cnt 2 (b₂ .pads)) b₂ b₃ a₂ → Moves (driveChannel t cnt 3 (b₃ .pads)) b₃ b₄ a₃
-    → Drives (fourChannels t cnt (b .pads)) b b₄ (record { a = a₀; b = a₁; c = a₂; d = a₃ })
-four b b₁ b₂ b₃ b₄ t cnt a₀ a₁ a₂ a₃ m₀ m₁ m₂ m₃ =
-    let p₁ = driveChannel t cnt 0 (b .pads) .pads in
-    let p₂ = driveChannel t cnt 1 p₁ .pads in
-    let p₃ = driveChannel t cnt 2 p₂ .pads in
-    let x₁ = m₀ in
-    let x₂ : Moves (driveChannel t cnt 1 p₁) b b₂ a₁ = then-moves b b₁ b₂ p₁ (driveChannel t cnt 1) a₁ (m₀ .board) m₁ in
-    let x₃ : Moves (driveChannel t cnt 2 p₂) b b₃ a₂ = then-moves b b₂ b₃ p₂ (driveChannel t cnt 2) a₂ (x₂ .board) m₂ in
-    let x₄ : Moves (driveChannel t cnt 3 p₃) b b₄ a₃ = then-moves b b₃ b₄ p₃ (driveChannel t cnt 3) a₃ (x₃ .board) m₃ in
+-- a signal's number that a call gave
+pub at-signal : (b b₁ : Board) (channels ch s s₁ : ℕ) (l : Bool) (r : Change) → s ≡ s₁
+    → Moves (levelDriven channels ch s l (b .pads)) b b₁ r → Moves (levelDriven channels ch s₁ l (b .pads)) b b₁ r
+at-signal b b₁ channels ch s s₁ l r e m = subst (λ (n : ℕ). Moves (levelDriven channels ch n l (b .pads)) b b₁ r) e m
+
+pub four : (b b₁ b₂ b₃ b₄ : Board) (n k : ℕ) (l l₁ l₂ l₃ : Bool) (a₀ a₁ a₂ a₃ : Change)
+    → Moves (levelDriven k 0 (timSignal n 0) l (b .pads)) b b₁ a₀ → Moves (levelDriven k 1 (timSignal n 1) l₁ (b₁ .pads)) b₁ b₂ a₁
+    → Moves (levelDriven k 2 (timSignal n 2) l₂ (b₂ .pads)) b₂ b₃ a₂ → Moves (levelDriven k 3 (timSignal n 3) l₃ (b₃ .pads)) b₃ b₄ a₃
+    → Drives (fourDriven n k l l₁ l₂ l₃ (b .pads)) b b₄ (record { a = a₀; b = a₁; c = a₂; d = a₃ })
+four b b₁ b₂ b₃ b₄ n k l l₁ l₂ l₃ a₀ a₁ a₂ a₃ m₀ m₁ m₂ m₃ =
+    let f₁ = levelDriven k 1 (timSignal n 1) l₁ in
+    let f₂ = levelDriven k 2 (timSignal n 2) l₂ in
+    let f₃ = levelDriven k 3 (timSignal n 3) l₃ in
+    let p₁ = levelDriven k 0 (timSignal n 0) l (b .pads) .pads in
+    let p₂ = f₁ p₁ .pads in
+    let p₃ = f₂ p₂ .pads in
+    let x₂ : Moves (f₁ p₁) b b₂ a₁ = then-moves b b₁ b₂ p₁ f₁ a₁ (m₀ .board) m₁ in
+    let x₃ : Moves (f₂ p₂) b b₃ a₂ = then-moves b b₂ b₃ p₂ f₂ a₂ (x₂ .board) m₂ in
+    let x₄ : Moves (f₃ p₃) b b₄ a₃ = then-moves b b₃ b₄ p₃ f₃ a₃ (x₃ .board) m₃ in
     record { board = x₄ .board; changes = rw (m₀ .change, x₂ .change, x₃ .change, x₄ .change) }
 
-pub outputs-drive : (b b₁ : Board) (t : Timer) (cnt : ℕ) (r : Changes) → 2 ≤ t .inst .n → t .inst .n ≤ 4
-    → Drives (fourChannels t cnt (b .pads)) b b₁ r → Drives (driveOutputs t cnt (b .pads)) b b₁ r
-unfolding driveOutputs
-outputs-drive b b₁ t cnt r h k m = simp (le-leb 2 (t .inst .n) h, le-leb (t .inst .n) 4 k) m
+pub levels-drive : (b b₁ : Board) (n k : ℕ) (l l₁ l₂ l₃ : Bool) (r : Changes) → 2 ≤ n → n ≤ 4
+    → Drives (fourDriven n k l l₁ l₂ l₃ (b .pads)) b b₁ r → Drives (levelsDriven n k l l₁ l₂ l₃ (b .pads)) b b₁ r
+unfolding levelsDriven
+levels-drive b b₁ n k l l₁ l₂ l₃ r h j m = simp (le-leb 2 n h, le-leb n 4 j) m
 
-pub outputs-still : (b : Board) (t : Timer) (cnt : ℕ) (r : Changes) → driver (t .inst .n) ≡ false → r ≡ noChanges → Drives (driveOutputs t cnt (b .pads)) b b r
-unfolding driveOutputs
-outputs-still b t cnt r h k = simp h (record { board = refl; changes = k })
+pub levels-still : (b : Board) (n k : ℕ) (l l₁ l₂ l₃ : Bool) (r : Changes) → driver n ≡ false → r ≡ noChanges
+    → Drives (levelsDriven n k l l₁ l₂ l₃ (b .pads)) b b r
+unfolding levelsDriven
+levels-still b n k l l₁ l₂ l₃ r h j = simp h (record { board = refl; changes = j })
+
+-- the levels that a timer's outputs have at a count
+same-outputs : (t : Timer) (cnt : ℕ) (p : Pads)
+    → levelsDriven (t .inst .n) (t .inst .channels) (output t 0 cnt) (output t 1 cnt) (output t 2 cnt) (output t 3 cnt) p ≡ driveOutputs t cnt p
+unfolding levelsDriven levelDriven driveOutputs driveChannel
+same-outputs t cnt p = refl
+
+pub outputs-drive : (b b₁ : Board) (t : Timer) (cnt : ℕ) (l l₁ l₂ l₃ : Bool) (r : Changes)
+    → l ≡ output t 0 cnt → l₁ ≡ output t 1 cnt → l₂ ≡ output t 2 cnt → l₃ ≡ output t 3 cnt
+    → Drives (levelsDriven (t .inst .n) (t .inst .channels) l l₁ l₂ l₃ (b .pads)) b b₁ r → Drives (driveOutputs t cnt (b .pads)) b b₁ r
+outputs-drive b b₁ t cnt l l₁ l₂ l₃ r e e₁ e₂ e₃ m =
+    let f = levelsDriven (t .inst .n) (t .inst .channels) in
+    let q : f l l₁ l₂ l₃ (b .pads) ≡ driveOutputs t cnt (b .pads) =
+    ap (λ (x : Bool). f x l₁ l₂ l₃ (b .pads)) e ∙ ap (λ (x : Bool). f (output t 0 cnt) x l₂ l₃ (b .pads)) e₁
+    ∙ ap (λ (x : Bool). f (output t 0 cnt) (output t 1 cnt) x l₃ (b .pads)) e₂
+    ∙ ap (λ (x : Bool). f (output t 0 cnt) (output t 1 cnt) (output t 2 cnt) x (b .pads)) e₃ ∙ same-outputs t cnt (b .pads) in
+    subst (λ (d : Drive). Drives d b b₁ r) q m
 
 pub below-two : (n : ℕ) → n < 2 → driver n ≡ false
 below-two n h = rw (lt-leb 2 n h)

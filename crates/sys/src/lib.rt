@@ -17,7 +17,7 @@ ghost use lib.ListN.{length};
 ghost use Rattle.book.specs.Book.{book};
 ghost use Rattle.machine.specs.Board.{withPads, plainCfg};
 ghost use Rattle.machine.specs.Sys as S;
-ghost use Rattle.sys.specs.Moves.{Moves, Drives, Reset};
+ghost use Rattle.sys.specs.Moves.{Moves, Drives, Reset, levelDriven, fourDriven, levelsDriven};
 
 // Re-resolves the level of pin i after any change of its inputs.
 pub fn update_pin(words: &mut [u64; WORDS], reals: &mut [f64; REALS], i: usize) -> Change
@@ -149,33 +149,43 @@ fn level_of(b: bool) -> u8
     if b { 1 } else { 0 }
 }
 
-// The output of channel ch of a timer at a count.
+// Signal s, of channel ch, at a level, if the timer has that channel.
 fn drive_channel(
     words: &mut [u64; WORDS],
     reals: &mut [f64; REALS],
-    t: Timer,
-    cnt: u32,
-    ch: usize,
+    channels: u32,
+    ch: u32,
+    s: usize,
+    level: bool,
 ) -> Change
-    requires { ⌜ (ch < 4) × (2 ≤ t .inst .n) × (t .inst .n ≤ 4) ⌝ }
-    ensures { λ r. ⌜ Moves (S.driveChannel t cnt ch (view (now (words .entry)) (now (reals .entry)) .pads)) (view (now (words .entry)) (now (reals .entry))) (view (now (words .exit)) (now (reals .exit))) r ⌝ }
+    requires { ⌜ s < 256 ⌝ }
+    ensures { λ r. ⌜ Moves (levelDriven channels ch s level (view (now (words .entry)) (now (reals .entry)) .pads)) (view (now (words .entry)) (now (reals .entry))) (view (now (words .exit)) (now (reals .exit))) r ⌝ }
 {
-    if ch < t.inst.channels as usize {
-        let level = level_of(t.output(ch, cnt));
-        let s = sig::tim(t.inst.n as u8, ch as u8);
-        return sig_out(words, reals, s as usize, level);
+    if ch < channels {
+        return sig_out(words, reals, s, level_of(level));
     }
     Change::Same
 }
 
-fn four_channels(words: &mut [u64; WORDS], reals: &mut [f64; REALS], t: Timer, cnt: u32) -> Changes
-    requires { ⌜ (2 ≤ t .inst .n) × (t .inst .n ≤ 4) ⌝ }
-    ensures { λ r. ⌜ Drives (S.fourChannels t cnt (view (now (words .entry)) (now (reals .entry)) .pads)) (view (now (words .entry)) (now (reals .entry))) (view (now (words .exit)) (now (reals .exit))) r ⌝ }
+// The signals of timer n's four channels at their levels.
+fn four_channels(
+    words: &mut [u64; WORDS],
+    reals: &mut [f64; REALS],
+    n: u32,
+    channels: u32,
+    l: bool,
+    l1: bool,
+    l2: bool,
+    l3: bool,
+) -> Changes
+    requires { ⌜ (2 ≤ n) × (n ≤ 4) ⌝ }
+    ensures { λ r. ⌜ Drives (fourDriven n channels l l1 l2 l3 (view (now (words .entry)) (now (reals .entry)) .pads)) (view (now (words .entry)) (now (reals .entry))) (view (now (words .exit)) (now (reals .exit))) r ⌝ }
 {
-    let a = drive_channel(words, reals, t, cnt, 0);
-    let b = drive_channel(words, reals, t, cnt, 1);
-    let c = drive_channel(words, reals, t, cnt, 2);
-    let d = drive_channel(words, reals, t, cnt, 3);
+    let s = sig::tim(n as u8, 0) as usize;
+    let a = drive_channel(words, reals, channels, 0, s, l);
+    let b = drive_channel(words, reals, channels, 1, s + 1, l1);
+    let c = drive_channel(words, reals, channels, 2, s + 2, l2);
+    let d = drive_channel(words, reals, channels, 3, s + 3, l3);
     Changes { a, b, c, d }
 }
 
@@ -190,7 +200,29 @@ fn no_changes() -> Changes
     }
 }
 
-// Drives the pin signals of all output channels: timers 2, 3 and 4 only.
+// Drives the pin signals of timer n's output channels at their levels: timers 2, 3 and 4 only.
+pub fn drive_levels(
+    words: &mut [u64; WORDS],
+    reals: &mut [f64; REALS],
+    n: u32,
+    channels: u32,
+    l: bool,
+    l1: bool,
+    l2: bool,
+    l3: bool,
+) -> Changes
+    ensures { λ r. ⌜ Drives (levelsDriven n channels l l1 l2 l3 (view (now (words .entry)) (now (reals .entry)) .pads)) (view (now (words .entry)) (now (reals .entry))) (view (now (words .exit)) (now (reals .exit))) r ⌝ }
+{
+    if n < 2 {
+        return no_changes();
+    }
+    if n > 4 {
+        return no_changes();
+    }
+    four_channels(words, reals, n, channels, l, l1, l2, l3)
+}
+
+// Drives the outputs of a timer at a count.
 pub fn drive_outputs(
     words: &mut [u64; WORDS],
     reals: &mut [f64; REALS],
@@ -199,13 +231,11 @@ pub fn drive_outputs(
 ) -> Changes
     ensures { λ r. ⌜ Drives (S.driveOutputs t cnt (view (now (words .entry)) (now (reals .entry)) .pads)) (view (now (words .entry)) (now (reals .entry))) (view (now (words .exit)) (now (reals .exit))) r ⌝ }
 {
-    if t.inst.n < 2 {
-        return no_changes();
-    }
-    if t.inst.n > 4 {
-        return no_changes();
-    }
-    four_channels(words, reals, t, cnt)
+    let l = t.output(0, cnt);
+    let l1 = t.output(1, cnt);
+    let l2 = t.output(2, cnt);
+    let l3 = t.output(3, cnt);
+    drive_levels(words, reals, t.inst.n, t.inst.channels, l, l1, l2, l3)
 }
 
 // An input with nothing selected.

@@ -1,5 +1,5 @@
--- The timer loaded, its events run, stored, its line settled and its next event booked.
-use Rattle.delivery.proofs.Laws.{loaded-fit, delivers}
+-- The timer loaded, its events run, stored, its line settled and what is due next booked.
+use Rattle.delivery.proofs.Laws.{loaded-fit, due-booked, delivers}
 use borrow.Author.Needs.{needs}
 use Rattle.delivery.proofs.deliver.Statement.{statement}
 use Rattle.delivery.proofs.deliver.Tie as tie
@@ -11,16 +11,19 @@ divider-requires : tie.Need-divider-requires
 divider-requires c κs = search needs
 
 run-requires : tie.Need-run-requires
-run-requires c κs = (loaded-fit (c .before .before .before .before .before .before .before .before .before .before .before .before .before .args .words .now) (c .before .before .before .before .before .before .before .before .before .before .before .before .before .args .reals .now) (c .before .before .before .before .before .before .before .before .before .before .before .before .before .args .i) _ (c .before .before .before .before .before .before .before .before .load-timer .ensures (c .before .before .before .before .before .before .before .before .before .before .before .before .before .args .reals .now)), c .before .before .before .before .before .divider .ensures .1 .0, c .before .before .before .before .before .divider .ensures .1 .1, c .before .before .before .before .before .before .before .before .before .before .before .before .before .pre .1)
+run-requires c κs =
+    (loaded-fit (c .before .before .before .before .before .before .before .before .before .before .before .before .before .args .words .now) (c .before .before .before .before .before .before .before .before .before .before .before .before .before .args .reals .now) (c .before .before .before .before .before .before .before .before .before .before .before .before .before .args .i) _ (c .before .before .before .before .before .before .before .before .load-timer .ensures (c .before .before .before .before .before .before .before .before .before .before .before .before .before .args .reals .now)), c .before .before .before .before .before .divider .ensures .1 .0, c .before .before .before .before .before .divider .ensures .1 .1, c .before .before .before .before .before .before .before .before .before .before .before .before .before .pre .1)
 
 store-timer-requires : tie.Need-store-timer-requires
-store-timer-requires c κs = (c .before .before .before .before .before .before .before .before .before .before .before .before .before .before .before .before .before .before .before .before .before .before .pre .0, c .before .before .before .before .before .before .before .before .run .ensures .1 .0)
+store-timer-requires c κs =
+    (c .before .before .before .before .before .before .before .before .before .before .before .before .before .before .before .before .before .before .before .before .before .before .pre .0, c .before .before .before .before .before .before .before .before .run .ensures .1 .0)
 
 settle-line-requires : tie.Need-settle-line-requires
 settle-line-requires c κs = search needs
 
-rebook-requires : tie.Need-rebook-requires
-rebook-requires c κs = (c .before .before .before .before .before .before .before .before .before .before .before .before .before .before .before .before .before .before .before .before .before .before .before .before .before .before .pre .0, c .before .before .before .before .before .before .before .before .before .before .before .before .run .ensures .1 .0)
+book-due-requires : tie.Need-book-due-requires
+book-due-requires c κs =
+    c .before .before .before .before .before .before .before .before .before .before .before .before .before .before .before .before .before .before .before .before .before .before .before .before .before .before .pre .0
 
 same-length : tie.Need-same-length
 same-length c = search needs
@@ -32,7 +35,8 @@ same-length-3 : tie.Need-same-length-3
 same-length-3 c = search needs
 
 returns : tie.Need-returns
-returns c = delivers _ _ _ _ _ (c .before .before .before .before .before .before .before .before .before .before .before .before .before .before .before .before .before .before .before .before .before .before .before .before .before .before .before .args .i) (c .before .before .before .before .before .before .before .before .before .before .before .before .before .before .before .before .before .before .before .before .before .before .before .before .before .before .before .args .cycle) _ _ _ _ (c .before .before .before .before .before .before .before .before .before .before .before .before .before .before .before .before .before .before .before .before .before .before .load-timer .ensures (c .before .before .before .before .before .before .before .before .before .before .before .before .before .before .before .before .before .before .before .before .before .before .before .before .before .before .before .args .reals .now)) (c .before .before .before .before .before .before .before .before .before .before .before .before .before .before .before .before .before .before .before .divider .ensures .0) _ _ _ _ _ _ (c .before .before .before .before .before .before .before .before .before .before .before .before .before .run .ensures .0) (c .before .before .before .before .before .before .before .before .before .before .before .before .before .run .ensures .1 .1) (c .before .before .before .before .before .before .before .before .before .before .before .before .before .run .ensures .1 .2) (c .before .before .before .before .before .before .before .before .before .before .before .before .before .run .ensures .1 .3) (c .before .before .before .before .store-timer .ensures _) (c .before .before .settle-line .ensures _) (c .rebook .ensures _)
+returns c =
+    delivers _ _ _ _ _ (c .before .before .before .before .before .before .before .before .before .before .before .before .before .before .before .before .before .before .before .before .before .before .before .before .before .before .before .args .i) (c .before .before .before .before .before .before .before .before .before .before .before .before .before .before .before .before .before .before .before .before .before .before .before .before .before .before .before .args .cycle) _ _ _ _ (c .before .before .before .before .before .before .before .before .before .before .before .before .before .before .before .before .before .before .before .before .before .before .load-timer .ensures (c .before .before .before .before .before .before .before .before .before .before .before .before .before .before .before .before .before .before .before .before .before .before .before .before .before .before .before .args .reals .now)) (c .before .before .before .before .before .before .before .before .before .before .before .before .before .before .before .before .before .before .before .divider .ensures .0) _ _ _ _ _ _ (c .before .before .before .before .before .before .before .before .before .before .before .before .before .run .ensures .0) (c .before .before .before .before .before .before .before .before .before .before .before .before .before .run .ensures .1 .2) (c .before .before .before .before .before .before .before .before .before .before .before .before .before .run .ensures .1 .3) (c .before .before .before .before .before .before .before .before .before .before .before .before .before .run .ensures .1 .4) (c .before .before .before .before .store-timer .ensures _) (c .before .before .settle-line .ensures _) (due-booked _ _ (c .before .before .before .before .before .before .before .before .before .before .before .before .before .before .before .before .before .before .before .before .before .before .before .before .before .before .before .args .i) (c .before .before .before .before .before .before .before .before .before .before .before .before .before .before .before .before .before .before .before .before .before .before .before .before .before .before .before .args .cycle) _ _ (c .before .before .before .before .before .before .before .before .before .before .before .before .before .run .ensures .1 .1) (c .book-due .ensures _))
 
 pub deliver-spec : {M : Type 1} → statement M
 deliver-spec =
@@ -43,7 +47,7 @@ deliver-spec =
     run-requires
     store-timer-requires
     settle-line-requires
-    rebook-requires
+    book-due-requires
     same-length
     same-length-2
     same-length-3

@@ -1,4 +1,4 @@
--- The next event, its cycle, and its booking.
+-- The next event, booked.
 use Rattle.machine.specs.Deliver.{rebooked}
 use borrow.Author.Needs.{needs}
 use mathlib.Core.Path.{_∙_}
@@ -8,15 +8,12 @@ use Rattle.rcc.proofs.rebook.Tie as tie
 next-event-requires : tie.Need-next-event-requires
 next-event-requires c κs = search needs
 
-booking-of-requires : tie.Need-booking-of-requires
-booking-of-requires c κs = search needs
-
-book-requires : tie.Need-book-requires
-book-requires c κs = search needs
+book-due-requires : tie.Need-book-due-requires
+book-due-requires c κs = search needs
 
 returns : tie.Need-returns
 unfolding rebooked
-returns c = λ x. c .book .ensures x ∙ rw (c .before .before .booking-of .ensures, c .before .before .before .next-event .ensures)
+returns c = λ x. c .book-due .ensures x ∙ rw (c .before .before .next-event .ensures)
 
 pub rebook-spec : {M : Type 1} → statement M
-rebook-spec = tie.close (tie.spec next-event-requires booking-of-requires book-requires returns)
+rebook-spec = tie.close (tie.spec next-event-requires book-due-requires returns)

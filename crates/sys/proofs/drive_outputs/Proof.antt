@@ -1,26 +1,35 @@
--- By the timer number.
-use Rattle.sys.proofs.Laws.{above-four, below-two, outputs-drive, outputs-still}
+-- The four levels, driven.
+use Rattle.sys.proofs.Laws.{outputs-drive}
 use borrow.Author.Needs.{needs}
 use Rattle.sys.proofs.drive_outputs.Statement.{statement}
 use Rattle.sys.proofs.drive_outputs.Tie as tie
 
-no-changes-requires : tie.Need-no-changes-requires
-no-changes-requires c κs = search needs
+output-requires : tie.Need-output-requires
+output-requires c κs = search needs
+
+output-requires-2 : tie.Need-output-requires-2
+output-requires-2 c κs = search needs
+
+output-requires-3 : tie.Need-output-requires-3
+output-requires-3 c κs = search needs
+
+output-requires-4 : tie.Need-output-requires-4
+output-requires-4 c κs = search needs
+
+drive-levels-requires : tie.Need-drive-levels-requires
+drive-levels-requires c κs = search needs
 
 returns : tie.Need-returns
-returns c = outputs-still _ (c .before .before .before .args .t) (c .before .before .before .args .cnt) _ (below-two _ (c .before .if1 .taken)) (c .no-changes .ensures)
-
-no-changes-requires-2 : tie.Need-no-changes-requires-2
-no-changes-requires-2 c κs = search needs
-
-returns-2 : tie.Need-returns-2
-returns-2 c = outputs-still _ (c .before .before .before .before .before .args .t) (c .before .before .before .before .before .args .cnt) _ (above-four _ (c .before .before .before .if1 .left) (c .before .if2 .taken)) (c .no-changes2 .ensures)
-
-four-channels-requires : tie.Need-four-channels-requires
-four-channels-requires c κs = search needs
-
-returns-3 : tie.Need-returns-3
-returns-3 c = outputs-drive _ _ (c .before .before .before .before .before .before .before .args .t) (c .before .before .before .before .before .before .before .args .cnt) _ (c .before .before .before .before .before .if1 .left) (c .before .before .before .if2 .left) (c .four-channels .ensures)
+returns c =
+    outputs-drive _ _ (c .before .before .before .before .before .before .before .args .t) (c .before .before .before .before .before .before .before .args .cnt) _ _ _ _ _ (c .before .before .before .before .before .before .output .ensures) (c .before .before .before .before .before .output2 .ensures) (c .before .before .before .before .output3 .ensures) (c .before .before .before .output4 .ensures) (c .drive-levels .ensures)
 
 pub drive-outputs-spec : {M : Type 1} → statement M
-drive-outputs-spec = tie.close (tie.spec no-changes-requires returns no-changes-requires-2 returns-2 four-channels-requires returns-3)
+drive-outputs-spec =
+    tie.close
+    (tie.spec
+    output-requires
+    output-requires-2
+    output-requires-3
+    output-requires-4
+    drive-levels-requires
+    returns)
