@@ -149,11 +149,11 @@ module _ (w : List ℕ) (x : List Float) (size : length w ≡ 5276) (i : ℕ) (h
   regs-set b t l e =
       piece-set 7 8 (slice 7 15 b) (lit≤ tt) (length-slice 7 15 b (omega arith))
       ∙ ap (withTimer (view w x) i) (decode-regs block b (length-block 0 8 40 i (getD (parts 0 sizes w) 0 []) h) l
-          ∙ ap (λ (y : Timer). withRegs y (decodeTimer b .regs)) (sym held) ∙ ap (λ (y : Timer). withRegs (timerAt (view w x) i) (y .regs)) e)
+      ∙ ap (λ (y : Timer). withRegs y (decodeTimer b .regs)) (sym held) ∙ ap (λ (y : Timer). withRegs (timerAt (view w x) i) (y .regs)) e)
 
   pub live-set : (b : List ℕ) (t : Timer) → length b ≡ 40 → decodeTimer b ≡ t
       → view (paste w (0 + (i * 40 + 7)) (slice 7 39 b) (length (slice 7 39 b))) x ≡ withTimer (view w x) i (withInst t (timerAt (view w x) i .inst))
   live-set b t l e =
       piece-set 7 32 (slice 7 39 b) (lit≤ tt) (length-slice 7 39 b (omega arith))
       ∙ ap (withTimer (view w x) i) (decode-live block b (length-block 0 8 40 i (getD (parts 0 sizes w) 0 []) h) l
-          ∙ ap (λ (y : Timer). withInst (decodeTimer b) (y .inst)) (sym held) ∙ ap (λ (y : Timer). withInst y (timerAt (view w x) i .inst)) e)
+      ∙ ap (λ (y : Timer). withInst (decodeTimer b) (y .inst)) (sym held) ∙ ap (λ (y : Timer). withInst y (timerAt (view w x) i .inst)) e)

@@ -51,7 +51,6 @@ returns c =
     let s = c .before .before .before .before .before .before .before in
     λ x. rw (c .put .ensures) (regs-set (s .args .words .now) x (c .before .before .before .before .before .sized .ensures) (s .args .i) (s .pre .0) (c .before .before .before .before .pack-timer .result) (s .args .t) (search needs) (c .before .before .before .before .pack-timer .ensures))
 
-
 pub store-regs-spec : {M : Type 1} → statement M
 store-regs-spec =
     tie.close
