@@ -129,82 +129,101 @@ impl State {
         self.words == other.words && self.reals.iter().zip(&other.reals).all(|(a, b)| a.to_bits() == b.to_bits())
     }
 
+    #[inline]
     pub fn blank(&mut self) {
         change!(board_blank, self)
     }
 
     /// `timers`: seven numbers each. `table`: 16 signals a pin.
+    #[inline]
     pub fn set_up(&mut self, hz: f64, vcc: f64, pins: u32, lines: u32, timers: &[u32], table: &[u32]) -> Answer {
         change!(board_set_up, self, hz, vcc, pins, lines, timers.as_ptr(), timers.len(), table.as_ptr(), table.len())
     }
 
     /// `dividers`: PPRE1 to PPRE4, TIM1, TIM2.
+    #[inline]
     pub fn set_clock_tree(&mut self, sysclk_hz: f64, hclk_hz: f64, dividers: [u32; 6], cycle: u64) -> Answer {
         let [ppre1, ppre2, ppre3, ppre4, tim1, tim2] = dividers;
         change!(board_set_clock_tree, self, sysclk_hz, hclk_hz, ppre1, ppre2, ppre3, ppre4, tim1, tim2, cycle)
     }
 
+    #[inline]
     pub fn enable(&mut self, word: u32, value: u32) -> Answer {
         change!(board_enable, self, word, value)
     }
 
+    #[inline]
     pub fn set_pin(&mut self, book: &mut Book, pin: u32, mode: u32, open_drain: u32, out: u32, pullup: u32, pulldown: u32, function: u32, cycle: u64) -> Answer {
         lend!(board_set_pin, self, book, pin, mode, open_drain, out, pullup, pulldown, function, cycle)
     }
 
     /// `kind`: 1 low, 2 high, 3 analogue, else nothing.
+    #[inline]
     pub fn drive_pin(&mut self, book: &mut Book, pin: u32, kind: u32, volts: f64, cycle: u64) -> Answer {
         lend!(board_drive_pin, self, book, pin, kind, volts, cycle)
     }
 
+    #[inline]
     pub fn reset_pins(&mut self, book: &mut Book, cycle: u64) -> Answer {
         lend!(board_reset_pins, self, book, cycle)
     }
 
+    #[inline]
     pub fn read(&self, timer: u32, offset: u32, size: u32, cycle: u64) -> Answer {
         ask!(board_read, self, timer, offset, size, cycle)
     }
 
+    #[inline]
     pub fn write(&mut self, book: &mut Book, timer: u32, offset: u32, size: u32, value: u32, cycle: u64) -> Answer {
         lend!(board_write, self, book, timer, offset, size, value, cycle)
     }
 
+    #[inline]
     pub fn peek(&self, timer: u32, offset: u32, cycle: u64) -> Answer {
         ask!(board_peek, self, timer, offset, cycle)
     }
 
+    #[inline]
     pub fn reset(&mut self, book: &mut Book, timer: u32, cycle: u64) -> Answer {
         lend!(board_reset, self, book, timer, cycle)
     }
 
+    #[inline]
     pub fn deliver(&mut self, book: &mut Book, timer: u32, cycle: u64) -> Answer {
         lend!(board_deliver, self, book, timer, cycle)
     }
 
+    #[inline]
     pub fn booked(&self, timer: u32) -> Answer {
         ask!(board_booked, self, timer)
     }
 
+    #[inline]
     pub fn next(&self) -> Answer {
         ask!(board_next, self)
     }
 
+    #[inline]
     pub fn level(&self, pin: u32) -> Answer {
         ask!(board_level, self, pin)
     }
 
+    #[inline]
     pub fn volts(&self, pin: u32) -> Answer {
         ask!(board_volts, self, pin)
     }
 
+    #[inline]
     pub fn line(&self, irq: u32) -> Answer {
         ask!(board_line, self, irq)
     }
 
+    #[inline]
     pub fn time(&self, cycle: u64) -> Answer {
         ask!(board_time, self, cycle)
     }
 
+    #[inline]
     pub fn clear_pending(&mut self, irq: u32) -> Answer {
         change!(board_clear_pending, self, irq)
     }

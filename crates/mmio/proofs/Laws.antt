@@ -1,20 +1,22 @@
 -- The calls over any board: the callees' equations in, step's answer out. Assumes nothing.
-use mathlib.Core.Path.{_≡_, refl, ap, sym, _∙_}
+use mathlib.Core.Path.{_≡_, refl, ap, sym, subst, _∙_}
 use mathlib.Core.Bool.{Bool, true, false, cond, not, _||_, false≢true}
 use mathlib.Core.List.{List, [], _∷_}
 use Prim.Native.Nat.{ℕ, _≤_, _<_, _*_, _/_}
 use native.Mathlib.Omega.{arith}
-use lib.Dec.{leb, ltb}
-use borrow.Author.Tests.{ltb-false, not-true, not-false}
+use lib.Dec.{leb, ltb, eqb, lit<, lit≤}
+use borrow.Author.Tests.{eqb-true, ltb-false, not-true, not-false}
 use lib.Ieee.{Float}
 use lib.ListN.{length}
 use Rattle.tim.specs.declared.Timer.{Timer}
 use Rattle.regs.specs.declared.Written.{Written}
-use Rattle.tim.specs.Timer.{Fit, Ready}
+use Rattle.tim.specs.declared.Inst.{Inst}
+use Rattle.tim.specs.Timer.{Fit, Ready, withRegs}
 use Rattle.regs.specs.Regs as R
 use Rattle.tim.specs.Change.{resetState}
 use Rattle.tim.proofs.Fit.{fit-reset}
 use Rattle.regs.proofs.Fit.{fit-written}
+use Rattle.regs.proofs.Fixed.{inst-written}
 use Rattle.periph.specs.Lane.{laneRead, laneWrite}
 use Rattle.clk.specs.declared.ClockTree.{ClockTree}
 use Rattle.clk.specs.Clk.{good}
@@ -30,6 +32,7 @@ use Rattle.machine.specs.Step.{step, refuseIf, oddSize, astray, clockOn, regist
 use Rattle.machine.specs.Refusals.{refusals, first, noSuchIndex, badSize, clockAstray, bookFull}
 use Rattle.machine.specs.Refusals as Refusals
 use Rattle.machine.specs.NumberLaws.{performed}
+use Rattle.state.specs.Board.{withInst}
 use Rattle.state.specs.View.{view}
 use Rattle.state.specs.Bounded.{bounded}
 use Rattle.sys.specs.Moves.{Drives}
@@ -38,7 +41,8 @@ use Rattle.delivery.specs.Delivery.{Delivers}
 use Rattle.answer.specs.declared.Answer.{Answer}
 use Rattle.answer.specs.Promise.{answer, Answers}
 use Rattle.answer.proofs.Given.{Passed, passed, away, gives, turns-away, turns-away-book, serves, serves-book, unbooked}
-use Rattle.mmio.specs.Follow.{Driven, Leaves, writtenOn}
+use Rattle.mmio.specs.Follow.{Driven, Leaves, writtenBy, writtenOn}
+use Rattle.mmio.specs.Plain.{plain, lines, plainRegs, plainly}
 
 -- the numbers that `refusal` looks at, with the count of timers
 abbrev pub asked : ℕ → ℕ → ℕ → Board → ℕ → ℕ → ℕ → ℕ
@@ -76,12 +80,12 @@ module _ (w : List ℕ) (x : List Float) (timer offset size cycle n num : ℕ) (
     gated : on ≡ clockOn (view w x) (timerAt (view w x) timer)
     gated = gate ∙ ap (clockOn (view w x)) load
 
-    pub read-on : (reg v : ℕ) → on ≡ true → reg ≡ R.regRead t (register offset) cycle → v ≡ laneRead reg offset size → r ≡ answer 0 v 0
+    pub read-on : (reg v : ℕ) → on ≡ true → reg ≡ R.regRead (timerAt (view w x) timer) (register offset) cycle → v ≡ laneRead reg offset size → r ≡ answer 0 v 0
         → Answers (step (view w x) (read timer offset size cycle)) r w w x x
     unfolding performed
     read-on reg v o p q a =
         rw a (serves (view w x) (read timer offset size cycle) (answer 0 v 0) w w x x (sym z ∙ read-first) refl
-        (rw (sym gated ∙ o) (q ∙ ap (λ (k : ℕ). laneRead k offset size) (p ∙ ap (λ (u : Timer). R.regRead u (register offset) cycle) load))) refl refl)
+        (rw (sym gated ∙ o) (q ∙ ap (λ (k : ℕ). laneRead k offset size) p)) refl refl)
 
     pub read-off : on ≡ false → r ≡ answer 0 0 0 → Answers (step (view w x) (read timer offset size cycle)) r w w x x
     unfolding performed
@@ -97,12 +101,10 @@ module _ (w : List ℕ) (x : List Float) (timer offset cycle n num : ℕ) (r : A
   pub peek-away : (num ≡ 0 → ⊥) → r ≡ answer num 0 0 → Answers (step (view w x) (peek timer offset cycle)) r w w x x
   peek-away z a = turns-away w x (peek timer offset cycle) num r peek-first z a
 
-  pub peek-gives : num ≡ 0 → (t : Timer) → t ≡ timerAt (view w x) timer → (v : ℕ) → v ≡ R.regRead t (register offset) cycle → r ≡ answer 0 v 0
+  pub peek-gives : num ≡ 0 → (v : ℕ) → v ≡ R.regRead (timerAt (view w x) timer) (register offset) cycle → r ≡ answer 0 v 0
       → Answers (step (view w x) (peek timer offset cycle)) r w w x x
   unfolding performed
-  peek-gives z t load v p a =
-      rw a (serves (view w x) (peek timer offset cycle) (answer 0 v 0) w w x x (sym z ∙ peek-first) refl
-      (p ∙ ap (λ (u : Timer). R.regRead u (register offset) cycle) load) refl refl)
+  peek-gives z v p a = rw a (serves (view w x) (peek timer offset cycle) (answer 0 v 0) w w x x (sym z ∙ peek-first) refl p refl refl)
 
 -- ---- what follows
 pub drives-on : (on : Bool) (t : Timer) (cnt cycle : ℕ) (b b₁ : Board) (d : Changes) (k k₁ : Book) → on ≡ true
@@ -138,6 +140,10 @@ follows b b₁ b₂ b₃ b₄ b₅ i cycle w k k₁ e₁ d e₃ e₄ e₅ =
       entries = s .1;
     }
 
+-- stored but for its fixed parts, which a write leaves
+pub stored-live : (b b₁ : Board) (i : ℕ) (t : Timer) → t .inst ≡ timerAt b i .inst → b₁ ≡ withTimer b i (withInst t (timerAt b i .inst)) → b₁ ≡ withTimer b i t
+stored-live b b₁ i t h e = e ∙ ap (λ (k : Inst). withTimer b i (withInst t k)) (sym h)
+
 pub resets : (b b₁ b₂ b₃ b₄ b₅ : Board) (i cycle div : ℕ) (t s : Timer) (k k₁ : Book)
     → t ≡ timerAt b i → div ≡ dividerOf b t → s ≡ resetState (t .inst) div
     → b₁ ≡ withTimer b i s → Driven true s 0 cycle b₁ b₂ k k₁ → b₃ ≡ lineSettled s b₂ → b₄ ≡ withBooking b₃ (S.cancel (b₃ .booking) i) → b₅ ≡ withLast b₄ cycle
@@ -162,39 +168,115 @@ loaded-ready w x i cycle div t load c p q =
 pub loaded-fit : (w : List ℕ) (x : List Float) (i : ℕ) (t : Timer) → t ≡ timerAt (view w x) i → Fit t
 loaded-fit w x i t load = rw load (bounded w x .timer-fit i)
 
--- the write of the loaded timer is `written`
-module _ (w : List ℕ) (x : List Float) (i offset size value cycle div : ℕ) (t : Timer) (u : Written) (load : t ≡ timerAt (view w x) i) (steps : div ≡ dividerOf (view w x) t)
-    (new : u ≡ R.regWritten t (register offset) (laneWrite (present t (register offset) cycle) offset size value) cycle div) where
-  pub is-written : u ≡ written (view w x) (timerAt (view w x) i) offset size value cycle
-  unfolding written
-  is-written =
-      new ∙ ap (R.regWritten t (register offset) (laneWrite (present t (register offset) cycle) offset size value) cycle) steps
-      ∙ ap (λ (y : Timer). R.regWritten y (register offset) (laneWrite (present y (register offset) cycle) offset size value) cycle (dividerOf (view w x) y)) load
+-- the write of the loaded timer
+module _ (w : List ℕ) (x : List Float) (i off v cycle div : ℕ) (t : Timer) (u : Written) (load : t ≡ timerAt (view w x) i) (steps : div ≡ dividerOf (view w x) t)
+    (new : u ≡ R.regWritten t off v cycle div) where
+  is-written : u ≡ R.regWritten (timerAt (view w x) i) off v cycle (dividerOf (view w x) (timerAt (view w x) i))
+  is-written = new ∙ ap (R.regWritten t off v cycle) steps ∙ ap (λ (y : Timer). R.regWritten y off v cycle (dividerOf (view w x) y)) load
 
-  pub write-astray : (a : Bool) → a ≡ counterAstray (register offset) (u .timer) → a ≡ true → (r : Answer) → r ≡ answer 7 0 0
-      → Answers (writtenOn (view w x) i offset size value cycle) r w w x x
+  pub write-astray : (a : Bool) → a ≡ counterAstray off (u .timer) → a ≡ true → (r : Answer) → r ≡ answer 7 0 0 → Answers (writtenBy (view w x) i off v cycle) r w w x x
+  unfolding writtenBy
   write-astray a h o r q =
-      away w x (writtenOn (view w x) i offset size value cycle) 7 (rw (ap (λ (y : Written). counterAstray (register offset) (y .timer)) (sym is-written) ∙ sym h ∙ o) refl) r q
+      away w x (writtenBy (view w x) i off v cycle) 7 (rw (ap (λ (y : Written). counterAstray off (y .timer)) (sym is-written) ∙ sym h ∙ o) refl) r q
 
-  pub write-astray-book : (a : Bool) → a ≡ counterAstray (register offset) (u .timer) → a ≡ true → (r : Answer) → r ≡ answer 7 0 0 → (p l c : List ℕ)
-      → Holds (writtenOn (view w x) i offset size value cycle .entries) p p l l c c (r .count)
+  pub write-astray-book : (a : Bool) → a ≡ counterAstray off (u .timer) → a ≡ true → (r : Answer) → r ≡ answer 7 0 0 → (p l c : List ℕ)
+      → Holds (writtenBy (view w x) i off v cycle .entries) p p l l c c (r .count)
+  unfolding writtenBy
   write-astray-book a h o r q p l c =
-      unbooked (writtenOn (view w x) i offset size value cycle) p l c (r .count) (ap (λ (y : Answer). y .count) q)
-      (rw (ap (λ (y : Written). counterAstray (register offset) (y .timer)) (sym is-written) ∙ sym h ∙ o) refl)
+      unbooked (writtenBy (view w x) i off v cycle) p l c (r .count) (ap (λ (y : Answer). y .count) q)
+      (rw (ap (λ (y : Written). counterAstray off (y .timer)) (sym is-written) ∙ sym h ∙ o) refl)
 
-  module _ (a : Bool) (h : a ≡ counterAstray (register offset) (u .timer)) (o : a ≡ false) where
-    writes : writtenOn (view w x) i offset size value cycle ≡ followed (view w x) i cycle u
-    writes = rw (ap (λ (y : Written). counterAstray (register offset) (y .timer)) (sym is-written) ∙ sym h ∙ o) (ap (followed (view w x) i cycle) (sym is-written))
+  module _ (a : Bool) (h : a ≡ counterAstray off (u .timer)) (o : a ≡ false) where
+    writes : writtenBy (view w x) i off v cycle ≡ followed (view w x) i cycle u
+    unfolding writtenBy
+    writes = rw (ap (λ (y : Written). counterAstray off (y .timer)) (sym is-written) ∙ sym h ∙ o) (ap (followed (view w x) i cycle) (sym is-written))
 
     pub write-follows : (w₁ : List ℕ) (x₁ : List Float) (p p₁ l l₁ c c₁ : List ℕ) (k : ℕ)
         → Leaves (followed (view w x) i cycle u) (view w₁ x₁) (book p l c 0) (book p₁ l₁ c₁ k)
         → k ≤ length p → k ≤ length l → k ≤ length c
-        → Answers (writtenOn (view w x) i offset size value cycle) (answer 0 0 k) w w₁ x x₁
-        × Holds (writtenOn (view w x) i offset size value cycle .entries) p p₁ l l₁ c c₁ k
+        → Answers (writtenBy (view w x) i off v cycle) (answer 0 0 k) w w₁ x x₁
+        × Holds (writtenBy (view w x) i off v cycle .entries) p p₁ l l₁ c c₁ k
     unfolding followed
     write-follows w₁ x₁ p p₁ l l₁ c c₁ k m a b d =
         let q = holds (followed (view w x) i cycle u .entries) p l c p₁ l₁ c₁ k (m .entries) a b d in
         rw writes (gives (followed (view w x) i cycle u) (answer 0 0 k) w w₁ x x₁ refl refl (q .count) (m .board) (λ y z. omega arith), q)
+
+-- the timer that a write leaves: its bounds, and its fixed parts
+pub written-kept : (w : List ℕ) (i off v cycle div : ℕ) (t : Timer) (u : Written) → ((x : List Float) → t ≡ timerAt (view w x) i) → u ≡ R.regWritten t off v cycle div
+    → (x : List Float) → u .timer .inst ≡ timerAt (view w x) i .inst
+written-kept w i off v cycle div t u load new x =
+    ap (λ (y : Written). y .timer .inst) new ∙ inst-written t off v cycle div ∙ ap (λ (y : Timer). y .inst) (load x)
+
+-- the value of the merged lane
+module _ (w : List ℕ) (x : List Float) (i offset size value cycle v : ℕ)
+    (e : v ≡ laneWrite (present (timerAt (view w x) i) (register offset) cycle) offset size value) where
+  pub on-merged : (r : Answer) (w₁ : List ℕ) (x₁ : List Float) → Answers (writtenBy (view w x) i (register offset) v cycle) r w w₁ x x₁
+      → Answers (writtenOn (view w x) i offset size value cycle) r w w₁ x x₁
+  on-merged r w₁ x₁ m = subst (λ (k : ℕ). Answers (writtenBy (view w x) i (register offset) k cycle) r w w₁ x x₁) e m
+
+  pub on-merged-book : (p p₁ l l₁ c c₁ : List ℕ) (k : ℕ) → Holds (writtenBy (view w x) i (register offset) v cycle .entries) p p₁ l l₁ c c₁ k
+      → Holds (writtenOn (view w x) i offset size value cycle .entries) p p₁ l l₁ c c₁ k
+  on-merged-book p p₁ l l₁ c c₁ k m = subst (λ (z : ℕ). Holds (writtenBy (view w x) i (register offset) z cycle .entries) p p₁ l l₁ c c₁ k) e m
+
+-- ---- the five plain registers
+
+-- what holds at each of them
+plain-cases : (P : ℕ → Type 0) → P 0x04 → P 0x08 → P 0x0c → P 0x10 → P 0x28 → (off : ℕ) → plain off ≡ true → P off
+plain-cases P a b c d e off h = go (eqb off 0x04) refl (eqb off 0x08) refl (eqb off 0x0c) refl (eqb off 0x10) refl (eqb off 0x28) refl h
+  where
+    go : (s : Bool) → eqb off 0x04 ≡ s → (t : Bool) → eqb off 0x08 ≡ t → (u : Bool) → eqb off 0x0c ≡ u → (y : Bool) → eqb off 0x10 ≡ y → (z : Bool) → eqb off 0x28 ≡ z
+        → (s || (t || (u || (y || z)))) ≡ true → P off
+    go true p t q u r y f z g h = subst P (sym (eqb-true off 0x04 p)) a
+    go false p true q u r y f z g h = subst P (sym (eqb-true off 0x08 q)) b
+    go false p false q true r y f z g h = subst P (sym (eqb-true off 0x0c r)) c
+    go false p false q false r true f z g h = subst P (sym (eqb-true off 0x10 f)) d
+    go false p false q false r false f true g h = subst P (sym (eqb-true off 0x28 g)) e
+    go false p false q false r false f false g h = absurd (false≢true h)
+
+plain-written : (t : Timer) (v now div off : ℕ) → plain off ≡ true → R.regWritten t off v now div ≡ plainly t off v
+unfolding R.regWritten plainRegs
+plain-written t v now div = plain-cases (λ off. R.regWritten t off v now div ≡ plainly t off v) refl refl refl refl refl
+
+plain-steady : (t : Timer) (off : ℕ) → plain off ≡ true → counterAstray off t ≡ false
+plain-steady t = plain-cases (λ off. counterAstray off t ≡ false) refl refl refl refl refl
+
+pub plain-fit : (t : Timer) (v off : ℕ) → plain off ≡ true → Fit t → Fit (withRegs t (plainRegs (t .regs) off v))
+plain-fit t v off h f =
+    subst (λ (y : Written). Fit (y .timer)) (plain-written t v 0 1 off h)
+    (fit-written t off v 0 1 (record { fit = f; now-lt = lit< tt; div-pos = lit< tt; div-le = lit≤ tt }))
+
+module _ (w : List ℕ) (x : List Float) (i off v cycle : ℕ) (h : plain off ≡ true) where
+  plain-by : writtenBy (view w x) i off v cycle ≡ followed (view w x) i cycle (plainly (timerAt (view w x) i) off v)
+  unfolding writtenBy
+  plain-by =
+      let t = timerAt (view w x) i in
+      rw (plain-written t v cycle (dividerOf (view w x) t) off h, plain-steady (withRegs t (plainRegs (t .regs) off v)) off h)
+
+  pub plain-gives : (w₁ : List ℕ) → view w₁ x ≡ followed (view w x) i cycle (plainly (timerAt (view w x) i) off v) .board → (r : Answer) → r ≡ answer 0 0 0
+      → Answers (writtenBy (view w x) i off v cycle) r w w₁ x x
+  unfolding followed
+  plain-gives w₁ e r a =
+      rw (plain-by, a) (gives (followed (view w x) i cycle (plainly (timerAt (view w x) i) off v)) (answer 0 0 0) w w₁ x x refl refl refl e (λ y z. omega arith))
+
+  pub plain-book : (r : Answer) → r ≡ answer 0 0 0 → (p l c : List ℕ) → Holds (writtenBy (view w x) i off v cycle .entries) p p l l c c (r .count)
+  unfolding followed
+  plain-book r a p l c = unbooked (writtenBy (view w x) i off v cycle) p l c (r .count) (ap (λ (y : Answer). y .count) a) (rw plain-by refl)
+
+-- the registers stored, the line settled
+pub plain-follows : (b b₁ b₂ b₃ : Board) (i off v cycle : ℕ) (t s : Timer) (on : Bool) → t ≡ timerAt b i → s ≡ withRegs t (plainRegs (t .regs) off v) → on ≡ lines off
+    → b₁ ≡ withTimer b i (withRegs (timerAt b i) (s .regs)) → b₂ ≡ cond on (lineSettled s b₁) b₁ → b₃ ≡ withLast b₂ cycle
+    → b₃ ≡ followed b i cycle (plainly (timerAt b i) off v) .board
+unfolding followed
+plain-follows b b₁ b₂ b₃ i off v cycle t s on load new line e₁ e₂ e₃ =
+    let u = withRegs (timerAt b i) (plainRegs (timerAt b i .regs) off v) in
+    let same : s ≡ u = new ∙ ap (λ (y : Timer). withRegs y (plainRegs (y .regs) off v)) load in
+    let first : b₁ ≡ withTimer b i u = e₁ ∙ ap (λ (y : Timer). withTimer b i (withRegs (timerAt b i) (y .regs))) same in
+    let settled : b₂ ≡ cond (lines off) (lineSettled u (withTimer b i u)) (withTimer b i u) =
+    e₂
+    ∙ ap (λ (z : Bool). cond z (lineSettled s b₁) b₁) line
+    ∙ ap (λ (y : Timer). cond (lines off) (lineSettled y b₁) b₁) same
+    ∙ ap (λ (y : Board). cond (lines off) (lineSettled u y) y) first in
+    e₃ ∙ ap (λ (y : Board). withLast y cycle) settled
 
 module _ (w : List ℕ) (x : List Float) (timer offset size value cycle room n num : ℕ) (e : n ≡ view w x .counts .timers)
     (h : num ≡ asked timer n size (view w x) cycle 4 room) where
@@ -223,7 +305,7 @@ module _ (w : List ℕ) (x : List Float) (timer offset size value cycle room n n
   module _ (z : num ≡ 0) (t : Timer) (load : t ≡ timerAt (view w x) timer) (on : Bool) (gate : on ≡ clockOn (view w x) t) where
     -- the four tests pass: the gate, and what is below it
     pub write-gated : step (view w x) writing ≡ cond on (writtenOn (view w x) timer offset size value cycle) (served 0 (withLast (view w x) cycle))
-    unfolding step first
+    unfolding step first written writtenBy
     write-gated =
         rw (gate ∙ ap (clockOn (view w x)) load)
         (go (leb (view w x .counts .timers) timer) (oddSize size) (astray (view w x) cycle) (ltb room 4) _ (sym z ∙ asked-count timer n size (view w x) cycle 4 room num e h))

@@ -8,7 +8,10 @@ use Rattle.book.specs.Book.{Book, puts, entriesOf}
 use Rattle.machine.specs.Board.{Board, timerAt, withPads}
 use Rattle.machine.specs.Sys.{driveOutputs}
 use Rattle.machine.specs.Call.{Outcome}
-use Rattle.machine.specs.Step.{refuseIf, register, written, counterAstray, followed}
+use Rattle.machine.specs.Deliver.{dividerOf}
+use Rattle.machine.specs.Step.{refuseIf, register, present, counterAstray, followed}
+use Rattle.regs.specs.Regs as R
+use Rattle.periph.specs.Lane.{laneWrite}
 
 -- the outputs driven where `on`, and their changes put into the book
 pub record Driven (on : Bool) (t : Timer) (cnt cycle : ℕ) (b b₁ : Board) (k k₁ : Book) : Type 0 where
@@ -20,8 +23,13 @@ pub record Leaves (o : Outcome) (b₁ : Board) (k k₁ : Book) : Type 0 where
   pub board : b₁ ≡ o .board
   pub entries : k₁ ≡ puts k (o .entries)
 
+-- a write of the value v to register off
+unfoldable pub writtenBy : Board → ℕ → ℕ → ℕ → ℕ → Outcome
+writtenBy b i off v cycle =
+    let w = R.regWritten (timerAt b i) off v cycle (dividerOf b (timerAt b i)) in
+    refuseIf (counterAstray off (w .timer)) 7 b (followed b i cycle w)
+
 -- a write while the timer's clock is on: the part of `step` below its gate
 abbrev pub writtenOn : Board → ℕ → ℕ → ℕ → ℕ → ℕ → Outcome
 writtenOn b i offset size value cycle =
-    let w = written b (timerAt b i) offset size value cycle in
-    refuseIf (counterAstray (register offset) (w .timer)) 7 b (followed b i cycle w)
+    writtenBy b i (register offset) (laneWrite (present (timerAt b i) (register offset) cycle) offset size value) cycle

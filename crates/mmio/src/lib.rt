@@ -4,25 +4,37 @@ use clk::ClockTree;
 use regs::Written;
 use state::REALS;
 use state::WORDS;
+use tim::Regs;
 use tim::Timer;
 ghost use mathlib.Core.Path.{_≡_};
-ghost use mathlib.Core.Bool.{cond};
+ghost use mathlib.Core.Bool.{cond, true};
 ghost use mathlib.Core.List.{List, []};
 ghost use Prim.Native.Nat.{_<_, _≤_};
 ghost use lib.Ieee.{Float};
 ghost use lib.ListN.{length};
-ghost use Rattle.tim.specs.Timer.{Fit, Ready};
+ghost use Rattle.tim.specs.Timer.{Fit, withRegs};
 ghost use Rattle.regs.specs.Regs as R;
 ghost use Rattle.periph.specs.Lane.{laneWrite};
 ghost use Rattle.state.specs.View.{view};
 ghost use Rattle.book.specs.Book.{book, puts, places, Holds};
+ghost use Rattle.machine.specs.Board.{timerAt};
 ghost use Rattle.machine.specs.Call as Call;
 ghost use Rattle.machine.specs.Deliver.{lineSettled, rebooked};
 ghost use Rattle.machine.specs.Step.{step, register, present, counterAstray, followed, timerReset};
 ghost use Rattle.answer.specs.Promise.{Answers};
-ghost use Rattle.mmio.specs.Follow.{Driven, Leaves, writtenOn};
+ghost use Rattle.mmio.specs.Follow.{Driven, Leaves, writtenBy, writtenOn};
+ghost use Rattle.mmio.specs.Plain.{plain, lines, plainRegs, plainly};
 
 // ---- reads
+
+// Timer i's register at a cycle. All reads of a register are made here: it loads no more of the timer than the register needs.
+fn value_of(words: &[u64; WORDS], i: usize, off: u32, cycle: u64) -> u32
+    requires { ⌜ (i < 8) × (cycle < 9223372036854775808) ⌝ }
+    ensures { λ r. ⌜ ((x : List Float) → r ≡ R.regRead (timerAt (view (now (words .entry)) x) i) off cycle) ⌝ }
+{
+    let t = state::load_timer(words, i);
+    regs::read_reg(t, off, cycle)
+}
 
 // A read: 0 while the timer's clock is off.
 pub fn read(
@@ -42,7 +54,7 @@ pub fn read(
     }
     let t = state::load_timer(words, timer as usize);
     if rcc::clock_on(words, t) {
-        let reg = regs::read_reg(t, offset / 4 * 4, cycle);
+        let reg = value_of(words, timer as usize, offset / 4 * 4, cycle);
         let v = periph::lane_read(reg, offset, size as u8);
         return answer::served(v as u64);
     }
@@ -64,33 +76,33 @@ pub fn peek(
     if no != 0 {
         return answer::refused(no);
     }
-    let t = state::load_timer(words, timer as usize);
-    let v = regs::read_reg(t, offset / 4 * 4, cycle);
+    let v = value_of(words, timer as usize, offset / 4 * 4, cycle);
     answer::served(v as u64)
 }
 
 // ---- writes
 
 // The register's present value, 0 for EGR.
-fn present(t: Timer, off: u32, cycle: u64) -> u32
-    requires { ⌜ (Fit t) × (cycle < 9223372036854775808) ⌝ }
-    ensures { λ r. ⌜ r ≡ present t off cycle ⌝ }
+fn present(words: &[u64; WORDS], i: usize, off: u32, cycle: u64) -> u32
+    requires { ⌜ (i < 8) × (cycle < 9223372036854775808) ⌝ }
+    ensures { λ r. ⌜ ((x : List Float) → r ≡ present (timerAt (view (now (words .entry)) x) i) off cycle) ⌝ }
 {
     if off == 0x14 {
         return 0;
     }
-    regs::read_reg(t, off, cycle)
+    value_of(words, i, off, cycle)
 }
 
-// The lane merged into its register, and the register written.
-fn written(t: Timer, offset: u32, size: u32, value: u32, cycle: u64, div: u32) -> Written
-    requires { ⌜ (Ready t cycle div) × (size ≤ 4) ⌝ }
-    ensures { λ r. ⌜ r ≡ R.regWritten t (register offset) (laneWrite (present t (register offset) cycle) offset size value) cycle div ⌝ }
+// The lane merged into its register. A whole write needs no present value.
+fn merged(words: &[u64; WORDS], i: usize, offset: u32, size: u32, value: u32, cycle: u64) -> u32
+    requires { ⌜ (i < 8) × (size ≤ 4) × (cycle < 9223372036854775808) ⌝ }
+    ensures { λ r. ⌜ ((x : List Float) → r ≡ laneWrite (present (timerAt (view (now (words .entry)) x) i) (register offset) cycle) offset size value) ⌝ }
 {
-    let off = offset / 4 * 4;
-    let old = present(t, off, cycle);
-    let v = periph::lane_write(old, offset, size as u8, value);
-    regs::write_reg(t, off, v, cycle, div)
+    if size == 4 {
+        return value;
+    }
+    let old = present(words, i, offset / 4 * 4, cycle);
+    periph::lane_write(old, offset, size as u8, value)
 }
 
 // A write to CR1, CNT or ARR after which the timer would run upward with its counter above the active reload + 1.
@@ -160,18 +172,126 @@ fn follow(
     w: Written,
     cycle: u64,
 ) -> usize
-    requires { ⌜ (i < 8) × (Fit (w .timer)) ⌝ }
+    requires { ⌜ (i < 8) × (Fit (w .timer)) × ((x : List Float) → w .timer .inst ≡ timerAt (view (now words) x) i .inst) ⌝ }
     requires { ⌜ (4 ≤ length (now pins)) × (4 ≤ length (now levels)) × (4 ≤ length (now cycles)) ⌝ }
     ensures { λ r. ⌜ Leaves (followed (view (now (words .entry)) (now (reals .entry))) i cycle w) (view (now (words .exit)) (now (reals .exit))) (book (now (pins .entry)) (now (levels .entry)) (now (cycles .entry)) 0) (book (now (pins .exit)) (now (levels .exit)) (now (cycles .exit)) r) ⌝ }
     ensures { λ r. ⌜ r ≤ 4 ⌝ }
 {
     let t = w.timer;
-    state::store_timer(words, i, t);
+    state::store_live(words, i, t);
     let k = drive(words, reals, pins, levels, cycles, w.drive, t, w.cnt, cycle);
     settle_line_if(words, w.line, t);
     rebook_if(words, w.book, i, t, cycle);
     state::set_last(words, cycle);
     k
+}
+
+// A write of the value v to register off.
+fn write_timer(
+    words: &mut [u64; WORDS],
+    reals: &mut [f64; REALS],
+    pins: &mut [u8],
+    levels: &mut [u8],
+    cycles: &mut [u64],
+    i: usize,
+    off: u32,
+    v: u32,
+    cycle: u64,
+) -> Answer
+    requires { ⌜ (i < 8) × (cycle ≤ 4611686018427387904) ⌝ }
+    requires { ⌜ (4 ≤ length (now pins)) × (4 ≤ length (now levels)) × (4 ≤ length (now cycles)) ⌝ }
+    ensures { λ r. ⌜ Answers (writtenBy (view (now (words .entry)) (now (reals .entry))) i off v cycle) r (now (words .entry)) (now (words .exit)) (now (reals .entry)) (now (reals .exit)) ⌝ }
+    ensures { λ r. ⌜ Holds (writtenBy (view (now (words .entry)) (now (reals .entry))) i off v cycle .entries) (now (pins .entry)) (now (pins .exit)) (now (levels .entry)) (now (levels .exit)) (now (cycles .entry)) (now (cycles .exit)) (r .count) ⌝ }
+{
+    let t = state::load_timer(words, i);
+    let div = rcc::divider(words, reals, t);
+    let w = regs::write_reg(t, off, v, cycle, div);
+    let s = w.timer;
+    if counter_astray(off, s) {
+        return answer::refused(7);
+    }
+    let count = follow(words, reals, pins, levels, cycles, i, w, cycle);
+    Answer {
+        number: 0,
+        value: 0,
+        count,
+    }
+}
+
+// ---- registers that a write stores and no more: CR2, SMCR, DIER, SR, PSC
+
+fn is_plain(off: u32) -> bool
+    ensures { λ r. ⌜ r ≡ plain off ⌝ }
+{
+    if off == 0x04 {
+        return true;
+    }
+    if off == 0x08 {
+        return true;
+    }
+    if off == 0x0c {
+        return true;
+    }
+    if off == 0x10 {
+        return true;
+    }
+    off == 0x28
+}
+
+// The interrupt line follows DIER and SR.
+fn has_line(off: u32) -> bool
+    ensures { λ r. ⌜ r ≡ lines off ⌝ }
+{
+    if off == 0x0c {
+        return true;
+    }
+    off == 0x10
+}
+
+// The registers with one of the five written.
+fn plain_regs(mut g: Regs, off: u32, v: u32) -> Regs
+    ensures { λ r. ⌜ r ≡ plainRegs g off v ⌝ }
+{
+    if off == 0x04 {
+        g.cr2 = v;
+        return g;
+    }
+    if off == 0x08 {
+        g.smcr = v;
+        return g;
+    }
+    if off == 0x0c {
+        let dier = v & regs::kept(3);
+        g.dier = dier;
+        return g;
+    }
+    if off == 0x10 {
+        let sr = g.sr & (v | Timer::SR_STAYS);
+        g.sr = sr;
+        return g;
+    }
+    let psc = v & regs::kept(10);
+    g.psc = psc;
+    g
+}
+
+fn plain_timer(mut t: Timer, off: u32, v: u32) -> Timer
+    ensures { λ r. ⌜ r ≡ withRegs t (plainRegs (t .regs) off v) ⌝ }
+{
+    let g = plain_regs(t.regs, off, v);
+    t.regs = g;
+    t
+}
+
+fn write_plain(words: &mut [u64; WORDS], i: usize, off: u32, v: u32, cycle: u64)
+    requires { ⌜ (i < 8) × (plain off ≡ true) ⌝ }
+    ensures { λ _. ⌜ ((x : List Float) → view (now (words .exit)) x ≡ followed (view (now (words .entry)) x) i cycle (plainly (timerAt (view (now (words .entry)) x) i) off v) .board) ⌝ }
+{
+    let t = state::load_timer(words, i);
+    let s = plain_timer(t, off, v);
+    state::store_regs(words, i, s);
+    settle_line_if(words, has_line(off), s);
+    state::set_last(words, cycle);
 }
 
 // A write while the timer's clock is on.
@@ -192,19 +312,13 @@ fn write_on(
     ensures { λ r. ⌜ Answers (writtenOn (view (now (words .entry)) (now (reals .entry))) i offset size value cycle) r (now (words .entry)) (now (words .exit)) (now (reals .entry)) (now (reals .exit)) ⌝ }
     ensures { λ r. ⌜ Holds (writtenOn (view (now (words .entry)) (now (reals .entry))) i offset size value cycle .entries) (now (pins .entry)) (now (pins .exit)) (now (levels .entry)) (now (levels .exit)) (now (cycles .entry)) (now (cycles .exit)) (r .count) ⌝ }
 {
-    let t = state::load_timer(words, i);
-    let div = rcc::divider(words, reals, t);
-    let w = written(t, offset, size, value, cycle, div);
-    let s = w.timer;
-    if counter_astray(offset / 4 * 4, s) {
-        return answer::refused(7);
+    let v = merged(words, i, offset, size, value, cycle);
+    let off = offset / 4 * 4;
+    if is_plain(off) {
+        write_plain(words, i, off, v, cycle);
+        return answer::served(0);
     }
-    let count = follow(words, reals, pins, levels, cycles, i, w, cycle);
-    Answer {
-        number: 0,
-        value: 0,
-        count,
-    }
+    write_timer(words, reals, pins, levels, cycles, i, off, v, cycle)
 }
 
 // A write: nothing but the cycle of the last changing call while the timer's clock is off.

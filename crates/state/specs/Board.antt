@@ -4,6 +4,7 @@ use Prim.Native.Nat.{ℕ, _+_, _*_, _≤_}
 use lib.ListN.{getD, set}
 use lib.Ieee as Ieee
 use Rattle.tim.specs.declared.Timer.{Timer}
+use Rattle.tim.specs.declared.Inst.{Inst}
 use Rattle.words.specs.declared.Gpio.{Gpio}
 use Rattle.clk.specs.declared.ClockTree.{ClockTree}
 use Rattle.pins.specs.declared.ClockModel.{ClockModel}
@@ -41,6 +42,10 @@ bookedAt b owner = cycleOf (b .booking) owner
 
 abbrev pub withTimer : Board → ℕ → Timer → Board
 withTimer b i t = record { timers = set (b .timers) i t; booking = b .booking; nvic = b .nvic; pads = b .pads; clocks = b .clocks; counts = b .counts }
+
+-- the timer with these fixed parts
+abbrev pub withInst : Timer → Inst → Timer
+withInst t k = record { inst = k; regs = t .regs; chan = t .chan; count = t .count }
 
 abbrev pub withBooking : Board → ℕ → ℕ → Board
 withBooking b owner cycle = record { timers = b .timers; booking = book (b .booking) owner cycle; nvic = b .nvic; pads = b .pads; clocks = b .clocks; counts = b .counts }

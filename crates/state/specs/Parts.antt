@@ -300,6 +300,15 @@ module _ {A : Type 0} (d : A) where
         ∙ parts-paste (replicate n k) i 0 b l k (omega arith) (omega arith) (omega arith)
         ∙ ap (set s i) (paste-all (getD s i []) b k (length-part (replicate n k) i l ∙ f) g)
 
+    -- a piece of a block
+    pub piece-paste : (f m : ℕ) (b l : List A) → f + m ≤ k → m ≤ length b → i * k + k ≤ length l
+        → blocks d n k (paste l (i * k + f) b m) ≡ set (blocks d n k l) i (paste (getD (blocks d n k l) i []) f b m)
+    unfolding blocks
+    piece-paste f m b l g j q =
+        let e : start (replicate n k) i ≡ i * k = start-even n k i h in
+        let r : getD (replicate n k) i 0 ≡ k = getD-replicate n i k 0 h in
+        rw (← e) (parts-paste (replicate n k) i f b l m (omega arith) (omega arith) j)
+
     pub block-front : (l : List A) → getD (blocks d n k l) i [] ≡ front d k (drop (i * k) l)
     unfolding blocks
     block-front l =

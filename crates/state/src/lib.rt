@@ -5,10 +5,10 @@ ghost use Prim.Native.Nat.{ℕ, _+_, _*_, _%_, _<_, _≤_, min};
 ghost use lib.ListN.{length, drop};
 ghost use lib.Seq.{paste};
 ghost use lib.Ieee.{Float};
-ghost use Rattle.tim.specs.Timer.{Fit};
+ghost use Rattle.tim.specs.Timer.{Fit, withRegs};
 ghost use Rattle.nvic.specs.Nvic.{setLine, clearPending, lineAt, stateOf};
 ghost use Rattle.scheduler.specs.Booking.{least};
-ghost use Rattle.state.specs.Board.{Divided, timerAt, gpioAt, routeAt, sigLevelAt, afAt, enrAt, bookedAt, withTimer, withGpio, withAfAt, withRoute, withSigLevel, withBooking, withNvic, withPads, withTree, withClock, withEnr, withLast, withSizes, withVcc};
+ghost use Rattle.state.specs.Board.{Divided, timerAt, gpioAt, routeAt, sigLevelAt, afAt, enrAt, bookedAt, withTimer, withInst, withGpio, withAfAt, withRoute, withSigLevel, withBooking, withNvic, withPads, withTree, withClock, withEnr, withLast, withSizes, withVcc};
 ghost use Rattle.state.specs.Parts.{front, parts, listed, repeated};
 ghost use Rattle.state.specs.View.{sizes, view, dividerOf, treeOf};
 ghost use Rattle.machine.specs.Board.{freshBoard};
@@ -146,6 +146,26 @@ pub fn store_timer(words: &mut [u64; WORDS], i: usize, t: Timer)
     sized(words);
     let b = words::pack_timer(t);
     put(words, TIMERS + i * words::TIMER_WORDS, &b);
+}
+
+// Stores the registers of timer i alone.
+pub fn store_regs(words: &mut [u64; WORDS], i: usize, t: Timer)
+    requires { ⌜ (i < 8) × (Fit t) ⌝ }
+    ensures { λ _. ⌜ ((x : List Float) → view (now (words .exit)) x ≡ withTimer (view (now (words .entry)) x) i (withRegs (timerAt (view (now (words .entry)) x) i) (t .regs))) ⌝ }
+{
+    sized(words);
+    let b = words::pack_timer(t);
+    put(words, TIMERS + (i * words::TIMER_WORDS + 7), &b[7..15]);
+}
+
+// Stores timer i but for what set-up fixed.
+pub fn store_live(words: &mut [u64; WORDS], i: usize, t: Timer)
+    requires { ⌜ (i < 8) × (Fit t) ⌝ }
+    ensures { λ _. ⌜ ((x : List Float) → view (now (words .exit)) x ≡ withTimer (view (now (words .entry)) x) i (withInst t (timerAt (view (now (words .entry)) x) i .inst))) ⌝ }
+{
+    sized(words);
+    let b = words::pack_timer(t);
+    put(words, TIMERS + (i * words::TIMER_WORDS + 7), &b[7..39]);
 }
 
 // ---- pins
