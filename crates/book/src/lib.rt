@@ -29,7 +29,7 @@ pub fn room(pins: &[u8], levels: &[u8], cycles: &[u64]) -> usize
     lesser(a, lesser(b, c))
 }
 
-// Writes a level change as the entry at place n; the next place.
+// Writes a level change as the entry at place n; the next place, which is the writer's count.
 pub fn append(
     pins: &mut [u8],
     levels: &mut [u8],
@@ -47,8 +47,7 @@ pub fn append(
         Change::Level(p, l) => {
             pins[n] = p;
             levels[n] = l;
-            cycles[n] = cycle;
-            n + 1
+            writer::append(cycles, n, cycle)
         }
     }
 }

@@ -8,14 +8,15 @@ use native.Mathlib.Omega.{arith}
 use borrow.Author.Tests.{lt-ltb, ltb-true, ltb-false}
 use lib.Dec.{ltb, lit≤}
 use lib.ListN.{length, getD, drop, List·getD-map}
-use lib.Seq.{getD-drop}
+use lib.Seq.{getD-drop, getD-set-same}
 use lib.Ieee.{Float, nan}
 use Rattle.nvic.specs.Nvic.{lineOf, lineAt}
 use Rattle.nvic.proofs.Laws.{word-at}
+use Rattle.scheduler.specs.Booking.{book}
 use Rattle.words.specs.declared.Gpio.{Gpio}
 use Rattle.words.specs.Codec.{decodeTimer, decodeGpio}
 use Rattle.state.specs.Board.{timerAt, gpioAt, routeAt, sigLevelAt, enrAt, bookedAt}
-use Rattle.state.specs.Parts.{getD-any, start, front, parts, blocks, map-at, front-at, part-at, part-front, part-block, length-part, length-blocks}
+use Rattle.state.specs.Parts.{getD-any, start, front, parts, blocks, map-at, front-at, length-front, part-at, part-front, part-block, length-part, length-blocks}
 use Rattle.state.specs.Bounded.{bounded}
 use Rattle.machine.specs.Board.{noTimer, noGpio}
 use Rattle.state.specs.View.{sizes, realSizes, view, gpiosOf, pinOf, levelOf, signalOf, enableOf, dividerOf}
@@ -63,6 +64,11 @@ module _ (w : List ℕ) (x : List Float) where
   pub booking-all : view w x .booking ≡ front 0 8 (drop 340 w)
   unfolding view start
   booking-all = part-front 0 sizes 5 w (lit≤ tt)
+
+  -- the word of an owner in the table that its booking leaves
+  pub booked-word : (m next : List ℕ) (owner cycle : ℕ) → owner < 8 → m ≡ view w x .booking → next ≡ book m owner cycle → getD next owner 0 ≡ cycle
+  booked-word m next owner cycle h e f =
+      ap (λ (l : List ℕ). getD l owner 0) f ∙ getD-set-same m owner cycle 0 (omega (arith, ap length (e ∙ booking-all), length-front 0 8 (drop 340 w)))
 
   pub timers-read : view w x .counts .timers ≡ min (getD w 320 0) 8
   unfolding view start

@@ -18,7 +18,6 @@ ghost use Rattle.real.specs.Real.{zeroFloat};
 ghost use Rattle.sig.specs.Signal.{idleLevel};
 use clk::ClockTree;
 use pins::ClockModel;
-use scheduler::Scheduler;
 use tim::Timer;
 use words::Gpio;
 
@@ -337,30 +336,41 @@ pub fn set_enr(words: &mut [u64; WORDS], i: usize, v: u32)
 
 // ---- booking
 
+// The table of the booked cycles.
+fn bookings(words: &[u64; WORDS]) -> [u64; 8]
+    ensures { λ r. ⌜ ((x : List Float) → r ≡ (view (now (words .entry)) x) .booking) ⌝ }
+{
+    let mut cycles = [0u64; 8];
+    get(words, BOOKING, &mut cycles);
+    cycles
+}
+
 pub fn booked(words: &[u64; WORDS], owner: usize) -> u64
     requires { ⌜ owner < 8 ⌝ }
     ensures { λ r. ⌜ ((x : List Float) → r ≡ bookedAt (view (now (words .entry)) x) owner) ⌝ }
 {
-    words[BOOKING + owner]
+    let cycles = bookings(words);
+    scheduler::booked_at(cycles, owner)
 }
 
-// Books owner at a cycle, or cancels its booking by the cycle 2^64 - 1. All booking goes through here.
+// Books owner at a cycle, or cancels its booking by the cycle 2^64 - 1. All booking goes through here: the table is lent to the
+// scheduler, and the one word that changed is stored.
 pub fn book(words: &mut [u64; WORDS], owner: usize, cycle: u64)
     requires { ⌜ owner < 8 ⌝ }
     ensures { λ _. ⌜ ((x : List Float) → view (now (words .exit)) x ≡ withBooking (view (now (words .entry)) x) owner cycle) ⌝ }
 {
     sized(words);
-    words[BOOKING + owner] = cycle;
+    let cycles = bookings(words);
+    let next = scheduler::book(cycles, owner, cycle);
+    words[BOOKING + owner] = next[owner];
 }
 
 // The least booked cycle.
 pub fn next_booked(words: &[u64; WORDS]) -> u64
     ensures { λ r. ⌜ ((x : List Float) → r ≡ least ((view (now (words .entry)) x) .booking)) ⌝ }
 {
-    let mut cycles = [0u64; 8];
-    get(words, BOOKING, &mut cycles);
-    let s = Scheduler { cycles: cycles };
-    s.next()
+    let cycles = bookings(words);
+    scheduler::next_of(cycles)
 }
 
 // ---- interrupt lines

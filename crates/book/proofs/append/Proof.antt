@@ -17,14 +17,8 @@ slice-write-pins c = search needs
 slice-write-levels : tie.Need-slice-write-levels
 slice-write-levels c = search needs
 
-mul-cycles : tie.Need-mul-cycles
-mul-cycles c = search needs
-
-slice-write-cycles : tie.Need-slice-write-cycles
-slice-write-cycles c = search needs
-
-add-result : tie.Need-add-result
-add-result c = search needs
+append-requires : tie.Need-append-requires
+append-requires c κs = search needs
 
 returns : tie.Need-returns
 unfolding entryOf puts
@@ -41,7 +35,7 @@ same-length-3 c = search needs
 
 returns-2 : tie.Need-returns-2
 unfolding entryOf puts
-returns-2 c = (rw (c .before .change .given .1), omega arith)
+returns-2 c = (rw (c .before .before .before .before .before .change .given .1, c .before .before .append .ensures .0, c .before .before .append .ensures .1), omega (arith, c .before .before .append .ensures .0))
 
 pub append-spec : {M : Type 1} → statement M
-append-spec = tie.close (tie.spec enum-told enum-known-change slice-write-pins slice-write-levels mul-cycles slice-write-cycles add-result returns same-length same-length-2 same-length-3 returns-2)
+append-spec = tie.close (tie.spec enum-told enum-known-change slice-write-pins slice-write-levels append-requires returns same-length same-length-2 same-length-3 returns-2)

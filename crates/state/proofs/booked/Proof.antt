@@ -1,21 +1,20 @@
--- The word of the booking.
-use Rattle.state.proofs.Places.{booking-read}
+-- The owner's cycle in the table.
+use mathlib.Core.List.{List}
+use mathlib.Core.Path.{_∙_, ap}
+use Prim.Native.Nat.{ℕ}
+use Rattle.scheduler.specs.Booking.{cycleOf}
 use borrow.Author.Needs.{needs}
-use mathlib.Core.Path.{sym}
 use Rattle.state.proofs.booked.Statement.{statement}
 use Rattle.state.proofs.booked.Tie as tie
 
-add-result : tie.Need-add-result
-add-result c = search needs
+bookings-requires : tie.Need-bookings-requires
+bookings-requires c κs = search needs
 
-mul-result : tie.Need-mul-result
-mul-result c = search needs
-
-element-copy-out-result : tie.Need-element-copy-out-result
-element-copy-out-result c = search needs
+booked-at-requires : tie.Need-booked-at-requires
+booked-at-requires c κs = search needs
 
 returns : tie.Need-returns
-returns c = let s = c .before in λ x. sym (booking-read (s .args .words .now) x (s .args .owner) (s .pre))
+returns c = λ x. c .booked-at .ensures ∙ ap (λ (m : List ℕ). cycleOf m (c .before .before .args .owner)) (c .before .bookings .ensures x)
 
 pub booked-spec : {M : Type 1} → statement M
-booked-spec = tie.close (tie.spec add-result mul-result element-copy-out-result returns)
+booked-spec = tie.close (tie.spec bookings-requires booked-at-requires returns)
