@@ -4,14 +4,19 @@ use clk::ClockTree;
 use state::REALS;
 use state::WORDS;
 ghost use mathlib.Core.Path.{_≡_};
+ghost use mathlib.Core.Bool.{_||_};
+ghost use mathlib.Core.List.{[], _∷_};
 ghost use Prim.Native.Nat.{_+_, _*_, _<_, _≤_};
+ghost use lib.Dec.{eqb};
 ghost use lib.Ieee as Ieee;
 ghost use lib.ListN.{length};
-ghost use Rattle.book.specs.Book.{places, Holds};
+ghost use lib.Seq.{sets};
+ghost use Rattle.book.specs.Book.{book, puts, places, Holds};
 ghost use Rattle.state.specs.View.{view};
 ghost use Rattle.machine.specs.Step.{step};
 ghost use Rattle.answer.specs.Promise.{Answers};
 ghost use Rattle.calls.specs.Encoding as E;
+ghost use Rattle.calls.specs.Taken.{noRoom, callsOf, taken, Does, Runs};
 
 // ---- arguments
 
@@ -439,4 +444,128 @@ fn perform(
         return change(words, reals, calls, op);
     }
     question(words, reals, calls, op)
+}
+
+// ---- a list of calls
+
+// How many calls were performed, and how many entries they made.
+#[repr(C)]
+pub struct Ran {
+    pub calls: usize,
+    pub entries: usize,
+}
+
+// The call in the places from `at` to `end`, behind the entries so far.
+fn perform_at(
+    words: &mut [u64; WORDS],
+    reals: &mut [f64; REALS],
+    calls: &[u32],
+    pins: &mut [u8],
+    levels: &mut [u8],
+    cycles: &mut [u64],
+    at: usize,
+    end: usize,
+) -> Answer
+    requires { ⌜ E.sizeOf (E.word (now calls) 0) (now calls) ≤ length (now calls) ⌝ }
+    requires { ⌜ (at + E.bookOf (now calls) ≡ end) × (end ≤ length (now pins)) × (end ≤ length (now levels)) × (end ≤ length (now cycles)) ⌝ }
+    ensures { λ r. ⌜ Answers (step (view (now (words .entry)) (now (reals .entry))) (E.callOf (now (calls .entry)))) r (now (words .entry)) (now (words .exit)) (now (reals .entry)) (now (reals .exit)) ⌝ }
+    ensures { λ r. ⌜ book (now (pins .exit)) (now (levels .exit)) (now (cycles .exit)) (at + r .count) ≡ puts (book (now (pins .entry)) (now (levels .entry)) (now (cycles .entry)) at) (step (view (now (words .entry)) (now (reals .entry))) (E.callOf (now (calls .entry))) .entries) ⌝ }
+{
+    perform(
+        words,
+        reals,
+        calls,
+        &mut pins[at..end],
+        &mut levels[at..end],
+        &mut cycles[at..end],
+    )
+}
+
+// An answer as three words from place i on.
+fn put_answer(answers: &mut [u64], i: usize, r: Answer)
+    requires { ⌜ i + 3 ≤ length (now answers) ⌝ }
+    ensures { λ _. ⌜ now (answers .exit) ≡ sets (now (answers .entry)) i (r .number ∷ r .value ∷ r .count ∷ []) ⌝ }
+{
+    answers[i] = r.number as u64;
+    answers[i + 1] = r.value;
+    answers[i + 2] = r.count as u64;
+}
+
+// The call with its answer; the number of its entries.
+fn perform_call(
+    words: &mut [u64; WORDS],
+    reals: &mut [f64; REALS],
+    calls: &[u32],
+    answers: &mut [u64],
+    pins: &mut [u8],
+    levels: &mut [u8],
+    cycles: &mut [u64],
+    i: usize,
+    at: usize,
+    end: usize,
+) -> usize
+    requires { ⌜ E.sizeOf (E.word (now calls) 0) (now calls) ≤ length (now calls) ⌝ }
+    requires { ⌜ i + 3 ≤ length (now answers) ⌝ }
+    requires { ⌜ (at + E.bookOf (now calls) ≡ end) × (end ≤ length (now pins)) × (end ≤ length (now levels)) × (end ≤ length (now cycles)) ⌝ }
+    ensures { λ r. ⌜ r ≡ length (step (view (now (words .entry)) (now (reals .entry))) (E.callOf (now (calls .entry))) .entries) ⌝ }
+    ensures { λ r. ⌜ Does (step (view (now (words .entry)) (now (reals .entry))) (E.callOf (now (calls .entry)))) (view (now (words .exit)) (now (reals .exit))) i (now (answers .entry)) (now (answers .exit)) (book (now (pins .entry)) (now (levels .entry)) (now (cycles .entry)) at) (book (now (pins .exit)) (now (levels .exit)) (now (cycles .exit)) (at + r)) ⌝ }
+{
+    let r = perform_at(words, reals, calls, pins, levels, cycles, at, end);
+    put_answer(answers, i, r);
+    r.count
+}
+
+// No call, no room for its answer, or not the places that it is lent.
+fn stops(len: usize, words: usize, room: usize, places: u64) -> bool
+    ensures { λ r. ⌜ r ≡ (eqb len 0 || noRoom words room places) ⌝ }
+{
+    (len == 0) | ((words < 3) | ((room as u64) < places))
+}
+
+// Performs the calls one after the other. Each answers three words (number, value, count), and is lent the places behind the entries of
+// those before it. Stops before the first that is no call or finds no room.
+pub fn run_calls(
+    words: &mut [u64; WORDS],
+    reals: &mut [f64; REALS],
+    calls: &[u32],
+    answers: &mut [u64],
+    pins: &mut [u8],
+    levels: &mut [u8],
+    cycles: &mut [u64],
+) -> Ran
+    ensures { λ r. ⌜ Runs (view (now (words .entry)) (now (reals .entry))) (taken (view (now (words .entry)) (now (reals .entry))) (callsOf (now (calls .entry))) (length (now (answers .entry))) (places (now (pins .entry)) (now (levels .entry)) (now (cycles .entry)))) (view (now (words .exit)) (now (reals .exit))) r (now (answers .entry)) (now (answers .exit)) (now (pins .entry)) (now (pins .exit)) (now (levels .entry)) (now (levels .exit)) (now (cycles .entry)) (now (cycles .exit)) ⌝ }
+{
+    let room = book::room(pins, levels, cycles);
+    let size = answers.len();
+    let mut at: usize = 0;
+    let mut done: usize = 0;
+    let mut entries: usize = 0;
+    loop {
+        let rest = &calls[at..];
+        let len = len_of(rest);
+        let lent = places_of(rest);
+        let i = done * 3;
+        if stops(len, size - i, room - entries, lent) {
+            return Ran {
+                calls: done,
+                entries,
+            };
+        }
+        let end = entries + lent as usize;
+        let count = perform_call(
+            words,
+            reals,
+            rest,
+            answers,
+            pins,
+            levels,
+            cycles,
+            i,
+            entries,
+            end,
+        );
+        at += len;
+        done += 1;
+        entries += count;
+    }
 }
