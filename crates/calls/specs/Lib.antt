@@ -1,2 +1,4 @@
 pub mod Encoding
 pub mod Taken
+pub mod TakenLaws
+pub mod Figures

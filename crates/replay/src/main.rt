@@ -46,6 +46,19 @@ fn run(
     answer::answer(out, n, &answers, pins, levels, cycles, ran.entries)
 }
 
+// The call asks for as many places as it is lent: its last number.
+fn ask(call: &mut [u32; ENCODED], op: u64, length: usize, places: usize) {
+    match op {
+        3 | 4 | 5 | 7 | 9 | 10 => {
+            if 2 <= length {
+                line::put(call, length - 2, places as u64);
+                line::put(call, length - 1, 0);
+            }
+        }
+        _ => {}
+    }
+}
+
 // Lends the call's words and its places of the book.
 fn lend(
     words: &mut [u64; WORDS],

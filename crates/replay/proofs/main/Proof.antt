@@ -15,8 +15,8 @@ abbrev μ-loop : tie.MeasureT-loop
 array-write-state : tie.Need-array-write-state Inv-loop μ-loop
 array-write-state c = search needs
 
-blank-requires : tie.Need-blank-requires Inv-loop μ-loop
-blank-requires c κs = search needs
+clear-requires : tie.Need-clear-requires Inv-loop μ-loop
+clear-requires c κs = search needs
 
 loop-holds : tie.Need-loop-holds Inv-loop μ-loop
 loop-holds c = tt
@@ -46,7 +46,7 @@ main-spec =
     Inv-loop
     μ-loop
     array-write-state
-    blank-requires
+    clear-requires
     loop-holds
     turn-requires
     sub-turns
