@@ -24,7 +24,10 @@ impl<'a> Writer<'a> {
     pub fn new(cycles: &'a mut [u64], n: usize) -> Writer<'a>
         ensures { λ r. ⌜ r ≡ writing (cycles .entry) n ⌝ }
     {
-        Writer { cycles: cycles, n: n }
+        Writer {
+            cycles: cycles,
+            n: n,
+        }
     }
 
     // One more cycle. The writer is handed back.

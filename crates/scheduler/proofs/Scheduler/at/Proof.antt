@@ -1,4 +1,4 @@
--- `scheduler::Scheduler::at` meets its contract: a walk of its MIR, by hand (written by gen_walk.py). The borrow is opened, the struct is copied out, `booked` is called on the copy, what it returned is
+-- `scheduler::Scheduler::at` meets its contract: a walk of its MIR, by hand. The borrow is opened, the struct is copied out, `booked` is called on the copy, what it returned is
 -- stored back whole, and the borrow is closed at that record. All that the proof knows of what it calls is that it meets its contract.
 -- Assumes nothing.
 use mathlib.Core.Path.{_≡_, refl}
@@ -94,7 +94,7 @@ module _ {M : Type 1} (𝓤 : URA M) (H : Heap 𝓤) (A : Atoms 𝓤) (W : Given
       qed W (‵ (fobs γ (R .coded .code r)) ∷ ‵ (fbor κ (Body (mem R) b o γ)) ∷ ‵ (flft κ q) ∷ []) ∵
       suffices ! _ (ends-at 𝓤 H A self.ended stayed (self.clauses 𝓤 H A at-mem run) W (((κ, tt), (q, tt), tt, a, vals), tt) vunit tt (r, (tt, (tt, tt))) (tt, (tt, (tt, tt)))) $ says ! e $
       nothing ! $ move ! (3 ∷ 0 ∷ []) $ join ! $ frame ! $ feqI ! (List Val) (vptr b o ∷ []) (vptr b o ∷ []) refl $ fjoin3 ! $
-      nothing ! $ owned ! u64 (Is u64) (uint-makes 𝓤 H A W w64) cycle _ cycle-is $ fjoin ! $ owned ! usize (Is usize) (uint-makes 𝓤 H A W w64) owner _ owner-is $ fjoin ! $ 
+      nothing ! $ owned ! u64 (Is u64) (uint-makes 𝓤 H A W w64) cycle _ cycle-is $ fjoin ! $ owned ! usize (Is usize) (uint-makes 𝓤 H A W w64) owner _ owner-is $ fjoin ! $
       move ! (1 ∷ 0 ∷ []) $ fjoin ! $ feqI ! (List Val) (vunit ∷ []) (vunit ∷ []) refl $ move ! (1 ∷ 0 ∷ []) $ done !
 
   module _ (C : Calls 𝓤 H) (Λ : Loops 𝓤 H) (fm : FmC 𝓤 H (W .laws) C) (known-next : Triple 𝓤 (C #next) (C-next 𝓤 H A at-mem run)) where
@@ -123,7 +123,7 @@ module _ {M : Type 1} (𝓤 : URA M) (H : Heap 𝓤) (A : Atoms 𝓤) (W : Given
         assigns ! (of-opd ! (unit-lit !)) (from ! (stop !)) (init ! 17 refl (tt, tt)) $
         -- the borrow is closed at what was stored
         move ! (1 ∷ []) $ use1 W (‵ (cellAt fullShare (R .mir) (w ∷ []) b o)) (W .laws .at-raw fullShare T′.mir b o w) $ closes ! tt R r (w ∷ []) b o $
-        returns ! (look ! 15 refl) $ forget ! 5 refl $ forget ! 7 refl $ forget ! 9 refl $ forget ! 11 refl $ forget ! 13 refl $ forget ! 15 refl $ 
+        returns ! (look ! 15 refl) $ forget ! 5 refl $ forget ! 7 refl $ forget ! 9 refl $ forget ! 11 refl $ forget ! 13 refl $ forget ! 15 refl $
         move ! (15 ∷ 16 ∷ []) $ free1 ! $ move ! (13 ∷ 14 ∷ []) $ free1 ! $ move ! (11 ∷ 12 ∷ []) $ free1 ! $ move ! (9 ∷ 10 ∷ []) $ free1 ! $ move ! (7 ∷ 8 ∷ []) $ free1 ! $ move ! (5 ∷ 6 ∷ []) $ free1 ! $ free0 ! $
         keep ! (0 ∷ 1 ∷ 2 ∷ []) $ by ! (exits r e)))))))))))))
 
