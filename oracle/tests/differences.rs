@@ -50,7 +50,7 @@ fn rules_are_named() {
     let ours = page.split("### Pins").next().unwrap();
     let lines: BTreeSet<String> = ours.lines().filter_map(|l| l.strip_prefix("| `")?.split_once('`')).map(|(n, _)| n.to_string()).collect();
     let mut at_rules = BTreeSet::new();
-    for crate_name in ["rm0440", "tim"] {
+    for crate_name in ["rm0440", "tim", "regs"] {
         for file in fs::read_dir(docs().join("../crates").join(crate_name).join("specs")).unwrap() {
             for comment in text(&file.unwrap().path()).lines().filter(|l| l.contains("docs/DIFFERENCES.md")) {
                 let words = comment.split(|c: char| !c.is_ascii_lowercase() && !c.is_ascii_digit() && c != '-');
