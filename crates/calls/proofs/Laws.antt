@@ -1,12 +1,12 @@
 -- Calls as words. Assumes nothing.
-use mathlib.Core.Path.{_≡_, refl, ap, sym, subst, _∙_}
-use mathlib.Core.Bool.{Bool, true, false, cond, not, _&&_}
+use mathlib.Core.Path.{_≡_, refl, sym, subst, _∙_}
+use mathlib.Core.Bool.{Bool, true, false, not, _&&_}
 use mathlib.Core.List.{List, [], _∷_}
 use Prim.Native.Nat.{ℕ, _+_, _-_, _*_, _%_, _/_, _≤_}
 use native.Mathlib.Omega.{arith}
 use lib.Dec.{T, eqb}
 use lib.Ieee as Ieee
-use lib.Ieee.{Float, binary64, nan}
+use lib.Ieee.{Float, binary64}
 use lib.ListN.{length, take, drop}
 use borrow.Author.Tests.{eq-eqb, ne-eqb}
 use Rattle.real.specs.Real.{positive}
@@ -24,7 +24,7 @@ use Rattle.setup.specs.Setup.{setupOf, Answered}
 use Rattle.answer.specs.declared.Answer.{Answer}
 use Rattle.answer.specs.Promise.{answer, Answers}
 use Rattle.answer.proofs.Given.{unbooked}
-use Rattle.calls.specs.Encoding.{word, word64, real64, treeAt, hasBook, bookCall, isChange, changeCall, questionCall, callWith, sizeOf, lenOf, bookOf}
+use Rattle.calls.specs.Encoding.{word, word64, real64, treeAt, hasBook, bookCall, isChange, changeCall, questionCall, callWith, sizeOf}
 
 -- ---- floats from their bits
 pub number-exponent : (b : ℕ) → (b % 9223372036854775808 / 4503599627370496 ≡ 2047 → ⊥) → T (not (Ieee.nanBits binary64 b))

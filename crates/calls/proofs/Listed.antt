@@ -2,14 +2,14 @@
 use mathlib.Core.Path.{_≡_, refl, ap, sym, subst, _∙_}
 use mathlib.Core.Bool.{Bool, true, false, cond, _||_, false≢true}
 use mathlib.Core.List.{List, [], _∷_, _++_, map, append-assoc}
-use Prim.Native.Nat.{ℕ, zero, suc, _+_, _-_, _*_, _≤_, _<_}
+use Prim.Native.Nat.{ℕ, zero, suc, _+_, _-_, _*_, _≤_}
 use native.Mathlib.Nat.{add-zero, zero-add}
 use native.Mathlib.Omega.{arith}
 use lib.Dec.{eqb, ltb, leb}
 use lib.Ieee.{Float}
 use lib.ListN.{length, take, drop, set, length-map, length-append, length-drop, take-append-drop}
 use lib.Seq.{sets, sets-eq, drop-drop, drop-append-le, length-take-le, take-all}
-use borrow.Author.Tests.{ltb-false, leb-true, eqb-false, ne-eqb}
+use borrow.Author.Tests.{ltb-false, leb-true, eqb-false}
 use Rattle.book.specs.Book.{Entry, Book, book, puts, put, places, over, Holds}
 use Rattle.book.specs.Laws.{puts-append, holds}
 use Rattle.machine.specs.Board.{Board}
@@ -21,7 +21,6 @@ use Rattle.machine.specs.Numbers.{entries-fit}
 use Rattle.state.specs.View.{view}
 use Rattle.answer.specs.declared.Answer.{Answer}
 use Rattle.answer.specs.Promise.{Answers}
-use Rattle.calls.specs.declared.Ran.{Ran}
 use Rattle.calls.specs.Encoding.{word, word64, hasBook, bookCall, isChange, changeCall, questionCall, callWith, callOf, sizeOf, lenOf, bookOf}
 use Rattle.calls.specs.Taken.{callsFrom, callsOf, noRoom, taken, answerOf, answersOf, joined, Does, Runs}
 use Rattle.calls.proofs.Laws.{lent-change, lent-question}

@@ -1,27 +1,22 @@
+-- Within the words, or 0.
 use mathlib.Core.Path.{sym}
 use lib.ListN.{List·getD-eq-default}
 use Rattle.calls.specs.Encoding as E
 use borrow.Author.Needs.{needs}
 use Rattle.calls.proofs.word.Statement.{statement}
 use Rattle.calls.proofs.word.Tie as tie
-use Rattle.calls.proofs.word.Reads as reads
-use Rattle.calls.proofs.word.Lts as lts
 
--- src/lib.rt:23:16
 mul-result : tie.Need-mul-result
 mul-result c = search needs
 
--- src/lib.rt:23:16
 shared-slice-read-result : tie.Need-shared-slice-read-result
 shared-slice-read-result c = search needs
 
--- src/lib.rt:23:9
 returns : tie.Need-returns
 unfolding E.word
 returns c =
     search needs
 
--- src/lib.rt:19:1
 returns-2 : tie.Need-returns-2
 unfolding E.word
 returns-2 c =

@@ -1,40 +1,30 @@
+-- Low and high.
 use Rattle.calls.specs.Encoding as E
 use borrow.Author.Needs.{needs}
 use Rattle.calls.proofs.word64.Statement.{statement}
 use Rattle.calls.proofs.word64.Tie as tie
-use Rattle.calls.proofs.word64.Reads as reads
-use Rattle.calls.proofs.word64.Lts as lts
-use Rattle.calls.proofs.word.Reads as word-reads
 
--- src/lib.rt:33:9
 word-requires : tie.Need-word-requires
 word-requires c κs = search needs
 
--- src/lib.rt:34:28
 add-word : tie.Need-add-word
 add-word c = search needs
 
--- src/lib.rt:34:9
 word-requires-2 : tie.Need-word-requires-2
 word-requires-2 c κs = search needs
 
--- src/lib.rt:35:5
 cast-result : tie.Need-cast-result
 cast-result c = search needs
 
--- src/lib.rt:35:18
 cast-result-2 : tie.Need-cast-result-2
 cast-result-2 c = search needs
 
--- src/lib.rt:35:18
 mul-result : tie.Need-mul-result
 mul-result c = search needs
 
--- src/lib.rt:35:5
 add-result : tie.Need-add-result
 add-result c = search needs
 
--- src/lib.rt:29:1
 returns : tie.Need-returns
 unfolding E.word64
 returns c =
