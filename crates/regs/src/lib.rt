@@ -163,7 +163,8 @@ fn turn(timer: Timer, old: u32) -> Timer
     timer.recompute_cc_done()
 }
 
-fn write_cr1(timer: Timer, v: u32, now: u64, div: u32) -> Timer
+// A write of CR1.
+pub fn write_cr1(timer: Timer, v: u32, now: u64, div: u32) -> Timer
     requires { ⌜ Ready timer now div ⌝ }
     ensures { λ r. ⌜ r ≡ R.cr1Written timer v now div ⌝ }
 {
@@ -302,13 +303,12 @@ fn write_channel(timer: Timer, off: u32, v: u32, now: u64) -> Written
     }
 }
 
-// A register write: the next timer, and what follows.
+// A write of a register other than CR1, which is write_cr1's: the next timer, and what follows.
 pub fn write_reg(timer: Timer, off: u32, v: u32, now: u64, div: u32) -> Written
-    requires { ⌜ Ready timer now div ⌝ }
+    requires { ⌜ (Ready timer now div) × (off ≡ 0 → ⊥) ⌝ }
     ensures { λ r. ⌜ r ≡ R.regWritten timer off v now div ⌝ }
 {
     match off {
-        0x00 => booked(write_cr1(timer, v, now, div)),
         0x04 => only(with_cr2(timer, v)),
         0x08 => only(with_smcr(timer, v)),
         0x0c => lined(with_dier(timer, v & kept(3))),

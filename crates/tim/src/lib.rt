@@ -80,6 +80,7 @@ pub enum Due {
     Stopped,
 }
 
+// The count after a number of steps upward. Here, in `ticks_at` and in `synced_base` less than a period or a step needs no division.
 fn count_up(reload: u32, cnt: u32, ticks: u64) -> u32
     requires { ⌜ ticks < 9223372036854775808 ⌝ }
     ensures { λ r. ⌜ r ≡ upFrom reload cnt ticks ⌝ }
@@ -90,7 +91,11 @@ fn count_up(reload: u32, cnt: u32, ticks: u64) -> u32
         return sum as u32;
     }
     let period = last + 1;
-    ((sum - period) % period) as u32
+    let over = sum - period;
+    if over < period {
+        return over as u32;
+    }
+    (over % period) as u32
 }
 
 fn count_down(reload: u32, cnt: u32, ticks: u64) -> u32
@@ -247,7 +252,12 @@ impl Timer {
         if c <= self.count.base {
             return 0;
         }
-        (c - self.count.base) / self.count.tick as u64
+        let past = c - self.count.base;
+        let tick = self.count.tick as u64;
+        if past < tick {
+            return 0;
+        }
+        past / tick
     }
 
     // Counter value at cycle c.
@@ -274,7 +284,12 @@ impl Timer {
         if now <= self.count.base {
             return self.count.base;
         }
-        now - (now - self.count.base) % self.count.tick as u64
+        let past = now - self.count.base;
+        let tick = self.count.tick as u64;
+        if past < tick {
+            return self.count.base;
+        }
+        now - past % tick
     }
 
     pub fn at_count(mut self, cnt: u32, base: u64) -> Timer
@@ -325,7 +340,7 @@ impl Timer {
     }
 
     // Steps to the update event.
-    fn update_steps(self) -> u64
+    pub fn update_steps(self) -> u64
         ensures { λ r. ⌜ r ≡ updateSteps self ⌝ }
     {
         let cnt = self.count.cnt0 as u64;
@@ -382,7 +397,8 @@ impl Timer {
         less(ccr, self.count.cnt0)
     }
 
-    fn consider(self, ch: usize, best: Ahead) -> Ahead
+    // The nearer of what is nearest so far and channel ch's compare.
+    pub fn consider(self, ch: usize, best: Ahead) -> Ahead
         requires { ⌜ ch < 4 ⌝ }
         ensures { λ r. ⌜ r ≡ consider self ch best ⌝ }
     {
