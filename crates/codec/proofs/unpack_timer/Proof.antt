@@ -1,8 +1,8 @@
 -- Part by part.
-use Rattle.words.specs.Codec.{decodeTimer}
+use Rattle.codec.specs.Codec.{decodeTimer}
 use borrow.Author.Needs.{needs}
-use Rattle.words.proofs.unpack_timer.Statement.{statement}
-use Rattle.words.proofs.unpack_timer.Tie as tie
+use Rattle.codec.proofs.unpack_timer.Statement.{statement}
+use Rattle.codec.proofs.unpack_timer.Tie as tie
 
 unpack-inst-requires : tie.Need-unpack-inst-requires
 unpack-inst-requires c κs = search needs

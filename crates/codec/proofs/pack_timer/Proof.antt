@@ -1,8 +1,8 @@
 -- Part by part.
-use Rattle.words.specs.Codec.{decodeTimer}
+use Rattle.codec.specs.Codec.{decodeTimer}
 use borrow.Author.Needs.{needs}
-use Rattle.words.proofs.pack_timer.Statement.{statement}
-use Rattle.words.proofs.pack_timer.Tie as tie
+use Rattle.codec.proofs.pack_timer.Statement.{statement}
+use Rattle.codec.proofs.pack_timer.Tie as tie
 
 pack-inst-requires : tie.Need-pack-inst-requires
 pack-inst-requires c κs = search needs

@@ -1,8 +1,8 @@
 -- Each number is its own remainder, and an array is the list of its elements.
-use Rattle.words.proofs.Laws.{chan}
+use Rattle.codec.proofs.Laws.{chan}
 use borrow.Author.Needs.{needs}
-use Rattle.words.proofs.pack_chan.Statement.{statement}
-use Rattle.words.proofs.pack_chan.Tie as tie
+use Rattle.codec.proofs.pack_chan.Statement.{statement}
+use Rattle.codec.proofs.pack_chan.Tie as tie
 
 array-read-t9 : tie.Need-array-read-t9
 array-read-t9 c = search needs

@@ -1,8 +1,8 @@
 -- Each number is its own remainder, and a step is at least one cycle.
-use Rattle.words.proofs.Laws.{count}
+use Rattle.codec.proofs.Laws.{count}
 use borrow.Author.Needs.{needs}
-use Rattle.words.proofs.pack_count.Statement.{statement}
-use Rattle.words.proofs.pack_count.Tie as tie
+use Rattle.codec.proofs.pack_count.Statement.{statement}
+use Rattle.codec.proofs.pack_count.Tie as tie
 
 cast-t2 : tie.Need-cast-t2
 cast-t2 c = search needs

@@ -1,8 +1,8 @@
 -- Each number is its own remainder.
-use Rattle.words.proofs.Laws.{regs}
+use Rattle.codec.proofs.Laws.{regs}
 use borrow.Author.Needs.{needs}
-use Rattle.words.proofs.pack_regs.Statement.{statement}
-use Rattle.words.proofs.pack_regs.Tie as tie
+use Rattle.codec.proofs.pack_regs.Statement.{statement}
+use Rattle.codec.proofs.pack_regs.Tie as tie
 
 cast-t2 : tie.Need-cast-t2
 cast-t2 c = search needs
