@@ -1,12 +1,12 @@
 -- A pin by value: what its configuration and its signal make it drive, and whether its level changed (sys.rs, refresh_pin and update_pin).
 use mathlib.Core.Bool.{Bool, true, false, cond, not, _&&_}
-use Prim.Native.Nat.{ℕ}
+use Prim.Native.Nat.{ℕ, _-_, _/_, _%_}
 use lib.Dec.{eqb}
 use lib.Ieee as Ieee
 use Rattle.pins.specs.declared.Pin.{Pin}
 use Rattle.pins.specs.declared.Mcu.{Mcu}
 use Rattle.pins.specs.declared.ExtDrive.{ExtDrive}
-use Rattle.pins.specs.Pins.{resolved}
+use Rattle.pins.specs.Pins.{resolved, supplyAt}
 use Rattle.words.specs.declared.Gpio.{Gpio}
 use Rattle.words.specs.declared.PinCfg.{PinCfg}
 use Rattle.sig.specs.Signal.{isInput}
@@ -98,6 +98,34 @@ updated i g vcc =
 -- the chip's side made anew, then resolved
 unfoldable pub refreshed : ℕ → Gpio → ℕ → Ieee.Float → Moved
 refreshed i g level vcc = updated i (withMcu g (sideOf g level)) vcc
+
+-- ---- a push-pull pin that its signal drives
+
+-- in alternate mode, and not open drain
+abbrev pub isPushPull : PinCfg → Bool
+isPushPull c = eqb (c .mode) alternateMode && not (c .«open_drain»)
+
+-- such a pin at the level of a signal that drives it, whatever is connected
+unfoldable pub pushPull : Gpio → ℕ → Ieee.Float → Gpio
+pushPull g l vcc = withPin g (record {
+  mcu = record {
+    dir = 1;
+    out = g .pin .mcu .out;
+    pullup = bit (g .cfg .pullup);
+    pulldown = bit (g .cfg .pulldown);
+    «ov_enable» = 1;
+    «ov_value» = l;
+    ddoe = 0;
+    ddov = 0;
+  };
+  ext = g .pin .ext;
+  level = l;
+  volts = supplyAt vcc l;
+})
+
+-- ---- a change as a number: 0 for none, else one more than 256 times the pin and the level
+unfoldable pub changeOf : ℕ → Change
+changeOf n = cond (eqb n 0) Same (Level ((n - 1) / 256 % 256) ((n - 1) % 256))
 
 -- another configuration and signal
 abbrev pub configured : Gpio → PinCfg → ℕ → Gpio

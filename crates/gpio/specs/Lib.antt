@@ -1,1 +1,2 @@
 pub mod Gpio
+pub mod Laws

@@ -93,7 +93,7 @@ pub fn signal_of(g: Gpio) -> u32
 }
 
 // A signal that drives its pin.
-fn drives(s: u32) -> bool
+pub fn drives(s: u32) -> bool
     requires { ⌜ s < 65536 ⌝ }
     ensures { λ r. ⌜ r ≡ G.drives s ⌝ }
 {
@@ -132,13 +132,35 @@ fn with_mcu(mut g: Gpio, m: Mcu) -> Gpio
     g
 }
 
-fn changed(i: u8, old: u8, new: u8) -> Change
+// The change of pin i from an old level to a new one.
+pub fn changed(i: u8, old: u8, new: u8) -> Change
     ensures { λ r. ⌜ r ≡ G.changed i old new ⌝ }
 {
     if new == old {
         return Change::Same;
     }
     Change::Level(i, new)
+}
+
+// A change as a number, 0 for none: a number is handed back in a register, an enum through memory.
+pub fn code_of(c: Change) -> u32
+    ensures { λ r. ⌜ G.changeOf r ≡ c ⌝ }
+{
+    match c {
+        Change::Same => 0,
+        Change::Level(p, l) => 1 + (p as u32 * 256 + l as u32),
+    }
+}
+
+// The change of such a number.
+pub fn change_of(code: u32) -> Change
+    ensures { λ r. ⌜ r ≡ G.changeOf code ⌝ }
+{
+    if code == 0 {
+        return Change::Same;
+    }
+    let k = code - 1;
+    Change::Level((k / 256 % 256) as u8, (k % 256) as u8)
 }
 
 // Re-resolves the level of pin i after any change of its inputs.
