@@ -2,6 +2,3 @@ pub mod Copies
 pub mod Places
 pub mod Stores
 mod Pieces
-pub mod Blank
-mod Unrouted
-mod First

@@ -11,8 +11,7 @@ use lib.ListN.{length, getD, set, take, drop, length-drop}
 use lib.Seq.{getD-set-same, getD-set-other, length-take-le, getD-take, getD-drop, paste, paste-zero, paste-suc, length-paste}
 use lib.Ieee.{Float, nan}
 use Rattle.tim.specs.declared.Timer.{Timer}
-use Rattle.tim.specs.Timer.{withRegs}
-use Rattle.words.specs.Codec.{instAt, regsAt, chanAt, countAt, decodeTimer}
+use Rattle.codec.specs.Codec.{instAt, regsAt, chanAt, countAt, decodeTimer}
 use Rattle.machine.specs.Board.{noTimer}
 use Rattle.state.specs.Board.{timerAt, withTimer, withInst}
 use Rattle.state.specs.Parts.{start, parts, blocks, map-set, map-at, parts-paste, piece-paste, length-part, length-blocks, length-block}
@@ -103,18 +102,6 @@ module _ (l b : List ℕ) (f t : ℕ) (p : length l ≡ 40) (q : length b ≡ 40
       ∙ getD-drop f b (k - f) 0
       ∙ ap (λ (z : ℕ). getD b z 0) e
 
--- words 7 up to 15 are the registers
-decode-regs : (l b : List ℕ) → length l ≡ 40 → length b ≡ 40 → decodeTimer (paste l 7 (slice 7 15 b) 8) ≡ withRegs (decodeTimer l) (decodeTimer b .regs)
-unfolding decodeTimer
-decode-regs l b p q =
-    let m : List ℕ = paste l 7 (slice 7 15 b) 8 in
-    let o : (k : ℕ) → ((j : ℕ) → j < 8 → k ≡ 7 + j → ⊥) → getD m k 0 ≡ getD l k 0 = outside l b 7 15 p q (lit≤ tt) (lit≤ tt) in
-    let i : instAt m 0 ≡ instAt l 0 = same-inst l m (λ k h. o k (λ j g e. omega arith)) in
-    let r : regsAt m 7 ≡ regsAt b 7 = same-regs b m (inside l b 7 15 p q (lit≤ tt) (lit≤ tt)) in
-    let c : chanAt m 15 ≡ chanAt l 15 = same-chan l m (λ k h u. o k (λ j g e. omega arith)) in
-    let n : countAt m 33 ≡ countAt l 33 = same-count l m (λ k h u. o k (λ j g e. omega arith)) in
-    rw (i, r, c, n)
-
 -- words 7 up to 39 are all but what set-up fixed
 decode-live : (l b : List ℕ) → length l ≡ 40 → length b ≡ 40 → decodeTimer (paste l 7 (slice 7 39 b) 32) ≡ withInst (decodeTimer b) (decodeTimer l .inst)
 unfolding decodeTimer
@@ -143,13 +130,6 @@ module _ (w : List ℕ) (x : List Float) (size : length w ≡ 5276) (i : ℕ) (h
   held : timerAt (view w x) i ≡ decodeTimer block
   unfolding view
   held = map-at decodeTimer (blocks 0 8 40 (getD (parts 0 sizes w) 0 [])) i [] noTimer (omega (arith, length-blocks 0 8 40 (getD (parts 0 sizes w) 0 [])))
-
-  pub regs-set : (b : List ℕ) (t : Timer) → length b ≡ 40 → decodeTimer b ≡ t
-      → view (paste w (0 + (i * 40 + 7)) (slice 7 15 b) (length (slice 7 15 b))) x ≡ withTimer (view w x) i (withRegs (timerAt (view w x) i) (t .regs))
-  regs-set b t l e =
-      piece-set 7 8 (slice 7 15 b) (lit≤ tt) (length-slice 7 15 b (omega arith))
-      ∙ ap (withTimer (view w x) i) (decode-regs block b (length-block 0 8 40 i (getD (parts 0 sizes w) 0 []) h) l
-      ∙ ap (λ (y : Timer). withRegs y (decodeTimer b .regs)) (sym held) ∙ ap (λ (y : Timer). withRegs (timerAt (view w x) i) (y .regs)) e)
 
   pub live-set : (b : List ℕ) (t : Timer) → length b ≡ 40 → decodeTimer b ≡ t
       → view (paste w (0 + (i * 40 + 7)) (slice 7 39 b) (length (slice 7 39 b))) x ≡ withTimer (view w x) i (withInst t (timerAt (view w x) i .inst))

@@ -1,12 +1,12 @@
 -- What the view has at a place, of the words and the reals there. Assumes nothing.
 use mathlib.Core.Path.{_≡_, refl, ap, sym, _∙_}
-use mathlib.Core.Bool.{Bool, true, false}
+use mathlib.Core.Bool.{Bool, true, false, not, _&&_}
 use mathlib.Core.List.{List, [], _∷_, map}
 use Prim.Native.Nat.{ℕ, zero, suc, _+_, _*_, _%_, _<_, _≤_, min}
 use native.Mathlib.Nat.{add-zero, add-assoc}
 use native.Mathlib.Omega.{arith}
-use borrow.Author.Tests.{lt-ltb, ltb-true, ltb-false}
-use lib.Dec.{ltb, lit≤}
+use borrow.Author.Tests.{lt-ltb, ltb-true, ltb-false, eq-eqb, ne-eqb, eqb-true, eqb-false}
+use lib.Dec.{ltb, eqb, lit≤}
 use lib.ListN.{length, getD, drop, List·getD-map}
 use lib.Seq.{getD-drop, getD-set-same}
 use lib.Ieee.{Float, nan}
@@ -14,10 +14,12 @@ use Rattle.nvic.specs.Nvic.{lineOf, lineAt}
 use Rattle.nvic.proofs.Laws.{word-at}
 use Rattle.scheduler.specs.Booking.{book}
 use Rattle.words.specs.declared.Gpio.{Gpio}
-use Rattle.words.specs.Codec.{decodeTimer, decodeGpio}
+use Rattle.codec.specs.Codec.{decodeTimer}
+use Rattle.words.specs.Codec.{decodeGpio}
 use Rattle.state.specs.Board.{timerAt, gpioAt, routeAt, sigLevelAt, enrAt, bookedAt}
 use Rattle.state.specs.Parts.{getD-any, start, front, parts, blocks, map-at, front-at, length-front, part-at, part-front, part-block, length-part, length-blocks}
 use Rattle.state.specs.Bounded.{bounded}
+use Rattle.gpio.specs.Gpio.{isPushPull}
 use Rattle.machine.specs.Board.{noTimer, noGpio}
 use Rattle.state.specs.View.{sizes, realSizes, view, gpiosOf, pinOf, levelOf, signalOf, enableOf, dividerOf}
 
@@ -28,6 +30,13 @@ gpios-at [] rs p d h = absurd (omega arith)
 gpios-at (b ∷ bs) rs zero d h = refl
 gpios-at (b ∷ bs) [] (suc p) d h = gpios-at bs [] p d (omega arith)
 gpios-at (b ∷ bs) (r ∷ rs) (suc p) d h = gpios-at bs rs p d (omega arith)
+
+no-flag : (n : ℕ) → not (eqb (n % 2) 1) ≡ eqb (n % 2) 0
+no-flag n = go (eqb (n % 2) 1) refl
+  where
+    go : (b : Bool) → eqb (n % 2) 1 ≡ b → not b ≡ eqb (n % 2) 0
+    go true e = sym (ne-eqb (n % 2) 0 (λ z. omega (arith, eqb-true (n % 2) 1 e)))
+    go false e = sym (eq-eqb (n % 2) 0 (omega (arith, eqb-false (n % 2) 1 e)))
 
 module _ (w : List ℕ) (x : List Float) where
   -- a mapped part's element
@@ -134,6 +143,34 @@ module _ (w : List ℕ) (x : List Float) where
       let v : getD (getD rs p []) 0 nan ≡ getD x (0 + p * 2) nan = real 0 (lit≤ tt) ∙ ap (λ (k : ℕ). getD x k nan) (add-zero (0 + p * 2)) in
       let u : getD (getD rs p []) 1 nan ≡ getD x (0 + (p * 2 + 1)) nan = real 1 (lit≤ tt) ∙ ap (λ (k : ℕ). getD x k nan) (add-assoc 0 (p * 2) 1) in
       gpios-at bs rs p noGpio (omega (arith, length-blocks 0 128 16 (getD (parts 0 sizes w) 9 []))) ∙ rw (e, v, u)
+
+  -- word k of a pin
+  pub gpio-word : (p k : ℕ) → k < 16 → getD (front 0 16 (drop (1116 + p * 16) w)) k 0 ≡ getD w (1116 + (p * 16 + k)) 0
+  gpio-word p k h = front-at 0 16 (drop (1116 + p * 16) w) k h ∙ getD-drop (1116 + p * 16) w k 0 ∙ ap (λ (n : ℕ). getD w n 0) (add-assoc 1116 (p * 16) k)
+
+  module _ (p : ℕ) (h : p < 128) where
+    pub pin-level : gpioAt (view w x) p .pin .level ≡ getD w (1116 + (p * 16 + 14)) 0 % 256
+    unfolding decodeGpio
+    pin-level = ap (λ (g : Gpio). g .pin .level) (gpio-read p h) ∙ ap (λ (n : ℕ). n % 256) (gpio-word p 14 (lit≤ tt))
+
+    pub pin-signal : gpioAt (view w x) p .sig ≡ getD w (1116 + (p * 16 + 15)) 0 % 256
+    unfolding decodeGpio
+    pin-signal = ap (λ (g : Gpio). g .sig) (gpio-read p h) ∙ ap (λ (n : ℕ). n % 256) (gpio-word p 15 (lit≤ tt))
+
+    pin-mode : gpioAt (view w x) p .cfg .mode ≡ getD w (1116 + p * 16) 0 % 256
+    unfolding decodeGpio
+    pin-mode = ap (λ (g : Gpio). g .cfg .mode) (gpio-read p h) ∙ ap (λ (n : ℕ). n % 256) (gpio-word p 0 (lit≤ tt)) ∙ ap (λ (n : ℕ). getD w (1116 + n) 0 % 256) (add-zero (p * 16))
+
+    pin-drain : gpioAt (view w x) p .cfg .«open_drain» ≡ eqb (getD w (1116 + (p * 16 + 1)) 0 % 2) 1
+    unfolding decodeGpio
+    pin-drain = ap (λ (g : Gpio). g .cfg .«open_drain») (gpio-read p h) ∙ ap (λ (n : ℕ). eqb (n % 2) 1) (gpio-word p 1 (lit≤ tt))
+
+    -- the two tests of a push-pull pin
+    pub push-pull : getD w (1116 + p * 16) 0 % 256 ≡ 2 → isPushPull (gpioAt (view w x) p .cfg) ≡ eqb (getD w (1116 + (p * 16 + 1)) 0 % 2) 0
+    push-pull e = rw (pin-mode ∙ e, pin-drain) (no-flag (getD w (1116 + (p * 16 + 1)) 0))
+
+    pub not-push-pull : (getD w (1116 + p * 16) 0 % 256 ≡ 2 → ⊥) → isPushPull (gpioAt (view w x) p .cfg) ≡ false
+    not-push-pull n = rw (pin-mode, ne-eqb (getD w (1116 + p * 16) 0 % 256) 2 n)
 
   -- a line that there is
   pub line-read : (irq : ℕ) → irq < view w x .nvic .nirq → lineAt (view w x .nvic) irq ≡ lineOf (getD w (860 + irq) 0)

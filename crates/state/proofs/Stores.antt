@@ -15,13 +15,14 @@ use Rattle.nvic.specs.declared.Line.{Line}
 use Rattle.nvic.specs.Nvic.{lineOf, onLine}
 use Rattle.nvic.proofs.Laws.{stored, no-line}
 use Rattle.words.specs.declared.Gpio.{Gpio}
-use Rattle.words.specs.Codec.{decodeTimer, decodeGpio}
+use Rattle.codec.specs.Codec.{decodeTimer}
+use Rattle.words.specs.Codec.{decodeGpio}
 use Rattle.state.specs.Board.{Divider, Divided, withTimer, withRoute, withSigLevel, withAfAt, withEnr, withBooking, withNvic, withLast, withSizes, withVcc, withTree, withClock, withGpios, withGpio}
 use Rattle.state.specs.Parts.{start, parts, blocks, set-pair, map-set, parts-set, parts-pair, parts-paste, paste-all, block-paste, block-pair, length-part, length-blocks, part-at}
 use Rattle.state.specs.Bounded.{bounded}
 use Rattle.state.specs.View.{sizes, realSizes, view, boardOf, gpiosOf, treeOf, dividerOf}
 
-gpios-set : (bs : List (List ℕ)) (rs : List (List Float)) (p : ℕ) (b : List ℕ) (r : List Float) → p < length bs → p < length rs
+pub gpios-set : (bs : List (List ℕ)) (rs : List (List Float)) (p : ℕ) (b : List ℕ) (r : List Float) → p < length bs → p < length rs
     → gpiosOf (set bs p b) (set rs p r) ≡ set (gpiosOf bs rs) p (decodeGpio b (getD r 0 nan) (getD r 1 nan))
 unfolding gpiosOf
 gpios-set [] rs p b r h g = absurd (omega arith)

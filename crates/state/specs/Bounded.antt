@@ -7,8 +7,10 @@ use lib.ListN.{length, getD, drop, length-map}
 use lib.Ieee.{Float, nan}
 use Rattle.tim.specs.Timer.{Fit}
 use Rattle.nvic.specs.Nvic.{lineOf}
-use Rattle.words.specs.Codec.{decodeTimer, decodeGpio}
-use Rattle.words.specs.Bounds.{timer-fit, gpio-sig}
+use Rattle.codec.specs.Codec.{decodeTimer}
+use Rattle.words.specs.Codec.{decodeGpio}
+use Rattle.codec.specs.Bounds.{timer-fit}
+use Rattle.words.specs.Bounds.{gpio-sig}
 use Rattle.machine.specs.Board.{Board, noTimer, noGpio}
 use Rattle.state.specs.Board.{Divided, timerAt, gpioAt, routeAt, sigLevelAt, enrAt}
 use Rattle.state.specs.Parts.{parts, blocks, map-all, length-part, length-blocks}

@@ -2,4 +2,3 @@ pub mod Board
 pub mod Parts
 pub mod View
 pub mod Bounded
-pub mod Fresh

@@ -5,23 +5,18 @@ ghost use Prim.Native.Nat.{ℕ, _+_, _*_, _%_, _<_, _≤_, min};
 ghost use lib.ListN.{length, drop};
 ghost use lib.Seq.{paste};
 ghost use lib.Ieee.{Float};
-ghost use Rattle.tim.specs.Timer.{Fit, withRegs};
+ghost use Rattle.tim.specs.Timer.{Fit};
 ghost use Rattle.nvic.specs.Nvic.{setLine, clearPending, lineAt, stateOf};
 ghost use Rattle.scheduler.specs.Booking.{least};
-ghost use Rattle.state.specs.Board.{Divided, timerAt, gpioAt, routeAt, sigLevelAt, afAt, enrAt, bookedAt, withTimer, withInst, withGpio, withAfAt, withRoute, withSigLevel, withBooking, withNvic, withPads, withTree, withClock, withEnr, withLast, withSizes, withVcc};
-ghost use Rattle.state.specs.Parts.{front, parts, listed, repeated};
-ghost use Rattle.state.specs.View.{sizes, view, dividerOf, treeOf};
-ghost use Rattle.machine.specs.Board.{freshBoard};
-ghost use Rattle.state.specs.Fresh.{blankParts};
-ghost use Rattle.machine.specs.Sys.{unrouted};
-ghost use Rattle.real.specs.Real.{zeroFloat};
-ghost use Rattle.sig.specs.Signal.{idleLevel};
+ghost use Rattle.state.specs.Board.{Divided, timerAt, gpioAt, routeAt, sigLevelAt, afAt, enrAt, bookedAt, withTimer, withInst, withGpio, withAfAt, withRoute, withSigLevel, withBooking, withNvic, withTree, withClock, withEnr, withLast, withSizes};
+ghost use Rattle.state.specs.Parts.{front};
+ghost use Rattle.state.specs.View.{view, dividerOf, treeOf};
 use clk::ClockTree;
 use pins::ClockModel;
 use tim::Timer;
 use words::Gpio;
 
-// ---- the layout, private to this crate
+// ---- the layout: this crate's, and of fields, levels and blank, which store words of it
 
 // 8 timers of 40 words.
 const TIMERS: usize = 0;
@@ -43,18 +38,18 @@ const SEG_CYCLE: usize = 330;
 const ENR: usize = 331;
 
 // 8 booked cycles.
-const BOOKING: usize = 340;
+pub const BOOKING: usize = 340;
 
 // 256 signals: the pin that routes it, and the level that it wants.
-const ROUTE: usize = 348;
+pub const ROUTE: usize = 348;
 
-const SIG_LEVEL: usize = 604;
+pub const SIG_LEVEL: usize = 604;
 
 // 256 interrupt lines.
 const LINES: usize = 860;
 
 // 128 pins of 16 words.
-const GPIO: usize = 1116;
+pub const GPIO: usize = 1116;
 
 // The signal table of 128 pins by 16 functions.
 const AF: usize = 3164;
@@ -65,9 +60,9 @@ const SPARE: usize = 5212;
 pub const WORDS: usize = 5276;
 
 // Of 128 pins the volts and the volts of the analogue drive.
-const GPIO_REALS: usize = 0;
+pub const GPIO_REALS: usize = 0;
 
-const VCC: usize = 256;
+pub const VCC: usize = 256;
 
 const SYSCLK_HZ: usize = 257;
 
@@ -134,8 +129,8 @@ pub fn load_timer(words: &[u64; WORDS], i: usize) -> Timer
     ensures { λ r. ⌜ ((x : List Float) → r ≡ timerAt (view (now (words .entry)) x) i) ⌝ }
 {
     let mut b = [0u64; 40];
-    get(words, TIMERS + i * words::TIMER_WORDS, &mut b);
-    words::unpack_timer(b)
+    get(words, TIMERS + i * codec::TIMER_WORDS, &mut b);
+    codec::unpack_timer(b)
 }
 
 pub fn store_timer(words: &mut [u64; WORDS], i: usize, t: Timer)
@@ -143,18 +138,8 @@ pub fn store_timer(words: &mut [u64; WORDS], i: usize, t: Timer)
     ensures { λ _. ⌜ ((x : List Float) → view (now (words .exit)) x ≡ withTimer (view (now (words .entry)) x) i t) ⌝ }
 {
     sized(words);
-    let b = words::pack_timer(t);
-    put(words, TIMERS + i * words::TIMER_WORDS, &b);
-}
-
-// Stores the registers of timer i alone.
-pub fn store_regs(words: &mut [u64; WORDS], i: usize, t: Timer)
-    requires { ⌜ (i < 8) × (Fit t) ⌝ }
-    ensures { λ _. ⌜ ((x : List Float) → view (now (words .exit)) x ≡ withTimer (view (now (words .entry)) x) i (withRegs (timerAt (view (now (words .entry)) x) i) (t .regs))) ⌝ }
-{
-    sized(words);
-    let b = words::pack_timer(t);
-    put(words, TIMERS + (i * words::TIMER_WORDS + 7), &b[7..15]);
+    let b = codec::pack_timer(t);
+    put(words, TIMERS + i * codec::TIMER_WORDS, &b);
 }
 
 // Stores timer i but for what set-up fixed.
@@ -163,8 +148,8 @@ pub fn store_live(words: &mut [u64; WORDS], i: usize, t: Timer)
     ensures { λ _. ⌜ ((x : List Float) → view (now (words .exit)) x ≡ withTimer (view (now (words .entry)) x) i (withInst t (timerAt (view (now (words .entry)) x) i .inst))) ⌝ }
 {
     sized(words);
-    let b = words::pack_timer(t);
-    put(words, TIMERS + (i * words::TIMER_WORDS + 7), &b[7..39]);
+    let b = codec::pack_timer(t);
+    put(words, TIMERS + (i * codec::TIMER_WORDS + 7), &b[7..39]);
 }
 
 // ---- pins
@@ -454,82 +439,6 @@ pub fn set_last(words: &mut [u64; WORDS], cycle: u64)
 {
     sized(words);
     words[LAST] = cycle;
-}
-
-// ---- the board before set-up
-
-// n words from `at` on take the value v.
-fn fill(words: &mut [u64; WORDS], at: usize, n: usize, v: u64)
-    requires { ⌜ at + n ≤ 5276 ⌝ }
-    ensures { λ _. ⌜ now (words .exit) ≡ paste (now (words .entry)) at (repeated n v) n ⌝ }
-{
-    sized(words);
-    let mut j = 0;
-    while j < n {
-        words[at + j] = v;
-        j += 1;
-    }
-}
-
-// Every signal at its idle level.
-fn idle_levels(words: &mut [u64; WORDS])
-    ensures { λ _. ⌜ now (words .exit) ≡ paste (now (words .entry)) 604 (listed idleLevel 0 256) 256 ⌝ }
-{
-    sized(words);
-    let mut s = 0;
-    while s < 256 {
-        words[SIG_LEVEL + s] = sig::idle_level(s as u16) as u64;
-        s += 1;
-    }
-}
-
-// No signal has a pin, and every signal is at its idle level.
-pub fn unroute(words: &mut [u64; WORDS])
-    ensures { λ _. ⌜ ((x : List Float) → view (now (words .exit)) x ≡ withPads (view (now (words .entry)) x) (unrouted (view (now (words .entry)) x .pads))) ⌝ }
-{
-    sized(words);
-    fill(words, ROUTE, 256, 128);
-    idle_levels(words);
-}
-
-fn zero_reals(reals: &mut [f64; REALS])
-    ensures { λ _. ⌜ now (reals .exit) ≡ paste (now (reals .entry)) 0 (repeated 264 zeroFloat) 264 ⌝ }
-{
-    sized_reals(reals);
-    let mut j = 0;
-    while j < REALS {
-        reals[j] = 0.0;
-        j += 1;
-    }
-}
-
-fn set_vcc(reals: &mut [f64; REALS], v: f64)
-    ensures { λ _. ⌜ ((w : List ℕ) → view w (now (reals .exit)) ≡ withVcc (view w (now (reals .entry))) v) ⌝ }
-{
-    sized_reals(reals);
-    reals[VCC] = v;
-}
-
-fn clear_words(words: &mut [u64; WORDS])
-    ensures { λ _. ⌜ parts 0 sizes (now (words .exit)) ≡ blankParts ⌝ }
-{
-    sized(words);
-    fill(words, 0, WORDS, 0);
-    fill(words, BOOKING, 8, scheduler::NEVER);
-    fill(words, ROUTE, 256, 128);
-    idle_levels(words);
-}
-
-// The board at a frequency and a supply, as after set-up but with no timers, pins or lines. At 1 Hz and 1 volt it is the first board.
-pub fn clear(words: &mut [u64; WORDS], reals: &mut [f64; REALS], hz: f64, vcc: f64)
-    ensures { λ _. ⌜ view (now (words .exit)) (now (reals .exit)) ≡ freshBoard hz vcc 0 0 [] [] ⌝ }
-{
-    sized_reals(reals);
-    clear_words(words);
-    zero_reals(reals);
-    set_vcc(reals, vcc);
-    set_tree(words, reals, ClockTree::flat(hz));
-    set_clock(words, reals, ClockModel::new(hz));
 }
 
 fn lesser(a: u64, b: u64) -> u64

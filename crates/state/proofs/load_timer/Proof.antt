@@ -1,6 +1,6 @@
 -- The block of words, decoded.
 use Rattle.state.proofs.Places.{timer-read}
-use Rattle.words.specs.Codec.{decodeTimer}
+use Rattle.codec.specs.Codec.{decodeTimer}
 use borrow.Author.Needs.{needs}
 use mathlib.Core.Path.{_∙_, ap, sym}
 use Rattle.state.proofs.load_timer.Statement.{statement}

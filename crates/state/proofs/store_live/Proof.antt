@@ -7,7 +7,7 @@ use Rattle.state.proofs.store_live.Reads as reads
 use Rattle.state.proofs.store_live.Lts as lts
 use Rattle.state.proofs.put.Reads as put-reads
 use Rattle.state.proofs.sized.Reads as sized-reads
-use Rattle.words.proofs.pack_timer.Reads as pack-timer-reads
+use Rattle.codec.proofs.pack_timer.Reads as pack-timer-reads
 
 -- src/lib.rt:156:5
 sized-requires : tie.Need-sized-requires

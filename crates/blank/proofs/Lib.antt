@@ -1,0 +1,3 @@
+mod Blank
+mod Unrouted
+mod First
