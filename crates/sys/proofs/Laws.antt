@@ -7,6 +7,8 @@ use native.Mathlib.Omega.{arith}
 use mathlib.Core.List.{_++_}
 use lib.Dec.{eqb}
 use lib.Ieee.{Float}
+use lib.ListN.{length}
+use lib.Seq.{getD-set-same}
 use borrow.Author.Tests.{eq-eqb, ne-eqb, lt-ltb, le-ltb, lt-leb, le-leb}
 use Rattle.tim.specs.declared.Timer.{Timer}
 use Rattle.tim.specs.Change.{output}
@@ -17,14 +19,15 @@ use Rattle.words.specs.declared.PinCfg.{PinCfg}
 use Rattle.gpio.specs.declared.Change.{Change}
 use Rattle.gpio.specs.declared.Change.the-variants.{Same}
 use Rattle.gpio.specs.declared.Moved.{Moved}
-use Rattle.gpio.specs.Gpio.{signalOf, updated, refreshed, configured, connected, bit}
+use Rattle.gpio.specs.Gpio.{signalOf, drives, changed, updated, refreshed, isPushPull, pushPull, changeOf, configured, connected, bit}
+use Rattle.gpio.specs.Laws.{level-change, own-signal, signal-wins}
 use Rattle.book.specs.declared.Changes.{Changes}
-use Rattle.machine.specs.Board.{Board, Pads, gpioAt, routeOf, levelOf, withPads, withGpio, withSigLevel, noPin}
+use Rattle.machine.specs.Board.{Board, Pads, gpioAt, routeOf, levelOf, withPads, withGpio, withSigLevel, noPin, noGpio}
 use Rattle.machine.specs.Sys.{Move, Drive, updatePin, refreshPin, leave, take, selected, selectAf, setPin, drivePin, sigOut, driver, driveChannel, fourChannels, noChanges, driveOutputs, unrouted, resetPin, Resets, resetFrom, resetPins}
 use Rattle.machine.specs.Step.{changesOf}
-use Rattle.book.specs.Book.{Book, puts, entryOf}
+use Rattle.book.specs.Book.{Book, puts, entryOf, entriesOf}
 use Rattle.book.specs.Laws.{puts-append}
-use Rattle.sys.specs.Moves.{Moves, Drives, Reset, levelDriven, fourDriven, levelsDriven}
+use Rattle.sys.specs.Moves.{Moves, Reset}
 
 module _ (b b₁ : Board) (i : ℕ) (g : Gpio) (v : Float) (m : Moved) (load : g ≡ gpioAt (b .pads) i) (supply : v ≡ b .pads .vcc)
     (store : b₁ ≡ withPads b (withGpio (b .pads) i (m .gpio))) where
@@ -35,14 +38,44 @@ module _ (b b₁ : Board) (i : ℕ) (g : Gpio) (v : Float) (m : Moved) (load : g
   unfolding updatePin
   update-moves h = moved (updated i (gpioAt (b .pads) i) (b .pads .vcc)) (h ∙ ap (λ (x : Gpio). updated i x v) load ∙ ap (updated i (gpioAt (b .pads) i)) supply) _ refl
 
-  pub refresh-moves : (s l : ℕ) → s ≡ signalOf g → l ≡ levelOf (b .pads) s → m ≡ refreshed i g l v → Moves (refreshPin (b .pads) i) b b₁ (m .change)
+  pub refresh-sets : (s l : ℕ) → s ≡ signalOf g → l ≡ levelOf (b .pads) s → m ≡ refreshed i g l v → b₁ ≡ withPads b (refreshPin (b .pads) i .pads)
   unfolding refreshPin
-  refresh-moves s l q r h =
+  refresh-sets s l q r h =
       moved (refreshed i (gpioAt (b .pads) i) (levelOf (b .pads) (signalOf (gpioAt (b .pads) i))) (b .pads .vcc))
       (h ∙ ap (λ (x : ℕ). refreshed i g x v) (r ∙ ap (levelOf (b .pads)) q)
       ∙ ap (λ (x : Gpio). refreshed i x (levelOf (b .pads) (signalOf x)) v) load
       ∙ ap (refreshed i (gpioAt (b .pads) i) (levelOf (b .pads) (signalOf (gpioAt (b .pads) i)))) supply)
-      _ refl
+      (refreshPin (b .pads) i) refl .board
+
+-- ---- a pin refreshed
+module _ (b b₁ : Board) (i : ℕ) where
+  -- a push-pull pin that its signal drives
+  pub push-sets : (s l : ℕ) → isPushPull (gpioAt (b .pads) i .cfg) ≡ true → s ≡ gpioAt (b .pads) i .sig → drives s ≡ true → l ≡ levelOf (b .pads) s
+      → b₁ ≡ withPads b (withGpio (b .pads) i (pushPull (gpioAt (b .pads) i) l (b .pads .vcc))) → b₁ ≡ withPads b (refreshPin (b .pads) i .pads)
+  unfolding refreshPin
+  push-sets s l h q d r e =
+      let g : Gpio = gpioAt (b .pads) i in
+      let v : Float = b .pads .vcc in
+      let own : levelOf (b .pads) (signalOf g) ≡ l = ap (levelOf (b .pads)) (own-signal g h ∙ sym q) ∙ sym r in
+      let same : refreshed i g (levelOf (b .pads) (signalOf g)) v .gpio ≡ pushPull g l v =
+      ap (λ (n : ℕ). refreshed i g n v .gpio) own ∙ signal-wins g h (ap drives (sym q) ∙ d) i l v in
+      e ∙ ap (λ (x : Gpio). withPads b (withGpio (b .pads) i x)) (sym same)
+
+  -- its change, from its level before and after
+  pub refresh-moves : i < length (b .pads .gpio) → b₁ ≡ withPads b (refreshPin (b .pads) i .pads)
+      → (was now : ℕ) → was ≡ gpioAt (b .pads) i .pin .level → now ≡ gpioAt (b₁ .pads) i .pin .level
+      → (r : Change) → r ≡ changed i was now → Moves (refreshPin (b .pads) i) b b₁ r
+  unfolding refreshPin
+  refresh-moves h e was now p q r c =
+      let g : Gpio = gpioAt (b .pads) i in
+      let m : Moved = refreshed i g (levelOf (b .pads) (signalOf g)) (b .pads .vcc) in
+      let new : now ≡ m .gpio .pin .level =
+      q ∙ ap (λ (y : Board). gpioAt (y .pads) i .pin .level) e
+      ∙ ap (λ (x : Gpio). x .pin .level) (getD-set-same (b .pads .gpio) i (m .gpio) noGpio h) in
+      record {
+        board = e;
+        change = c ∙ ap (λ (n : ℕ). changed i n now) p ∙ ap (changed i (g .pin .level)) new ∙ sym (level-change i g (levelOf (b .pads) (signalOf g)) (b .pads .vcc));
+      }
 
 -- ---- a pin configured, and its routes
 pub select-sets : (b b₁ b₂ b₃ : Board) (i : ℕ) (g g₁ : Gpio) (c : PinCfg) (f new : ℕ)
@@ -66,6 +99,10 @@ then-moves b b₁ b₂ p f r e m = record {
   change = m .change ∙ ap (λ (y : Board). f (y .pads) .change) e;
 }
 
+-- the change as another call told it
+pub told : (m : Move) (b b₁ : Board) (c r : Change) → r ≡ c → Moves m b b₁ c → Moves m b b₁ r
+told m b b₁ c r e h = record { board = h .board; change = e ∙ h .change }
+
 -- ---- a signal
 module _ (b : Board) (s l : ℕ) where
   pub sig-same : levelOf (b .pads) s ≡ l → Moves (sigOut (b .pads) s l) b b Same
@@ -86,70 +123,6 @@ module _ (b : Board) (s l : ℕ) where
     sig-pin p q k b₂ r m =
         simp (ne-eqb (levelOf (b .pads) s) l n, ne-eqb (routeOf (b .pads) s) 128 (λ z. k (q ∙ routed ∙ z)), ← (q ∙ routed))
         (then-moves b b₁ b₂ (withSigLevel (b .pads) s l) (λ (x : Pads). refreshPin x p) r e m)
-
--- ---- a timer's channels
-pub channel-drives : (b b₁ : Board) (channels ch s k : ℕ) (l : Bool) (r : Change) → ch < channels → k ≡ bit l
-    → Moves (sigOut (b .pads) s k) b b₁ r → Moves (levelDriven channels ch s l (b .pads)) b b₁ r
-unfolding levelDriven
-channel-drives b b₁ channels ch s k l r h q m = simp (lt-ltb ch channels h, ← q) m
-
-pub channel-still : (b : Board) (channels ch s : ℕ) (l : Bool) → channels ≤ ch → Moves (levelDriven channels ch s l (b .pads)) b b Same
-unfolding levelDriven
-channel-still b channels ch s l h = simp (le-ltb ch channels h) (record { board = refl; change = refl })
-
--- a signal's number that a call gave
-pub at-signal : (b b₁ : Board) (channels ch s s₁ : ℕ) (l : Bool) (r : Change) → s ≡ s₁
-    → Moves (levelDriven channels ch s l (b .pads)) b b₁ r → Moves (levelDriven channels ch s₁ l (b .pads)) b b₁ r
-at-signal b b₁ channels ch s s₁ l r e m = subst (λ (n : ℕ). Moves (levelDriven channels ch n l (b .pads)) b b₁ r) e m
-
-pub four : (b b₁ b₂ b₃ b₄ : Board) (n k : ℕ) (l l₁ l₂ l₃ : Bool) (a₀ a₁ a₂ a₃ : Change)
-    → Moves (levelDriven k 0 (timSignal n 0) l (b .pads)) b b₁ a₀ → Moves (levelDriven k 1 (timSignal n 1) l₁ (b₁ .pads)) b₁ b₂ a₁
-    → Moves (levelDriven k 2 (timSignal n 2) l₂ (b₂ .pads)) b₂ b₃ a₂ → Moves (levelDriven k 3 (timSignal n 3) l₃ (b₃ .pads)) b₃ b₄ a₃
-    → Drives (fourDriven n k l l₁ l₂ l₃ (b .pads)) b b₄ (record { a = a₀; b = a₁; c = a₂; d = a₃ })
-four b b₁ b₂ b₃ b₄ n k l l₁ l₂ l₃ a₀ a₁ a₂ a₃ m₀ m₁ m₂ m₃ =
-    let f₁ = levelDriven k 1 (timSignal n 1) l₁ in
-    let f₂ = levelDriven k 2 (timSignal n 2) l₂ in
-    let f₃ = levelDriven k 3 (timSignal n 3) l₃ in
-    let p₁ = levelDriven k 0 (timSignal n 0) l (b .pads) .pads in
-    let p₂ = f₁ p₁ .pads in
-    let p₃ = f₂ p₂ .pads in
-    let x₂ : Moves (f₁ p₁) b b₂ a₁ = then-moves b b₁ b₂ p₁ f₁ a₁ (m₀ .board) m₁ in
-    let x₃ : Moves (f₂ p₂) b b₃ a₂ = then-moves b b₂ b₃ p₂ f₂ a₂ (x₂ .board) m₂ in
-    let x₄ : Moves (f₃ p₃) b b₄ a₃ = then-moves b b₃ b₄ p₃ f₃ a₃ (x₃ .board) m₃ in
-    record { board = x₄ .board; changes = rw (m₀ .change, x₂ .change, x₃ .change, x₄ .change) }
-
-pub levels-drive : (b b₁ : Board) (n k : ℕ) (l l₁ l₂ l₃ : Bool) (r : Changes) → 2 ≤ n → n ≤ 4
-    → Drives (fourDriven n k l l₁ l₂ l₃ (b .pads)) b b₁ r → Drives (levelsDriven n k l l₁ l₂ l₃ (b .pads)) b b₁ r
-unfolding levelsDriven
-levels-drive b b₁ n k l l₁ l₂ l₃ r h j m = simp (le-leb 2 n h, le-leb n 4 j) m
-
-pub levels-still : (b : Board) (n k : ℕ) (l l₁ l₂ l₃ : Bool) (r : Changes) → driver n ≡ false → r ≡ noChanges
-    → Drives (levelsDriven n k l l₁ l₂ l₃ (b .pads)) b b r
-unfolding levelsDriven
-levels-still b n k l l₁ l₂ l₃ r h j = simp h (record { board = refl; changes = j })
-
--- the levels that a timer's outputs have at a count
-same-outputs : (t : Timer) (cnt : ℕ) (p : Pads)
-    → levelsDriven (t .inst .n) (t .inst .channels) (output t 0 cnt) (output t 1 cnt) (output t 2 cnt) (output t 3 cnt) p ≡ driveOutputs t cnt p
-unfolding levelsDriven levelDriven driveOutputs driveChannel
-same-outputs t cnt p = refl
-
-pub outputs-drive : (b b₁ : Board) (t : Timer) (cnt : ℕ) (l l₁ l₂ l₃ : Bool) (r : Changes)
-    → l ≡ output t 0 cnt → l₁ ≡ output t 1 cnt → l₂ ≡ output t 2 cnt → l₃ ≡ output t 3 cnt
-    → Drives (levelsDriven (t .inst .n) (t .inst .channels) l l₁ l₂ l₃ (b .pads)) b b₁ r → Drives (driveOutputs t cnt (b .pads)) b b₁ r
-outputs-drive b b₁ t cnt l l₁ l₂ l₃ r e e₁ e₂ e₃ m =
-    let f = levelsDriven (t .inst .n) (t .inst .channels) in
-    let q : f l l₁ l₂ l₃ (b .pads) ≡ driveOutputs t cnt (b .pads) =
-    ap (λ (x : Bool). f x l₁ l₂ l₃ (b .pads)) e ∙ ap (λ (x : Bool). f (output t 0 cnt) x l₂ l₃ (b .pads)) e₁
-    ∙ ap (λ (x : Bool). f (output t 0 cnt) (output t 1 cnt) x l₃ (b .pads)) e₂
-    ∙ ap (λ (x : Bool). f (output t 0 cnt) (output t 1 cnt) (output t 2 cnt) x (b .pads)) e₃ ∙ same-outputs t cnt (b .pads) in
-    subst (λ (d : Drive). Drives d b b₁ r) q m
-
-pub below-two : (n : ℕ) → n < 2 → driver n ≡ false
-below-two n h = rw (lt-leb 2 n h)
-
-pub above-four : (n : ℕ) → 2 ≤ n → 4 < n → driver n ≡ false
-above-four n h k = rw (le-leb 2 n h, lt-leb n 4 k)
 
 -- ---- the pin reset
 

@@ -1,13 +1,8 @@
 -- What a function over the lent state leaves: the board that a definition gives, and its level changes.
 use mathlib.Core.Path.{_≡_}
-use mathlib.Core.Bool.{Bool, cond}
-use lib.Dec.{ltb}
-use Rattle.sig.specs.Signal.{timSignal}
-use Rattle.gpio.specs.Gpio.{bit}
 use Rattle.gpio.specs.declared.Change.{Change}
-use Rattle.book.specs.declared.Changes.{Changes}
-use Rattle.machine.specs.Board.{Board, Pads, withPads}
-use Rattle.machine.specs.Sys.{Move, Drive, still, sigOut, driver, noChanges, resetPins}
+use Rattle.machine.specs.Board.{Board, withPads}
+use Rattle.machine.specs.Sys.{Move, resetPins}
 use Rattle.machine.specs.Step.{changesOf}
 use Rattle.book.specs.Book.{Book, puts}
 use Prim.Native.Nat.{ℕ}
@@ -17,28 +12,7 @@ pub record Moves (m : Move) (b b₁ : Board) (r : Change) : Type 0 where
   pub board : b₁ ≡ withPads b (m .pads)
   pub change : r ≡ m .change
 
--- a timer's four channels'
-pub record Drives (d : Drive) (b b₁ : Board) (r : Changes) : Type 0 where
-  pub board : b₁ ≡ withPads b (d .pads)
-  pub changes : r ≡ d .changes
-
 -- every pin's, put into a book at a cycle
 pub record Reset (b b₁ : Board) (cycle : ℕ) (k k₁ : Book) : Type 0 where
   pub board : b₁ ≡ withPads b (resetPins (b .pads) (b .counts .pins) .pads)
   pub entries : k₁ ≡ puts k (changesOf cycle (resetPins (b .pads) (b .counts .pins) .changes))
-
--- machine's driveOutputs with the four levels as numbers: signal s of channel ch at a level, if the timer has the channel
-unfoldable pub levelDriven : ℕ → ℕ → ℕ → Bool → Pads → Move
-levelDriven channels ch s l p = cond (ltb ch channels) (sigOut p s (bit l)) (still p)
-
--- the four channels of timer n, one after the other
-abbrev pub fourDriven : ℕ → ℕ → Bool → Bool → Bool → Bool → Pads → Drive
-fourDriven n channels l l₁ l₂ l₃ p =
-    let a = levelDriven channels 0 (timSignal n 0) l p in
-    let b = levelDriven channels 1 (timSignal n 1) l₁ (a .pads) in
-    let c = levelDriven channels 2 (timSignal n 2) l₂ (b .pads) in
-    let d = levelDriven channels 3 (timSignal n 3) l₃ (c .pads) in
-    record { pads = d .pads; changes = record { a = a .change; b = b .change; c = c .change; d = d .change } }
-
-unfoldable pub levelsDriven : ℕ → ℕ → Bool → Bool → Bool → Bool → Pads → Drive
-levelsDriven n channels l l₁ l₂ l₃ p = cond (driver n) (fourDriven n channels l l₁ l₂ l₃ p) (record { pads = p; changes = noChanges })

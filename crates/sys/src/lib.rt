@@ -1,23 +1,19 @@
-// Pins, routing and outputs over the lent state (sys.rs). A level change is a value here; the call that asked writes it to its book.
-use book::Changes;
+// Pins and routing over the lent state (sys.rs). A level change is a value here; the call that asked writes it to its book.
 use gpio::Change;
 use pins::ExtDrive;
 use state::REALS;
 use state::WORDS;
-use tim::Timer;
 use words::PinCfg;
 ghost use mathlib.Core.Path.{_≡_};
 ghost use mathlib.Core.List.{List};
 ghost use Prim.Native.Nat.{_<_, _≤_};
 ghost use lib.Ieee.{Float};
-ghost use Rattle.gpio.specs.Gpio.{bit};
-ghost use Rattle.tim.specs.Change.{output};
 ghost use Rattle.state.specs.View.{view};
 ghost use lib.ListN.{length};
 ghost use Rattle.book.specs.Book.{book};
 ghost use Rattle.machine.specs.Board.{withPads, plainCfg};
 ghost use Rattle.machine.specs.Sys as S;
-ghost use Rattle.sys.specs.Moves.{Moves, Drives, Reset, levelDriven, fourDriven, levelsDriven};
+ghost use Rattle.sys.specs.Moves.{Moves, Reset};
 
 // Re-resolves the level of pin i after any change of its inputs.
 pub fn update_pin(words: &mut [u64; WORDS], reals: &mut [f64; REALS], i: usize) -> Change
@@ -33,9 +29,36 @@ pub fn update_pin(words: &mut [u64; WORDS], reals: &mut [f64; REALS], i: usize) 
 }
 
 // Recomputes what the chip drives on pin i from its configuration, the selected signal and the signal's level, then re-resolves it.
+// The level is read before and after: the change of a refresh would be handed back through memory.
 pub fn refresh_pin(words: &mut [u64; WORDS], reals: &mut [f64; REALS], i: usize) -> Change
     requires { ⌜ i < 128 ⌝ }
     ensures { λ r. ⌜ Moves (S.refreshPin (view (now (words .entry)) (now (reals .entry)) .pads) i) (view (now (words .entry)) (now (reals .entry))) (view (now (words .exit)) (now (reals .exit))) r ⌝ }
+{
+    let was = levels::level(words, i);
+    refresh(words, reals, i);
+    gpio::changed(i as u8, was, levels::level(words, i))
+}
+
+// Of a push-pull pin that its signal drives only what changes is stored.
+fn refresh(words: &mut [u64; WORDS], reals: &mut [f64; REALS], i: usize)
+    requires { ⌜ i < 128 ⌝ }
+    ensures { λ _. ⌜ view (now (words .exit)) (now (reals .exit)) ≡ withPads (view (now (words .entry)) (now (reals .entry))) (S.refreshPin (view (now (words .entry)) (now (reals .entry)) .pads) i .pads) ⌝ }
+{
+    if levels::is_push_pull(words, i) {
+        let s = levels::signal(words, i);
+        if gpio::drives(s) {
+            let l = state::sig_level(words, s as usize);
+            levels::drive_level(words, reals, i, l);
+            return;
+        }
+    }
+    refresh_any(words, reals, i);
+}
+
+// Any pin: loaded, its side made anew, resolved and stored. It has two callers, so that it is not inlined into the short way.
+fn refresh_any(words: &mut [u64; WORDS], reals: &mut [f64; REALS], i: usize)
+    requires { ⌜ i < 128 ⌝ }
+    ensures { λ _. ⌜ view (now (words .exit)) (now (reals .exit)) ≡ withPads (view (now (words .entry)) (now (reals .entry))) (S.refreshPin (view (now (words .entry)) (now (reals .entry)) .pads) i .pads) ⌝ }
 {
     let g = state::load_gpio(words, reals, i);
     let s = gpio::signal_of(g);
@@ -44,7 +67,6 @@ pub fn refresh_pin(words: &mut [u64; WORDS], reals: &mut [f64; REALS], i: usize)
     let m = gpio::refresh(i as u8, g, level, vcc);
     let next = m.gpio;
     state::store_gpio(words, reals, i, next);
-    m.change
 }
 
 // Pin i leaves signal s: the route goes, if it is the pin's.
@@ -143,101 +165,6 @@ pub fn sig_out(words: &mut [u64; WORDS], reals: &mut [f64; REALS], s: usize, lev
     refresh_pin(words, reals, p)
 }
 
-fn level_of(b: bool) -> u8
-    ensures { λ r. ⌜ (r ≡ bit b) × (r ≤ 1) ⌝ }
-{
-    if b { 1 } else { 0 }
-}
-
-// Signal s, of channel ch, at a level, if the timer has that channel.
-fn drive_channel(
-    words: &mut [u64; WORDS],
-    reals: &mut [f64; REALS],
-    channels: u32,
-    ch: u32,
-    s: usize,
-    level: bool,
-) -> Change
-    requires { ⌜ s < 256 ⌝ }
-    ensures { λ r. ⌜ Moves (levelDriven channels ch s level (view (now (words .entry)) (now (reals .entry)) .pads)) (view (now (words .entry)) (now (reals .entry))) (view (now (words .exit)) (now (reals .exit))) r ⌝ }
-{
-    if ch < channels {
-        return sig_out(words, reals, s, level_of(level));
-    }
-    Change::Same
-}
-
-// The signals of timer n's four channels at their levels.
-fn four_channels(
-    words: &mut [u64; WORDS],
-    reals: &mut [f64; REALS],
-    n: u32,
-    channels: u32,
-    l: bool,
-    l1: bool,
-    l2: bool,
-    l3: bool,
-) -> Changes
-    requires { ⌜ (2 ≤ n) × (n ≤ 4) ⌝ }
-    ensures { λ r. ⌜ Drives (fourDriven n channels l l1 l2 l3 (view (now (words .entry)) (now (reals .entry)) .pads)) (view (now (words .entry)) (now (reals .entry))) (view (now (words .exit)) (now (reals .exit))) r ⌝ }
-{
-    let s = sig::tim(n as u8, 0) as usize;
-    let a = drive_channel(words, reals, channels, 0, s, l);
-    let b = drive_channel(words, reals, channels, 1, s + 1, l1);
-    let c = drive_channel(words, reals, channels, 2, s + 2, l2);
-    let d = drive_channel(words, reals, channels, 3, s + 3, l3);
-    Changes { a, b, c, d }
-}
-
-fn no_changes() -> Changes
-    ensures { λ r. ⌜ r ≡ S.noChanges ⌝ }
-{
-    Changes {
-        a: Change::Same,
-        b: Change::Same,
-        c: Change::Same,
-        d: Change::Same,
-    }
-}
-
-// Drives the pin signals of timer n's output channels at their levels: timers 2, 3 and 4 only.
-pub fn drive_levels(
-    words: &mut [u64; WORDS],
-    reals: &mut [f64; REALS],
-    n: u32,
-    channels: u32,
-    l: bool,
-    l1: bool,
-    l2: bool,
-    l3: bool,
-) -> Changes
-    ensures { λ r. ⌜ Drives (levelsDriven n channels l l1 l2 l3 (view (now (words .entry)) (now (reals .entry)) .pads)) (view (now (words .entry)) (now (reals .entry))) (view (now (words .exit)) (now (reals .exit))) r ⌝ }
-{
-    if n < 2 {
-        return no_changes();
-    }
-    if n > 4 {
-        return no_changes();
-    }
-    four_channels(words, reals, n, channels, l, l1, l2, l3)
-}
-
-// Drives the outputs of a timer at a count.
-pub fn drive_outputs(
-    words: &mut [u64; WORDS],
-    reals: &mut [f64; REALS],
-    t: Timer,
-    cnt: u32,
-) -> Changes
-    ensures { λ r. ⌜ Drives (S.driveOutputs t cnt (view (now (words .entry)) (now (reals .entry)) .pads)) (view (now (words .entry)) (now (reals .entry))) (view (now (words .exit)) (now (reals .exit))) r ⌝ }
-{
-    let l = t.output(0, cnt);
-    let l1 = t.output(1, cnt);
-    let l2 = t.output(2, cnt);
-    let l3 = t.output(3, cnt);
-    drive_levels(words, reals, t.inst.n, t.inst.channels, l, l1, l2, l3)
-}
-
 // An input with nothing selected.
 fn plain() -> PinCfg
     ensures { λ r. ⌜ r ≡ plainCfg ⌝ }
@@ -251,14 +178,16 @@ fn plain() -> PinCfg
     }
 }
 
-// Pin i an input again.
+// Pin i an input again: never push-pull.
 fn reset_pin(words: &mut [u64; WORDS], reals: &mut [f64; REALS], i: usize) -> Change
     requires { ⌜ i < 128 ⌝ }
     ensures { λ r. ⌜ Moves (S.resetPin (view (now (words .entry)) (now (reals .entry)) .pads) i) (view (now (words .entry)) (now (reals .entry))) (view (now (words .exit)) (now (reals .exit))) r ⌝ }
 {
     let g = state::load_gpio(words, reals, i);
     state::store_gpio(words, reals, i, gpio::configure(g, plain(), 0));
-    refresh_pin(words, reals, i)
+    let was = levels::level(words, i);
+    refresh_any(words, reals, i);
+    gpio::changed(i as u8, was, levels::level(words, i))
 }
 
 // Resets the pins' electrical state and the routing; what the outside drives is kept. The changes go to the book, pin by pin.
@@ -274,7 +203,7 @@ pub fn reset_pins(
     ensures { λ r. ⌜ Reset (view (now (words .entry)) (now (reals .entry))) (view (now (words .exit)) (now (reals .exit))) cycle (book (now (pins .entry)) (now (levels .entry)) (now (cycles .entry)) 0) (book (now (pins .exit)) (now (levels .exit)) (now (cycles .exit)) r) ⌝ }
     ensures { λ r. ⌜ r ≤ view (now (words .entry)) (now (reals .entry)) .counts .pins ⌝ }
 {
-    state::unroute(words);
+    blank::unroute(words);
     let n = state::pin_count(words);
     let mut i: usize = 0;
     let mut k: usize = 0;

@@ -1,41 +1,39 @@
--- The pin loaded, its side made anew, resolved and stored.
-use Rattle.gpio.specs.Gpio.{refreshed, updated}
-use Rattle.state.specs.Bounded.{bounded}
+-- Refreshed; the change is that of its level.
 use Rattle.sys.proofs.Laws.{refresh-moves}
-use Rattle.sys.proofs.Small.{signal-small}
+use Rattle.sys.proofs.Small.{pin-there}
 use borrow.Author.Needs.{needs}
-use lib.Dec.{lit≤}
-use native.Mathlib.Nat.{lt-of-lt-of-le}
 use Rattle.sys.proofs.refresh_pin.Statement.{statement}
 use Rattle.sys.proofs.refresh_pin.Tie as tie
+use Rattle.gpio.proofs.changed.Reads as changed-reads
+use Rattle.levels.proofs.level.Reads as level-reads
+use Rattle.sys.proofs.refresh.Reads as refresh-reads
 
-load-gpio-requires : tie.Need-load-gpio-requires
-load-gpio-requires c κs = search needs
-
-signal-of-requires : tie.Need-signal-of-requires
-signal-of-requires c κs = search needs
-
-cast-sig-level : tie.Need-cast-sig-level
-cast-sig-level c = search needs
-
-sig-level-requires : tie.Need-sig-level-requires
-sig-level-requires c κs = rw (c .before .signal-of .ensures, c .before .before .load-gpio .ensures) (signal-small (c .before .before .before .before .before .args .words .now) (c .before .before .before .before .before .args .reals .now) (c .before .before .before .before .before .args .i))
-
-vcc-requires : tie.Need-vcc-requires
-vcc-requires c κs = search needs
-
-cast-refresh : tie.Need-cast-refresh
-cast-refresh c = search needs
+level-requires : tie.Need-level-requires
+level-requires c κs = search needs
 
 refresh-requires : tie.Need-refresh-requires
-refresh-requires c κs = rw (c .before .before .before .before .before .load-gpio .ensures) (lt-of-lt-of-le (bounded (c .before .before .before .before .before .before .before .before .args .words .now) (c .before .before .before .before .before .before .before .before .args .reals .now) .gpio-sig (c .before .before .before .before .before .before .before .before .args .i)) (lit≤ tt))
+refresh-requires c κs = search needs
 
-store-gpio-requires : tie.Need-store-gpio-requires
-unfolding updated refreshed
-store-gpio-requires c κs = (c .before .before .before .before .before .before .before .before .before .before .before .before .pre, rw (c .before .before .before .refresh .ensures, c .before .before .before .before .before .before .before .before .before .load-gpio .ensures) (bounded (c .before .before .before .before .before .before .before .before .before .before .before .before .args .words .now) (c .before .before .before .before .before .before .before .before .before .before .before .before .args .reals .now) .gpio-sig (c .before .before .before .before .before .before .before .before .before .before .before .before .args .i)))
+cast-changed : tie.Need-cast-changed
+cast-changed c = search needs
+
+level-requires-2 : tie.Need-level-requires-2
+level-requires-2 c κs = search needs
+
+changed-requires : tie.Need-changed-requires
+changed-requires c κs = search needs
 
 returns : tie.Need-returns
-returns c = refresh-moves _ _ (c .before .before .before .before .before .before .before .before .before .before .before .before .before .args .i) _ _ _ (c .before .before .before .before .before .before .before .before .before .before .load-gpio .ensures) (c .before .before .before .before .before .vcc .ensures (c .before .before .before .before .before .before .before .before .before .before .before .before .before .args .words .now)) (c .store-gpio .ensures) _ _ (c .before .before .before .before .before .before .before .before .before .signal-of .ensures) (c .before .before .before .before .before .before .before .sig-level .ensures (c .before .before .before .before .before .before .before .before .before .before .before .before .before .args .reals .now)) (c .before .before .before .before .refresh .ensures)
+returns c =
+    refresh-moves _ _ (c .before .before .before .before .before .before .before .before .args .i) (pin-there (c .before .before .before .before .before .before .before .before .args .words .now) (c .before .before .before .before .before .before .before .before .args .reals .now) (c .before .before .before .before .before .before .before .before .pre)) (c .before .before .before .refresh .ensures) _ _ (c .before .before .before .before .before .before .level .ensures (c .before .before .before .before .before .before .before .before .args .reals .now)) (c .before .level2 .ensures _) _ (c .changed .ensures)
 
 pub refresh-pin-spec : {M : Type 1} → statement M
-refresh-pin-spec = tie.close (tie.spec load-gpio-requires signal-of-requires cast-sig-level sig-level-requires vcc-requires cast-refresh refresh-requires store-gpio-requires returns)
+refresh-pin-spec =
+    tie.close
+    (tie.spec
+    level-requires
+    refresh-requires
+    cast-changed
+    level-requires-2
+    changed-requires
+    returns)

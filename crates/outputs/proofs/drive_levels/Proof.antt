@@ -1,8 +1,8 @@
 -- By the timer number.
-use Rattle.sys.proofs.Laws.{above-four, below-two, levels-drive, levels-still}
+use Rattle.outputs.proofs.Laws.{above-four, below-two, levels-drive, levels-still}
 use borrow.Author.Needs.{needs}
-use Rattle.sys.proofs.drive_levels.Statement.{statement}
-use Rattle.sys.proofs.drive_levels.Tie as tie
+use Rattle.outputs.proofs.drive_levels.Statement.{statement}
+use Rattle.outputs.proofs.drive_levels.Tie as tie
 
 no-changes-requires : tie.Need-no-changes-requires
 no-changes-requires c κs = search needs
