@@ -3,17 +3,20 @@ use mathlib.Core.Path.{_≡_, refl, ap, sym, _∙_}
 use mathlib.Core.Bool.{Bool, true, false, cond, false≢true}
 use Prim.Native.Nat.{ℕ, suc, _+_, _-_, _≤_, _<_, max}
 use native.Mathlib.Omega.{arith}
+use lib.ListN.{length}
+use lib.Seq.{getD-set-same}
 use Rattle.tim.specs.declared.Timer.{Timer}
 use Rattle.tim.specs.declared.Next.{Next}
 use Rattle.tim.specs.declared.Due.{Due}
 use Rattle.tim.specs.declared.Due.the-variants.{At}
 use Rattle.tim.specs.Change.{retimed}
+use Rattle.tim.specs.Next.{nextEvent}
 use Rattle.clk.specs.declared.ClockTree.{ClockTree}
 use Rattle.clk.specs.Clk.{differing}
 use Rattle.pins.specs.declared.ClockModel.{ClockModel}
 use Rattle.pins.specs.Clock.{hzSet}
-use Rattle.state.specs.Board.{withTree, withClock}
-use Rattle.machine.specs.Board.{Board, timerAt, withTimer, withClocks}
+use Rattle.state.specs.Board.{withBooking, withTree, withClock}
+use Rattle.machine.specs.Board.{Board, noTimer, timerAt, withTimer, withClocks}
 use Rattle.machine.specs.Deliver.{dividerOf, bookingOf, rebooked}
 use Rattle.machine.specs.Step.{timerRetimed, allRetimed, treeSet}
 
@@ -30,6 +33,15 @@ cond-false false x y h = refl
 pub at-booking : (d : Due) (at : ℕ) (e : Next) (cycle : ℕ) → d ≡ At at e → max at cycle ≡ bookingOf d cycle
 at-booking d at e cycle h = sym (ap (λ (x : Due). bookingOf x cycle) h)
 
+pub booked-anew : (b b₁ : Board) (i cycle : ℕ) (t : Timer) (d : Due) → t ≡ timerAt b i → d ≡ nextEvent t → b₁ ≡ withBooking b i (bookingOf d cycle)
+    → b₁ ≡ rebooked i (timerAt b i) cycle b
+unfolding rebooked
+booked-anew b b₁ i cycle t d load due e = e ∙ ap (λ (x : Due). withBooking b i (bookingOf x cycle)) (due ∙ ap nextEvent load)
+
+-- ---- a timer that was stored is there
+pub stored-there : (b b₁ : Board) (i : ℕ) (t : Timer) → i < length (b .timers) → b₁ ≡ withTimer b i t → timerAt b₁ i ≡ t
+stored-there b b₁ i t h e = ap (λ (y : Board). timerAt y i) e ∙ getD-set-same (b .timers) i t noTimer h
+
 -- ---- a timer retimed
 module _ (b b₁ : Board) (i cycle div : ℕ) (t s : Timer) (load : t ≡ timerAt b i) (steps : div ≡ dividerOf b t) (new : s ≡ retimed t cycle div)
     (store : b₁ ≡ withTimer b i s) where
@@ -39,10 +51,10 @@ module _ (b b₁ : Board) (i cycle div : ℕ) (t s : Timer) (load : t ≡ timerA
   running : (on : Bool) → s .count .running ≡ on → retimed (timerAt b i) cycle (dividerOf b (timerAt b i)) .count .running ≡ on
   running on h = sym (ap (λ (x : Timer). x .count .running) same) ∙ h
 
-  pub retimed-running : (b₂ : Board) → s .count .running ≡ true → b₂ ≡ rebooked i s cycle b₁ → b₂ ≡ timerRetimed i cycle b
+  pub retimed-running : (b₂ : Board) → i < length (b .timers) → s .count .running ≡ true → b₂ ≡ rebooked i (timerAt b₁ i) cycle b₁ → b₂ ≡ timerRetimed i cycle b
   unfolding timerRetimed
-  retimed-running b₂ h k =
-      k ∙ ap (rebooked i s cycle) store ∙ ap (λ (x : Timer). rebooked i x cycle (withTimer b i x)) same ∙ cond-true _ _ _ (running true h)
+  retimed-running b₂ l h k =
+      k ∙ ap (λ (x : Timer). rebooked i x cycle b₁) (stored-there b b₁ i s l store) ∙ ap (rebooked i s cycle) store ∙ ap (λ (x : Timer). rebooked i x cycle (withTimer b i x)) same ∙ cond-true _ _ _ (running true h)
 
   pub retimed-stopped : s .count .running ≡ false → b₁ ≡ timerRetimed i cycle b
   unfolding timerRetimed

@@ -1,16 +1,19 @@
 -- Bounds: of enable words, of dividers, of a timer retimed. Assumes nothing.
-use mathlib.Core.Path.{_≡_, refl}
+use mathlib.Core.Path.{_≡_, refl, ap, sym, _∙_}
 use mathlib.Core.Bool.{Bool, true, false, cond, _&&_, false≢true}
 use mathlib.Core.List.{List}
-use Prim.Native.Nat.{ℕ, _≤_, _<_, _^_}
+use Prim.Native.Nat.{ℕ, _/_, _≤_, _<_, _^_}
+use native.Mathlib.Omega.{arith}
 use native.Mathlib.Nat.{zero-div, div-eq-of-lt, lt-of-lt-of-le}
 use lib.Dec.{leb, eqb}
 use lib.Ieee.{Float}
-use lib.ListN.{List·getD-eq-default}
+use lib.ListN.{length, getD, List·getD-eq-default}
 use lib.Pow.{pow-mono}
 use borrow.Author.Tests.{leb-true}
 use Rattle.real.specs.Real.{positive}
+use Rattle.rm0440.specs.Bits.{isSet}
 use Rattle.tim.specs.declared.Timer.{Timer}
+use Rattle.tim.specs.declared.Inst.{Inst}
 use Rattle.tim.specs.Timer.{Fit}
 use Rattle.tim.specs.Change.{retimed}
 use Rattle.tim.proofs.Fit.{fit-retimed}
@@ -23,13 +26,25 @@ use Rattle.machine.specs.Board.{timerAt}
 use Rattle.machine.specs.Step.{clockOn}
 
 -- ---- enable words
-module _ (w : List ℕ) (x : List Float) (t : Timer) where
-  pub no-word : 9 ≤ t .inst .«en_reg» → false ≡ clockOn (view w x) t
-  no-word h =
-      rw (List·getD-eq-default (view w x .clocks .enr) 0 {n = t .inst .«en_reg»} (rw (bounded w x .enr-length) h), zero-div (2 ^ t .inst .«en_bit»))
+no-high : (e k : ℕ) → e / 2 ^ k ≡ 0 → false ≡ isSet k e
+no-high e k h = rw h
 
-  pub no-bit : 32 ≤ t .inst .«en_bit» → false ≡ clockOn (view w x) t
-  no-bit h = rw (div-eq-of-lt (lt-of-lt-of-le (bounded w x .enr-lt (t .inst .«en_reg»)) (pow-mono {i = 32} {j = t .inst .«en_bit»} h)))
+module _ (w : List ℕ) (x : List Float) (i : ℕ) (n : Inst) (load : n ≡ timerAt (view w x) i .inst) where
+  -- the bit of its word
+  pub enabled : (e : ℕ) → e ≡ getD (view w x .clocks .enr) (n .«en_reg») 0 → isSet (n .«en_bit») e ≡ clockOn (view w x) (timerAt (view w x) i)
+  enabled e h =
+      ap (isSet (n .«en_bit»)) h ∙ ap (λ (k : Inst). isSet (k .«en_bit») (getD (view w x .clocks .enr) (k .«en_reg») 0)) load
+
+  pub no-word : 9 ≤ n .«en_reg» → false ≡ clockOn (view w x) (timerAt (view w x) i)
+  no-word h =
+      no-high 0 (n .«en_bit») (zero-div (2 ^ n .«en_bit»))
+      ∙ enabled 0 (sym (List·getD-eq-default (view w x .clocks .enr) 0 {n = n .«en_reg»} (rw (bounded w x .enr-length) h)))
+
+  pub no-bit : 32 ≤ n .«en_bit» → false ≡ clockOn (view w x) (timerAt (view w x) i)
+  no-bit h =
+      let e : ℕ = getD (view w x .clocks .enr) (n .«en_reg») 0 in
+      no-high e (n .«en_bit») (div-eq-of-lt (lt-of-lt-of-le (bounded w x .enr-lt (n .«en_reg»)) (pow-mono {i = 32} {j = n .«en_bit»} h)))
+      ∙ enabled e refl
 
 -- ---- dividers
 either : {A : Type 0} (P : A → Type 0) (b : Bool) {x y : A} → P x → P y → P (cond b x y)
@@ -82,6 +97,9 @@ good-divided t h = divided (positive (t .«sysclk_hz») && positive (t .«hclk_h
 -- ---- a timer of the board, and retimed
 pub loaded-fit : (w : List ℕ) (x : List Float) (i : ℕ) (t : Timer) → t ≡ timerAt (view w x) i → Fit t
 loaded-fit w x i t h = rw h (bounded w x .timer-fit i)
+
+pub of-eight : (w : List ℕ) (x : List Float) (i : ℕ) → i < 8 → i < length (view w x .timers)
+of-eight w x i h = omega (arith, bounded w x .timers-length)
 
 pub retimed-fit : (t s : Timer) (cycle div : ℕ) → Fit t → s ≡ retimed t cycle div → cycle < 9223372036854775808 → 1 ≤ div → div ≤ 8192 → Fit s
 retimed-fit t s cycle div f h c p d = rw h (fit-retimed t f cycle div c p d)

@@ -9,19 +9,21 @@ ghost use mathlib.Core.Bool.{true};
 ghost use mathlib.Core.List.{List};
 ghost use Prim.Native.Nat.{_<_, _≤_, max};
 ghost use lib.Ieee.{Float};
-ghost use Rattle.tim.specs.Timer.{Fit};
 ghost use Rattle.clk.specs.Clk.{good};
 ghost use Rattle.state.specs.View.{view};
 ghost use Rattle.state.specs.Board.{withBooking};
+ghost use Rattle.machine.specs.Board.{timerAt};
 ghost use Rattle.machine.specs.Deliver.{dividerOf, lineSettled, bookingOf, rebooked};
 ghost use Rattle.machine.specs.Step.{clockOn, timerRetimed, allRetimed, treeSet};
 
-// Timer t's clock is on: its bit of its enable word. Past the ninth word and past bit 31 there is none.
-pub fn clock_on(words: &[u64; WORDS], t: Timer) -> bool
-    ensures { λ r. ⌜ ((x : List Float) → r ≡ clockOn (view (now (words .entry)) x) t) ⌝ }
+// Timer i's clock is on: its bit of its enable word. Past the ninth word and past bit 31 there is none.
+pub fn clock_on(words: &[u64; WORDS], i: usize) -> bool
+    requires { ⌜ i < 8 ⌝ }
+    ensures { λ r. ⌜ ((x : List Float) → r ≡ clockOn (view (now (words .entry)) x) (timerAt (view (now (words .entry)) x) i)) ⌝ }
 {
-    let reg = t.inst.en_reg;
-    let bit = t.inst.en_bit;
+    let t = fields::inst(words, i);
+    let reg = t.en_reg;
+    let bit = t.en_bit;
     if reg >= 9 {
         return false;
     }
@@ -49,6 +51,15 @@ pub fn settle_line(words: &mut [u64; WORDS], t: Timer)
     state::set_line(words, t.inst.irq, on);
 }
 
+// The line of timer i.
+pub fn settle_line_at(words: &mut [u64; WORDS], i: usize)
+    requires { ⌜ i < 8 ⌝ }
+    ensures { λ _. ⌜ ((x : List Float) → view (now (words .exit)) x ≡ lineSettled (timerAt (view (now (words .entry)) x) i) (view (now (words .entry)) x)) ⌝ }
+{
+    let timer = state::load_timer(words, i);
+    settle_line(words, timer);
+}
+
 fn later(a: u64, b: u64) -> u64
     ensures { λ r. ⌜ r ≡ max a b ⌝ }
 {
@@ -74,11 +85,12 @@ pub fn book_due(words: &mut [u64; WORDS], i: usize, due: Due, cycle: u64)
     state::book(words, i, at);
 }
 
-// Books timer i, now t, at its next event.
-pub fn rebook(words: &mut [u64; WORDS], i: usize, t: Timer, cycle: u64)
-    requires { ⌜ (i < 8) × (Fit t) ⌝ }
-    ensures { λ _. ⌜ ((x : List Float) → view (now (words .exit)) x ≡ rebooked i t cycle (view (now (words .entry)) x)) ⌝ }
+// Books timer i at its next event.
+pub fn rebook(words: &mut [u64; WORDS], i: usize, cycle: u64)
+    requires { ⌜ i < 8 ⌝ }
+    ensures { λ _. ⌜ ((x : List Float) → view (now (words .exit)) x ≡ rebooked i (timerAt (view (now (words .entry)) x) i) cycle (view (now (words .entry)) x)) ⌝ }
 {
+    let t = state::load_timer(words, i);
     let due = t.next_event();
     book_due(words, i, due, cycle);
 }
@@ -93,7 +105,7 @@ pub fn retime(words: &mut [u64; WORDS], reals: &[f64; REALS], i: usize, cycle: u
     let s = t.on_clock_change(cycle, div);
     state::store_timer(words, i, s);
     if s.count.running {
-        rebook(words, i, s, cycle);
+        rebook(words, i, cycle);
     }
 }
 

@@ -1,6 +1,6 @@
 -- The timer loaded, retimed, stored, and booked if it runs.
 use Rattle.rcc.proofs.Laws.{retimed-running, retimed-stopped}
-use Rattle.rcc.proofs.Small.{loaded-fit, retimed-fit}
+use Rattle.rcc.proofs.Small.{loaded-fit, of-eight, retimed-fit}
 use borrow.Author.Needs.{needs}
 use Rattle.rcc.proofs.retime.Statement.{statement}
 use Rattle.rcc.proofs.retime.Tie as tie
@@ -18,10 +18,10 @@ store-timer-requires : tie.Need-store-timer-requires
 store-timer-requires c κs = (c .before .before .before .before .before .before .pre .0, (retimed-fit _ _ (c .before .before .before .before .before .before .args .cycle) _ (loaded-fit (c .before .before .before .before .before .before .args .words .now) (c .before .before .before .before .before .before .args .reals .now) (c .before .before .before .before .before .before .args .i) _ (c .before .before .before .before .load-timer .ensures (c .before .before .before .before .before .before .args .reals .now))) (c .before .on-clock-change .ensures) (c .before .before .before .before .before .before .pre .1) (c .before .before .divider .ensures .1 .0) (c .before .before .divider .ensures .1 .1)))
 
 rebook-requires : tie.Need-rebook-requires
-rebook-requires c κs = (c .before .before .before .before .before .before .before .before .before .pre .0, (retimed-fit _ _ (c .before .before .before .before .before .before .before .before .before .args .cycle) _ (loaded-fit (c .before .before .before .before .before .before .before .before .before .args .words .now) (c .before .before .before .before .before .before .before .before .before .args .reals .now) (c .before .before .before .before .before .before .before .before .before .args .i) _ (c .before .before .before .before .before .before .before .load-timer .ensures (c .before .before .before .before .before .before .before .before .before .args .reals .now))) (c .before .before .before .before .on-clock-change .ensures) (c .before .before .before .before .before .before .before .before .before .pre .1) (c .before .before .before .before .before .divider .ensures .1 .0) (c .before .before .before .before .before .divider .ensures .1 .1)))
+rebook-requires c κs = c .before .before .before .before .before .before .before .before .before .pre .0
 
 returns : tie.Need-returns
-returns c = retimed-running _ _ (c .before .before .before .before .before .before .before .before .before .before .args .i) (c .before .before .before .before .before .before .before .before .before .before .args .cycle) _ _ _ (c .before .before .before .before .before .before .before .before .load-timer .ensures (c .before .before .before .before .before .before .before .before .before .before .args .reals .now)) (c .before .before .before .before .before .before .divider .ensures .0) (c .before .before .before .before .before .on-clock-change .ensures) (c .before .before .before .store-timer .ensures (c .before .before .before .before .before .before .before .before .before .before .args .reals .now)) _ (c .before .before .if1 .taken) (c .rebook .ensures (c .before .before .before .before .before .before .before .before .before .before .args .reals .now))
+returns c = retimed-running _ _ (c .before .before .before .before .before .before .before .before .before .before .args .i) (c .before .before .before .before .before .before .before .before .before .before .args .cycle) _ _ _ (c .before .before .before .before .before .before .before .before .load-timer .ensures (c .before .before .before .before .before .before .before .before .before .before .args .reals .now)) (c .before .before .before .before .before .before .divider .ensures .0) (c .before .before .before .before .before .on-clock-change .ensures) (c .before .before .before .store-timer .ensures (c .before .before .before .before .before .before .before .before .before .before .args .reals .now)) _ (of-eight (c .before .before .before .before .before .before .before .before .before .before .args .words .now) (c .before .before .before .before .before .before .before .before .before .before .args .reals .now) (c .before .before .before .before .before .before .before .before .before .before .args .i) (c .before .before .before .before .before .before .before .before .before .before .pre .0)) (c .before .before .if1 .taken) (c .rebook .ensures (c .before .before .before .before .before .before .before .before .before .before .args .reals .now))
 
 returns-2 : tie.Need-returns-2
 returns-2 c = retimed-stopped _ _ (c .before .before .before .before .before .before .before .before .args .i) (c .before .before .before .before .before .before .before .before .args .cycle) _ _ _ (c .before .before .before .before .before .before .load-timer .ensures (c .before .before .before .before .before .before .before .before .args .reals .now)) (c .before .before .before .before .divider .ensures .0) (c .before .before .before .on-clock-change .ensures) (c .before .store-timer .ensures (c .before .before .before .before .before .before .before .before .args .reals .now)) (c .if1 .left)

@@ -1,0 +1,24 @@
+-- The timer loaded, and its counter.
+use Rattle.mmio.proofs.Laws.{loaded-fit}
+use mathlib.Core.Path.{ap, _∙_}
+use mathlib.Core.List.{[]}
+use native.Mathlib.Omega.{arith}
+use Rattle.tim.specs.declared.Timer.{Timer}
+use Rattle.tim.specs.Count.{cntAt}
+use borrow.Author.Needs.{needs}
+use Rattle.mmio.proofs.count_of.Statement.{statement}
+use Rattle.mmio.proofs.count_of.Tie as tie
+
+load-timer-requires : tie.Need-load-timer-requires
+load-timer-requires c κs = search needs
+
+cnt-at-requires : tie.Need-cnt-at-requires
+cnt-at-requires c κs =
+    let s = c .before in (loaded-fit (s .args .words .now) [] (s .args .i) _ (c .load-timer .ensures []), omega (arith, s .pre .1))
+
+returns : tie.Need-returns
+returns c =
+    λ x. c .cnt-at .ensures ∙ ap (λ (t : Timer). cntAt t (c .before .before .args .cycle)) (c .before .load-timer .ensures x)
+
+pub count-of-spec : {M : Type 1} → statement M
+count-of-spec = tie.close (tie.spec load-timer-requires cnt-at-requires returns)

@@ -1,0 +1,3 @@
+pub mod Written
+mod Plainly
+pub mod Control

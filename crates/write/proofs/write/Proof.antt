@@ -1,0 +1,97 @@
+-- Refused, gated off, or written.
+use Rattle.mmio.proofs.Laws.{admitted, fits}
+use Rattle.write.proofs.Laws.{write-away, write-away-book, write-below, write-below-book, write-off, write-off-book}
+use mathlib.Core.Path.{sym}
+use borrow.Author.Needs.{needs}
+use Rattle.write.proofs.write.Statement.{statement}
+use Rattle.write.proofs.write.Tie as tie
+
+room-requires : tie.Need-room-requires
+room-requires c κs = search needs
+
+timer-count-requires : tie.Need-timer-count-requires
+timer-count-requires c κs = search needs
+
+refusal-requires : tie.Need-refusal-requires
+refusal-requires c κs = search needs
+
+refused-requires : tie.Need-refused-requires
+refused-requires c κs = search needs
+
+same-length : tie.Need-same-length
+same-length c = search needs
+
+same-length-2 : tie.Need-same-length-2
+same-length-2 c = search needs
+
+same-length-3 : tie.Need-same-length-3
+same-length-3 c = search needs
+
+returns : tie.Need-returns
+returns c =
+    let s = c .before .before .before .before .before .before .before .before .before .before .before .before .before in (write-away (s .args .words .now) (s .args .reals .now) (s .args .timer) (s .args .offset) (s .args .size) (s .args .value) (s .args .cycle) _ _ _ (c .before .before .before .before .timer-count .ensures (s .args .reals .now)) (rw (sym (c .before .before .before .before .before .before .room .ensures)) (c .before .before .refusal .ensures (s .args .reals .now))) (c .before .if1 .taken) _ (c .refused .ensures), write-away-book (s .args .words .now) (s .args .reals .now) (s .args .timer) (s .args .offset) (s .args .size) (s .args .value) (s .args .cycle) _ _ _ (c .before .before .before .before .timer-count .ensures (s .args .reals .now)) (rw (sym (c .before .before .before .before .before .before .room .ensures)) (c .before .before .refusal .ensures (s .args .reals .now))) (c .before .if1 .taken) _ (c .refused .ensures) (s .args .pins .now) (s .args .levels .now) (s .args .cycles .now))
+
+clock-on-requires : tie.Need-clock-on-requires
+clock-on-requires c κs =
+    let s = c .before .before .before .before .before .before .before .before .before .before .before .before .before in admitted (s .args .words .now) (s .args .reals .now) (s .args .timer) _ (s .args .size) (s .args .cycle) 4 (c .before .before .before .before .before .before .room .result) _ (c .before .before .before .before .timer-count .ensures (s .args .reals .now)) (c .before .before .refusal .ensures (s .args .reals .now)) (c .before .if1 .left) .index-lt
+
+write-on-requires : tie.Need-write-on-requires
+write-on-requires c κs =
+    let s = c .before .before .before .before .before .before .before .before .before .before .before .before .before .before .before .before .before .before .before .before in let q = admitted (s .args .words .now) (s .args .reals .now) (s .args .timer) _ (s .args .size) (s .args .cycle) 4 (c .before .before .before .before .before .before .before .before .before .before .before .before .before .room .result) _ (c .before .before .before .before .before .before .before .before .before .before .before .timer-count .ensures (s .args .reals .now)) (c .before .before .before .before .before .before .before .before .before .refusal .ensures (s .args .reals .now)) (c .before .before .before .before .before .before .before .before .if1 .left) in ((q .index-lt, q .size-le, q .cycle-le), fits (s .args .pins .now) (s .args .levels .now) (s .args .cycles .now) _ (c .before .before .before .before .before .before .before .before .before .before .before .before .before .room .ensures) (q .places-le))
+
+same-length-4 : tie.Need-same-length-4
+same-length-4 c = search needs
+
+same-length-5 : tie.Need-same-length-5
+same-length-5 c = search needs
+
+same-length-6 : tie.Need-same-length-6
+same-length-6 c = search needs
+
+returns-2 : tie.Need-returns-2
+returns-2 c =
+    let s = c .before .before .before .before .before .before .before .before .before .before .before .before .before .before .before .before .before .before .before .before .before .before .before .before .before .before .before in (write-below (s .args .words .now) (s .args .reals .now) (s .args .timer) (s .args .offset) (s .args .size) (s .args .value) (s .args .cycle) _ _ _ (c .before .before .before .before .before .before .before .before .before .before .before .before .before .before .before .before .before .before .timer-count .ensures (s .args .reals .now)) (rw (sym (c .before .before .before .before .before .before .before .before .before .before .before .before .before .before .before .before .before .before .before .before .room .ensures)) (c .before .before .before .before .before .before .before .before .before .before .before .before .before .before .before .before .refusal .ensures (s .args .reals .now))) (c .before .before .before .before .before .before .before .before .before .before .before .before .before .before .before .if1 .left) _ (c .before .before .before .before .before .before .before .before .before .before .before .before .before .clock-on .ensures (s .args .reals .now)) (c .before .before .before .before .before .before .before .before .before .before .before .before .if2 .taken) _ _ _ (c .before .before .before .before .before .before .write-on .ensures .0), write-below-book (s .args .words .now) (s .args .reals .now) (s .args .timer) (s .args .offset) (s .args .size) (s .args .value) (s .args .cycle) _ _ _ (c .before .before .before .before .before .before .before .before .before .before .before .before .before .before .before .before .before .before .timer-count .ensures (s .args .reals .now)) (rw (sym (c .before .before .before .before .before .before .before .before .before .before .before .before .before .before .before .before .before .before .before .before .room .ensures)) (c .before .before .before .before .before .before .before .before .before .before .before .before .before .before .before .before .refusal .ensures (s .args .reals .now))) (c .before .before .before .before .before .before .before .before .before .before .before .before .before .before .before .if1 .left) _ (c .before .before .before .before .before .before .before .before .before .before .before .before .before .clock-on .ensures (s .args .reals .now)) (c .before .before .before .before .before .before .before .before .before .before .before .before .if2 .taken) _ _ _ _ _ _ _ (c .before .before .before .before .before .before .write-on .ensures .1))
+
+set-last-requires : tie.Need-set-last-requires
+set-last-requires c κs = search needs
+
+served-requires : tie.Need-served-requires
+served-requires c κs = search needs
+
+same-length-7 : tie.Need-same-length-7
+same-length-7 c = search needs
+
+same-length-8 : tie.Need-same-length-8
+same-length-8 c = search needs
+
+same-length-9 : tie.Need-same-length-9
+same-length-9 c = search needs
+
+returns-3 : tie.Need-returns-3
+returns-3 c =
+    let s = c .before .before .before .before .before .before .before .before .before .before .before .before .before .before .before .before .before .before in (write-off (s .args .words .now) (s .args .reals .now) (s .args .timer) (s .args .offset) (s .args .size) (s .args .value) (s .args .cycle) _ _ _ (c .before .before .before .before .before .before .before .before .before .timer-count .ensures (s .args .reals .now)) (rw (sym (c .before .before .before .before .before .before .before .before .before .before .before .room .ensures)) (c .before .before .before .before .before .before .before .refusal .ensures (s .args .reals .now))) (c .before .before .before .before .before .before .if1 .left) _ (c .before .before .before .before .clock-on .ensures (s .args .reals .now)) (c .before .before .before .if2 .left) _ (c .before .set-last .ensures (s .args .reals .now)) _ (c .served .ensures), write-off-book (s .args .words .now) (s .args .reals .now) (s .args .timer) (s .args .offset) (s .args .size) (s .args .value) (s .args .cycle) _ _ _ (c .before .before .before .before .before .before .before .before .before .timer-count .ensures (s .args .reals .now)) (rw (sym (c .before .before .before .before .before .before .before .before .before .before .before .room .ensures)) (c .before .before .before .before .before .before .before .refusal .ensures (s .args .reals .now))) (c .before .before .before .before .before .before .if1 .left) _ (c .before .before .before .before .clock-on .ensures (s .args .reals .now)) (c .before .before .before .if2 .left) _ (c .served .ensures) (s .args .pins .now) (s .args .levels .now) (s .args .cycles .now))
+
+pub write-spec : {M : Type 1} → statement M
+write-spec =
+    tie.close
+    (tie.spec
+    room-requires
+    timer-count-requires
+    refusal-requires
+    refused-requires
+    same-length
+    same-length-2
+    same-length-3
+    returns
+    clock-on-requires
+    write-on-requires
+    same-length-4
+    same-length-5
+    same-length-6
+    returns-2
+    set-last-requires
+    served-requires
+    same-length-7
+    same-length-8
+    same-length-9
+    returns-3)
