@@ -5,11 +5,13 @@ use mathlib.Core.List.{List, [], _∷_}
 use Prim.Native.Nat.{ℕ, zero, suc, _+_, _-_, _<_, _≤_}
 use native.Mathlib.Nat.{add-zero}
 use native.Mathlib.Omega.{arith}
-use lib.Dec.{ltb, leb, lit<}
+use lib.Dec.{eqb, ltb, leb, lit<}
 use lib.Ieee.{Float}
 use lib.ListN.{length}
-use borrow.Author.Tests.{le-leb, lt-leb, le-ltb, ltb-false, leb-true, leb-false}
+use lib.Seq.{set-getD}
+use borrow.Author.Tests.{le-leb, lt-leb, le-ltb, ltb-false, leb-true, leb-false, eqb-true}
 use Rattle.tim.specs.declared.Timer.{Timer}
+use Rattle.tim.specs.declared.Inst.{Inst}
 use Rattle.tim.specs.declared.Ahead.{Ahead}
 use Rattle.tim.specs.declared.Next.{Next}
 use Rattle.tim.specs.declared.Next.the-variants.{Update, Compare}
@@ -18,18 +20,18 @@ use Rattle.tim.specs.declared.Due.the-variants.{At, Stopped}
 use Rattle.tim.specs.Timer.{Fit}
 use Rattle.tim.specs.Next.{nextEvent, nextSteps, consider, compares, compareSteps}
 use Rattle.tim.proofs.Fit.{either, fit-updated, fit-compared}
-use Rattle.book.specs.declared.Changes.{Changes}
+use Rattle.tim.proofs.Fixed.{inst-updated, inst-compared}
 use Rattle.book.specs.Book.{Entry, Book, book, put, puts, entriesOf}
 use Rattle.book.specs.Laws.{puts-append, holds}
 use Rattle.state.specs.View.{view}
 use Rattle.state.specs.Bounded.{bounded}
-use Rattle.state.specs.Board.{withBooking}
-use Rattle.machine.specs.Board.{Board, Pads, timerAt, withPads, withTimer}
+use Rattle.state.specs.Board.{withBooking, withInst}
+use Rattle.machine.specs.Board.{Board, Pads, noTimer, timerAt, withPads, withTimer}
 use Rattle.machine.specs.Sys.{driveOutputs}
-use Rattle.machine.specs.Deliver.{applied, countAt, Turn, turn, Run, stop, after, run, mostEvents, dividerOf, bookingOf, lineSettled, rebooked, delivered, settled}
-use Rattle.sys.specs.Moves.{Drives}
+use Rattle.machine.specs.Deliver.{applied, countAt, Turn, turn, turnOf, dueBy, Run, stop, after, run, mostEvents, dividerOf, bookingOf, lineSettled, rebooked, delivered, settled}
+use Rattle.outputs.specs.Outputs.{Driven}
 use Rattle.delivery.specs.declared.Ran.{Ran}
-use Rattle.delivery.specs.Delivery.{OfFour, verdictOf, Driven, Ends, Delivers}
+use Rattle.delivery.specs.Delivery.{OfFour, verdictOf, Ends, Delivers}
 
 -- ---- an event's channel is one of four
 
@@ -59,12 +61,9 @@ fit-applied t (Compare ch) at div f h p d = fit-compared t f ch
 
 -- ---- one event's outputs
 
-pub driven : (b b₁ : Board) (k k₁ : Book) (t : Timer) (e : Next) (cnt at : ℕ) (c : Changes) → cnt ≡ countAt t e
-    → Drives (driveOutputs t cnt (b .pads)) b b₁ c → k₁ ≡ puts k (entriesOf at c) → Driven (driveOutputs t (countAt t e) (b .pads)) at b b₁ k k₁
-driven b b₁ k k₁ t e cnt at c h d w = record {
-  board = d .board ∙ ap (λ (n : ℕ). withPads b (driveOutputs t n (b .pads) .pads)) h;
-  entries = w ∙ ap (λ (x : Changes). puts k (entriesOf at x)) (d .changes ∙ ap (λ (n : ℕ). driveOutputs t n (b .pads) .changes) h);
-}
+pub driven : (b b₁ : Board) (k k₁ : Book) (t : Timer) (e : Next) (cnt at : ℕ) → cnt ≡ countAt t e
+    → Driven (driveOutputs t cnt (b .pads)) at b b₁ k k₁ → Driven (driveOutputs t (countAt t e) (b .pads)) at b b₁ k k₁
+driven b b₁ k k₁ t e cnt at h d = subst (λ (n : ℕ). Driven (driveOutputs t n (b .pads)) at b b₁ k k₁) h d
 
 -- the same as machine's turn
 record Turns (s : Turn) (t₁ : Timer) (p₁ : Pads) (k k₁ : Book) : Type 0 where
@@ -126,6 +125,34 @@ module _ (cycle div left : ℕ) (t : Timer) (p : Pads) where
         → run (suc f) cycle div left t p ≡ after (s .entries) (run f cycle div (left - length (s .entries)) (s .timer) (s .pads))
     unfolding run
     run-turn f x y s h = rw (h, d, le-leb at cycle x, le-ltb left 4 y)
+
+-- ---- what a run leaves of the timer
+
+inst-turn : (t : Timer) (p : Pads) (d : Due) (div : ℕ) → turnOf t p d div .timer .inst ≡ t .inst
+unfolding turn
+inst-turn t p (At at Update) div = inst-updated t at div
+inst-turn t p (At at (Compare ch)) div = inst-compared t ch
+inst-turn t p Stopped div = refl
+
+-- no event touches what set-up fixed
+inst-run : (f cycle div left : ℕ) (t : Timer) (p : Pads) → run f cycle div left t p .timer .inst ≡ t .inst
+unfolding run
+inst-run zero cycle div left t p = refl
+inst-run (suc f) cycle div left t p =
+    let s = turnOf t p (nextEvent t) div in
+    either (λ (r : Run). r .timer .inst ≡ t .inst) (dueBy (nextEvent t) cycle)
+    (either (λ (r : Run). r .timer .inst ≡ t .inst) (ltb left 4) refl
+    (inst-run f cycle div (left - length (s .entries)) (s .timer) (s .pads) ∙ inst-turn t p (nextEvent t) div))
+    refl
+
+-- without an event the timer is as it was
+run-idle : (f cycle div left : ℕ) (t : Timer) (p : Pads) → run f cycle div left t p .events ≡ 0 → run f cycle div left t p .timer ≡ t
+unfolding run
+run-idle zero cycle div left t p = λ z. refl
+run-idle (suc f) cycle div left t p =
+    either (λ (r : Run). r .events ≡ 0 → r .timer ≡ t) (dueBy (nextEvent t) cycle)
+    (either (λ (r : Run). r .events ≡ 0 → r .timer ≡ t) (ltb left 4) (λ z. refl) (λ z. absurd (omega (arith, z))))
+    (λ z. refl)
 
 -- ---- what a run leaves of a book and a count of events
 
@@ -240,6 +267,23 @@ pub due-booked : (b b₁ : Board) (i cycle : ℕ) (t : Timer) (d : Due) → d �
 unfolding rebooked
 due-booked b b₁ i cycle t d h e = e ∙ ap (λ (x : Due). withBooking b i (bookingOf x cycle)) h
 
+-- the timer stored where there was an event: the board with what the run leaves
+stored : (b b₁ b₂ : Board) (p : Pads) (i events : ℕ) (t s : Timer) → t ≡ timerAt b i → b₁ ≡ withPads b p → s .inst ≡ t .inst → (events ≡ 0 → s ≡ t)
+    → b₂ ≡ cond (eqb events 0) b₁ (withTimer b₁ i (withInst s (timerAt b₁ i .inst))) → b₂ ≡ withTimer b₁ i s
+stored b b₁ b₂ p i events t s load board fixed idle e = go (eqb events 0) refl e
+  where
+    same : t ≡ timerAt b₁ i
+    same = load ∙ sym (ap (λ (y : Board). timerAt y i) board)
+
+    kept : withTimer b₁ i (timerAt b₁ i) ≡ b₁
+    kept = ap
+        (λ (l : List Timer). record { timers = l; booking = b₁ .booking; nvic = b₁ .nvic; pads = b₁ .pads; clocks = b₁ .clocks; counts = b₁ .counts })
+        (set-getD (b₁ .timers) i noTimer)
+
+    go : (z : Bool) → eqb events 0 ≡ z → b₂ ≡ cond z b₁ (withTimer b₁ i (withInst s (timerAt b₁ i .inst))) → b₂ ≡ withTimer b₁ i s
+    go true q h = h ∙ sym (ap (λ (u : Timer). withTimer b₁ i u) (idle (eqb-true events 0 q) ∙ same) ∙ kept)
+    go false q h = h ∙ ap (λ (k : Inst). withTimer b₁ i (withInst s k)) (sym (fixed ∙ ap (λ (u : Timer). u .inst) same))
+
 module _ (b b₁ b₂ b₃ b₄ : Board) (i cycle div places : ℕ) (t : Timer) (r : Ran) (load : t ≡ timerAt b i) (steps : div ≡ dividerOf b t) where
   same-run : run mostEvents cycle div places t (b .pads) ≡ delivered b i cycle places
   unfolding delivered
@@ -250,11 +294,14 @@ module _ (b b₁ b₂ b₃ b₄ : Board) (i cycle div places : ℕ) (t : Timer) 
   pub delivers : (p l c p₁ l₁ c₁ : List ℕ)
       → Ends (run mostEvents cycle div places t (b .pads)) b b₁ (book p l c 0) (book p₁ l₁ c₁ (r .count)) r
       → r .count ≤ length p → r .count ≤ length l → r .count ≤ length c
-      → b₂ ≡ withTimer b₁ i (r .timer) → b₃ ≡ lineSettled (r .timer) b₂ → b₄ ≡ rebooked i (r .timer) cycle b₃
+      → b₂ ≡ cond (eqb (r .events) 0) b₁ (withTimer b₁ i (withInst (r .timer) (timerAt b₁ i .inst))) → b₃ ≡ lineSettled (r .timer) b₂ → b₄ ≡ rebooked i (r .timer) cycle b₃
       → Delivers (delivered b i cycle places) b i cycle b₄ (record { number = r .number; events = r .events; count = r .count }) p p₁ l l₁ c c₁
   unfolding settled
-  delivers p l c p₁ l₁ c₁ e′ x y z store line book′ =
+  delivers p l c p₁ l₁ c₁ e′ x y z store′ line book′ =
       let o = delivered b i cycle places in
+      let store : b₂ ≡ withTimer b₁ i (r .timer) =
+      stored b b₁ b₂ _ i (r .events) t (r .timer) load (e′ .board) (ap (λ (u : Timer). u .inst) (e′ .timer) ∙ inst-run mostEvents cycle div places t (b .pads))
+      (λ n. e′ .timer ∙ run-idle mostEvents cycle div places t (b .pads) (sym (e′ .events) ∙ n)) store′ in
       let e : Ends o b b₁ (book p l c 0) (book p₁ l₁ c₁ (r .count)) r =
       subst (λ (q : Run). Ends q b b₁ (book p l c 0) (book p₁ l₁ c₁ (r .count)) r) same-run e′ in
       record {

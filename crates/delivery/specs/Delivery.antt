@@ -6,9 +6,8 @@ use Prim.Native.Nat.{ℕ, _<_}
 use lib.Dec.{ltb, leb}
 use Rattle.tim.specs.declared.Next.{Next}
 use Rattle.tim.specs.declared.Next.the-variants.{Update, Compare}
-use Rattle.book.specs.Book.{Book, puts, entriesOf, Holds}
+use Rattle.book.specs.Book.{Book, puts, Holds}
 use Rattle.machine.specs.Board.{Board, withPads}
-use Rattle.machine.specs.Sys.{Drive}
 use Rattle.machine.specs.Deliver.{Run, mostEvents, settled}
 use Rattle.delivery.specs.declared.Ran.{Ran}
 use Rattle.delivery.specs.declared.Delivered.{Delivered}
@@ -21,11 +20,6 @@ OfFour (Compare ch) = ch < 4
 -- "stops when nothing is due (0), or with more due after 100,001 events or with under 4 places left (8)"; 1 goes on
 unfoldable pub verdictOf : ℕ → ℕ → ℕ → ℕ → ℕ
 verdictOf at cycle events left = cond (leb at cycle) (cond (leb mostEvents events) 8 (cond (ltb left 4) 8 1)) 0
-
--- the outputs after an event: the pads, and the changes put into a book at its cycle
-pub record Driven (d : Drive) (at : ℕ) (b b₁ : Board) (k k₁ : Book) : Type 0 where
-  pub board : b₁ ≡ withPads b (d .pads)
-  pub entries : k₁ ≡ puts k (entriesOf at (d .changes))
 
 -- a run of events, its timer not stored yet
 pub record Ends (o : Run) (b b₁ : Board) (k k₁ : Book) (r : Ran) : Type 0 where

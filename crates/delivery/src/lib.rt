@@ -1,20 +1,28 @@
 // The delivery of a timer's due events over the lent state, their level changes into the lent book (tim.rs, on_event).
 use state::REALS;
 use state::WORDS;
+use tim::Ahead;
 use tim::Due;
 use tim::Next;
 use tim::Timer;
 ghost use mathlib.Core.Path.{_≡_};
+ghost use mathlib.Core.Bool.{cond};
+ghost use mathlib.Core.List.{List};
 ghost use Prim.Native.Nat.{_+_, _<_, _≤_};
+ghost use lib.Dec.{eqb};
+ghost use lib.Ieee.{Float};
 ghost use lib.ListN.{length};
 ghost use Rattle.tim.specs.Timer.{Fit, ccrAct};
-ghost use Rattle.tim.specs.Next.{nextEvent};
+ghost use Rattle.tim.specs.Next.{nextSteps, nextEvent};
 ghost use Rattle.tim.specs.Change.{compared};
 ghost use Rattle.book.specs.Book.{book, places};
 ghost use Rattle.state.specs.View.{view};
+ghost use Rattle.state.specs.Board.{withInst};
+ghost use Rattle.machine.specs.Board.{timerAt, withTimer};
 ghost use Rattle.machine.specs.Sys.{driveOutputs};
 ghost use Rattle.machine.specs.Deliver.{applied, countAt, run, mostEvents, delivered};
-ghost use Rattle.delivery.specs.Delivery.{OfFour, verdictOf, Driven, Ends, Delivers};
+ghost use Rattle.outputs.specs.Outputs.{Driven};
+ghost use Rattle.delivery.specs.Delivery.{OfFour, verdictOf, Ends, Delivers};
 
 // What a delivery answers: 0 or 8, the events handled, and the entries made.
 pub struct Delivered {
@@ -127,8 +135,50 @@ fn drive(
     let l1 = t.output(1, cnt);
     let l2 = t.output(2, cnt);
     let l3 = t.output(3, cnt);
-    let changes = sys::drive_levels(words, reals, t.inst.n, t.inst.channels, l, l1, l2, l3);
-    book::append_all(pins, levels, cycles, n, changes, at)
+    outputs::drive_and_append(
+        words,
+        reals,
+        pins,
+        levels,
+        cycles,
+        n,
+        t.inst.n,
+        t.inst.channels,
+        l,
+        l1,
+        l2,
+        l3,
+        at,
+    )
+}
+
+// The next event and its steps. It and `due_of` are tim's own, written out here: so they are compiled into the loop, and the timer stays in registers.
+fn first_of(t: Timer) -> Ahead
+    ensures { λ r. ⌜ r ≡ nextSteps t ⌝ }
+{
+    let update = Ahead {
+        steps: t.update_steps(),
+        next: Next::Update,
+    };
+    let a = t.consider(0, update);
+    let b = t.consider(1, a);
+    let c = t.consider(2, b);
+    t.consider(3, c)
+}
+
+fn due_of(t: Timer) -> Due
+    requires { ⌜ Fit t ⌝ }
+    ensures { λ r. ⌜ r ≡ nextEvent t ⌝ }
+{
+    if !t.count.running {
+        return Due::Stopped;
+    }
+    let first = first_of(t);
+    let next = first.next;
+    Due::At(
+        t.count.base + tim::cycles_of(first.steps, t.count.tick),
+        next,
+    )
 }
 
 // Handles the events of timer t that are due at cycle, each at its own due cycle.
@@ -151,7 +201,7 @@ fn run(
     let mut events: u64 = 0;
     let mut count: usize = 0;
     loop {
-        let due = t.next_event();
+        let due = due_of(t);
         let Due::At(at, e) = due else {
             return Ran {
                 timer: t,
@@ -177,6 +227,17 @@ fn run(
     }
 }
 
+// Stores timer i as so many events leave it, but for what set-up fixed; without one it is as it was.
+fn store(words: &mut [u64; WORDS], i: usize, t: Timer, events: u64)
+    requires { ⌜ (i < 8) × (Fit t) ⌝ }
+    ensures { λ _. ⌜ ((x : List Float) → view (now (words .exit)) x ≡ cond (eqb events 0) (view (now (words .entry)) x) (withTimer (view (now (words .entry)) x) i (withInst t (timerAt (view (now (words .entry)) x) i .inst)))) ⌝ }
+{
+    if events == 0 {
+        return;
+    }
+    state::store_live(words, i, t);
+}
+
 // Delivers timer i's events that are due at cycle; then its interrupt line follows and its next event is booked.
 pub fn deliver(
     words: &mut [u64; WORDS],
@@ -195,7 +256,7 @@ pub fn deliver(
     let r = run(words, reals, pins, levels, cycles, t, div, cycle);
     let s = r.timer;
     let due = r.due;
-    state::store_timer(words, i, s);
+    store(words, i, s, r.events);
     rcc::settle_line(words, s);
     rcc::book_due(words, i, due, cycle);
     Delivered {

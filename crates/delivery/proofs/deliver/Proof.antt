@@ -14,8 +14,8 @@ run-requires : tie.Need-run-requires
 run-requires c κs =
     (loaded-fit (c .before .before .before .before .before .before .before .before .before .before .before .before .before .args .words .now) (c .before .before .before .before .before .before .before .before .before .before .before .before .before .args .reals .now) (c .before .before .before .before .before .before .before .before .before .before .before .before .before .args .i) _ (c .before .before .before .before .before .before .before .before .load-timer .ensures (c .before .before .before .before .before .before .before .before .before .before .before .before .before .args .reals .now)), c .before .before .before .before .before .divider .ensures .1 .0, c .before .before .before .before .before .divider .ensures .1 .1, c .before .before .before .before .before .before .before .before .before .before .before .before .before .pre .1)
 
-store-timer-requires : tie.Need-store-timer-requires
-store-timer-requires c κs =
+store-requires : tie.Need-store-requires
+store-requires c κs =
     (c .before .before .before .before .before .before .before .before .before .before .before .before .before .before .before .before .before .before .before .before .before .before .pre .0, c .before .before .before .before .before .before .before .before .run .ensures .1 .0)
 
 settle-line-requires : tie.Need-settle-line-requires
@@ -36,7 +36,7 @@ same-length-3 c = search needs
 
 returns : tie.Need-returns
 returns c =
-    delivers _ _ _ _ _ (c .before .before .before .before .before .before .before .before .before .before .before .before .before .before .before .before .before .before .before .before .before .before .before .before .before .before .before .args .i) (c .before .before .before .before .before .before .before .before .before .before .before .before .before .before .before .before .before .before .before .before .before .before .before .before .before .before .before .args .cycle) _ _ _ _ (c .before .before .before .before .before .before .before .before .before .before .before .before .before .before .before .before .before .before .before .before .before .before .load-timer .ensures (c .before .before .before .before .before .before .before .before .before .before .before .before .before .before .before .before .before .before .before .before .before .before .before .before .before .before .before .args .reals .now)) (c .before .before .before .before .before .before .before .before .before .before .before .before .before .before .before .before .before .before .before .divider .ensures .0) _ _ _ _ _ _ (c .before .before .before .before .before .before .before .before .before .before .before .before .before .run .ensures .0) (c .before .before .before .before .before .before .before .before .before .before .before .before .before .run .ensures .1 .2) (c .before .before .before .before .before .before .before .before .before .before .before .before .before .run .ensures .1 .3) (c .before .before .before .before .before .before .before .before .before .before .before .before .before .run .ensures .1 .4) (c .before .before .before .before .store-timer .ensures _) (c .before .before .settle-line .ensures _) (due-booked _ _ (c .before .before .before .before .before .before .before .before .before .before .before .before .before .before .before .before .before .before .before .before .before .before .before .before .before .before .before .args .i) (c .before .before .before .before .before .before .before .before .before .before .before .before .before .before .before .before .before .before .before .before .before .before .before .before .before .before .before .args .cycle) _ _ (c .before .before .before .before .before .before .before .before .before .before .before .before .before .run .ensures .1 .1) (c .book-due .ensures _))
+    delivers _ _ _ _ _ (c .before .before .before .before .before .before .before .before .before .before .before .before .before .before .before .before .before .before .before .before .before .before .before .before .before .before .before .args .i) (c .before .before .before .before .before .before .before .before .before .before .before .before .before .before .before .before .before .before .before .before .before .before .before .before .before .before .before .args .cycle) _ _ _ _ (c .before .before .before .before .before .before .before .before .before .before .before .before .before .before .before .before .before .before .before .before .before .before .load-timer .ensures (c .before .before .before .before .before .before .before .before .before .before .before .before .before .before .before .before .before .before .before .before .before .before .before .before .before .before .before .args .reals .now)) (c .before .before .before .before .before .before .before .before .before .before .before .before .before .before .before .before .before .before .before .divider .ensures .0) _ _ _ _ _ _ (c .before .before .before .before .before .before .before .before .before .before .before .before .before .run .ensures .0) (c .before .before .before .before .before .before .before .before .before .before .before .before .before .run .ensures .1 .2) (c .before .before .before .before .before .before .before .before .before .before .before .before .before .run .ensures .1 .3) (c .before .before .before .before .before .before .before .before .before .before .before .before .before .run .ensures .1 .4) (c .before .before .before .before .store .ensures _) (c .before .before .settle-line .ensures _) (due-booked _ _ (c .before .before .before .before .before .before .before .before .before .before .before .before .before .before .before .before .before .before .before .before .before .before .before .before .before .before .before .args .i) (c .before .before .before .before .before .before .before .before .before .before .before .before .before .before .before .before .before .before .before .before .before .before .before .before .before .before .before .args .cycle) _ _ (c .before .before .before .before .before .before .before .before .before .before .before .before .before .run .ensures .1 .1) (c .book-due .ensures _))
 
 pub deliver-spec : {M : Type 1} → statement M
 deliver-spec =
@@ -45,7 +45,7 @@ deliver-spec =
     load-timer-requires
     divider-requires
     run-requires
-    store-timer-requires
+    store-requires
     settle-line-requires
     book-due-requires
     same-length

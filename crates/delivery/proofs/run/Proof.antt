@@ -26,8 +26,8 @@ room-requires c κs = search needs
 loop-holds : tie.Need-loop-holds Inv-loop μ-loop
 loop-holds c = (begins _ _ _ _ _ _ (c .before .before .before .before .before .before .before .pre .0) refl, refl, refl, refl)
 
-next-event-requires : tie.Need-next-event-requires Inv-loop μ-loop
-next-event-requires c κs = c .loop .inv .0 .fit
+due-of-requires : tie.Need-due-of-requires Inv-loop μ-loop
+due-of-requires c κs = c .loop .inv .0 .fit
 
 enum-known-due : tie.Need-enum-known-due Inv-loop μ-loop
 enum-known-due c = search needs
@@ -45,7 +45,7 @@ same-length-3 : tie.Need-same-length-3 Inv-loop μ-loop
 same-length-3 c = c .before .before .before .loop .inv .3
 
 returns : tie.Need-returns Inv-loop μ-loop
-returns c = (room-ends _ _ _ _ _ _ _ _ _ _ (c .before .before .before .before .room .ensures) (ends-none _ _ _ _ _ _ _ _ _ _ _ (c .before .before .before .loop .inv .0) (c .before .before .next-event .ensures) (c .enum-told .given .1) _ _), (c .before .before .before .loop .inv .0 .fit, c .before .before .next-event .ensures, omega (arith, c .before .before .before .loop .inv .0 .within, c .before .before .before .loop .inv .1, c .before .before .before .loop .inv .2, c .before .before .before .loop .inv .3, c .before .before .before .before .room .ensures), omega (arith, c .before .before .before .loop .inv .0 .within, c .before .before .before .loop .inv .1, c .before .before .before .loop .inv .2, c .before .before .before .loop .inv .3, c .before .before .before .before .room .ensures), omega (arith, c .before .before .before .loop .inv .0 .within, c .before .before .before .loop .inv .1, c .before .before .before .loop .inv .2, c .before .before .before .loop .inv .3, c .before .before .before .before .room .ensures)))
+returns c = (room-ends _ _ _ _ _ _ _ _ _ _ (c .before .before .before .before .room .ensures) (ends-none _ _ _ _ _ _ _ _ _ _ _ (c .before .before .before .loop .inv .0) (c .before .before .due-of .ensures) (c .enum-told .given .1) _ _), (c .before .before .before .loop .inv .0 .fit, c .before .before .due-of .ensures, omega (arith, c .before .before .before .loop .inv .0 .within, c .before .before .before .loop .inv .1, c .before .before .before .loop .inv .2, c .before .before .before .loop .inv .3, c .before .before .before .before .room .ensures), omega (arith, c .before .before .before .loop .inv .0 .within, c .before .before .before .loop .inv .1, c .before .before .before .loop .inv .2, c .before .before .before .loop .inv .3, c .before .before .before .before .room .ensures), omega (arith, c .before .before .before .loop .inv .0 .within, c .before .before .before .loop .inv .1, c .before .before .before .loop .inv .2, c .before .before .before .loop .inv .3, c .before .before .before .before .room .ensures)))
 
 sub-verdict : tie.Need-sub-verdict Inv-loop μ-loop
 sub-verdict c = c .before .before .before .before .loop .inv .0 .within
@@ -63,13 +63,13 @@ same-length-6 : tie.Need-same-length-6 Inv-loop μ-loop
 same-length-6 c = c .before .before .before .before .before .before .loop .inv .3
 
 returns-2 : tie.Need-returns-2 Inv-loop μ-loop
-returns-2 c = (room-ends _ _ _ _ _ _ _ _ _ _ (c .before .before .before .before .before .before .before .room .ensures) (ends-stop _ _ _ _ _ _ _ _ _ _ _ (c .before .before .before .before .before .before .loop .inv .0) (c .before .before .before .before .before .next-event .ensures) _ _ (c .before .before .before .due .given .1) _ (c .before .verdict .ensures) (c .if1 .taken) _ _), (c .before .before .before .before .before .before .loop .inv .0 .fit, sym (c .before .before .before .due .given .1) ∙ c .before .before .before .before .before .next-event .ensures, omega (arith, c .before .before .before .before .before .before .loop .inv .0 .within, c .before .before .before .before .before .before .loop .inv .1, c .before .before .before .before .before .before .loop .inv .2, c .before .before .before .before .before .before .loop .inv .3, c .before .before .before .before .before .before .before .room .ensures), omega (arith, c .before .before .before .before .before .before .loop .inv .0 .within, c .before .before .before .before .before .before .loop .inv .1, c .before .before .before .before .before .before .loop .inv .2, c .before .before .before .before .before .before .loop .inv .3, c .before .before .before .before .before .before .before .room .ensures), omega (arith, c .before .before .before .before .before .before .loop .inv .0 .within, c .before .before .before .before .before .before .loop .inv .1, c .before .before .before .before .before .before .loop .inv .2, c .before .before .before .before .before .before .loop .inv .3, c .before .before .before .before .before .before .before .room .ensures)))
+returns-2 c = (room-ends _ _ _ _ _ _ _ _ _ _ (c .before .before .before .before .before .before .before .room .ensures) (ends-stop _ _ _ _ _ _ _ _ _ _ _ (c .before .before .before .before .before .before .loop .inv .0) (c .before .before .before .before .before .due-of .ensures) _ _ (c .before .before .before .due .given .1) _ (c .before .verdict .ensures) (c .if1 .taken) _ _), (c .before .before .before .before .before .before .loop .inv .0 .fit, sym (c .before .before .before .due .given .1) ∙ c .before .before .before .before .before .due-of .ensures, omega (arith, c .before .before .before .before .before .before .loop .inv .0 .within, c .before .before .before .before .before .before .loop .inv .1, c .before .before .before .before .before .before .loop .inv .2, c .before .before .before .before .before .before .loop .inv .3, c .before .before .before .before .before .before .before .room .ensures), omega (arith, c .before .before .before .before .before .before .loop .inv .0 .within, c .before .before .before .before .before .before .loop .inv .1, c .before .before .before .before .before .before .loop .inv .2, c .before .before .before .before .before .before .loop .inv .3, c .before .before .before .before .before .before .before .room .ensures), omega (arith, c .before .before .before .before .before .before .loop .inv .0 .within, c .before .before .before .before .before .before .loop .inv .1, c .before .before .before .before .before .before .loop .inv .2, c .before .before .before .before .before .before .loop .inv .3, c .before .before .before .before .before .before .before .room .ensures)))
 
 apply-requires : tie.Need-apply-requires Inv-loop μ-loop
-apply-requires c κs = (of-four _ _ _ _ (c .before .before .before .before .before .next-event .ensures) (c .before .before .before .due .given .1), c .before .before .before .before .before .before .loop .inv .0 .fit, c .before .before .before .before .before .before .before .before .before .before .before .before .before .before .pre .2)
+apply-requires c κs = (of-four _ _ _ _ (c .before .before .before .before .before .due-of .ensures) (c .before .before .before .due .given .1), c .before .before .before .before .before .before .loop .inv .0 .fit, c .before .before .before .before .before .before .before .before .before .before .before .before .before .before .pre .2)
 
 drive-requires : tie.Need-drive-requires Inv-loop μ-loop
-drive-requires c κs = let d = goes _ _ _ _ _ (c .before .before .before .before .before .before .before .verdict .ensures) (c .before .before .before .before .before .before .if1 .left) in (of-four _ _ _ _ (c .before .before .before .before .before .before .before .before .before .before .before .next-event .ensures) (c .before .before .before .before .before .before .before .before .before .due .given .1), omega (arith, d .free, c .before .before .before .before .before .before .before .before .before .before .before .before .loop .inv .0 .within, c .before .before .before .before .before .before .before .before .before .before .before .before .loop .inv .1, c .before .before .before .before .before .before .before .before .before .before .before .before .loop .inv .2, c .before .before .before .before .before .before .before .before .before .before .before .before .loop .inv .3, c .before .before .before .before .before .before .before .before .before .before .before .before .before .room .ensures))
+drive-requires c κs = let d = goes _ _ _ _ _ (c .before .before .before .before .before .before .before .verdict .ensures) (c .before .before .before .before .before .before .if1 .left) in (of-four _ _ _ _ (c .before .before .before .before .before .before .before .before .before .before .before .due-of .ensures) (c .before .before .before .before .before .before .before .before .before .due .given .1), omega (arith, d .free, c .before .before .before .before .before .before .before .before .before .before .before .before .loop .inv .0 .within, c .before .before .before .before .before .before .before .before .before .before .before .before .loop .inv .1, c .before .before .before .before .before .before .before .before .before .before .before .before .loop .inv .2, c .before .before .before .before .before .before .before .before .before .before .before .before .loop .inv .3, c .before .before .before .before .before .before .before .before .before .before .before .before .before .room .ensures))
 
 add-events : tie.Need-add-events Inv-loop μ-loop
 add-events c = let d = goes _ _ _ _ _ (c .before .before .before .before .before .before .before .before .before .before .before .before .before .before .verdict .ensures) (c .before .before .before .before .before .before .before .before .before .before .before .before .before .if1 .left) in omega (arith, d .few)
@@ -78,7 +78,7 @@ loop-less : tie.Need-loop-less Inv-loop μ-loop
 loop-less c = let d = goes _ _ _ _ _ (c .before .before .before .before .before .before .before .before .before .before .before .before .before .before .verdict .ensures) (c .before .before .before .before .before .before .before .before .before .before .before .before .before .if1 .left) in omega (arith, d .few)
 
 loop-again : tie.Need-loop-again Inv-loop μ-loop
-loop-again c = (going-on _ _ _ _ _ _ _ _ _ _ _ (c .before .before .before .before .before .before .before .before .before .before .before .before .before .before .before .before .before .before .before .loop .inv .0) (c .before .before .before .before .before .before .before .before .before .before .before .before .before .before .before .before .before .before .next-event .ensures) _ _ (c .before .before .before .before .before .before .before .before .before .before .before .before .before .before .before .before .due .given .1) _ (c .before .before .before .before .before .before .before .before .before .before .before .before .before .before .verdict .ensures) (c .before .before .before .before .before .before .before .before .before .before .before .before .before .if1 .left) (c .before .before .before .before .before .before .before .before .before .before .before .before .before .before .before .before .before .before .before .before .before .before .before .before .before .before .before .pre .3) (c .before .before .before .before .before .before .before .before .before .before .before .before .before .before .before .before .before .before .before .before .before .before .before .before .before .before .before .pre .1) (c .before .before .before .before .before .before .before .before .before .before .before .before .before .before .before .before .before .before .before .before .before .before .before .before .before .before .before .pre .2) _ _ _ (c .before .before .before .before .before .before .before .before .before .before .before .before .apply .ensures) (c .before .before .before .before .before .before .drive .ensures .0) (c .before .before .before .before .before .before .drive .ensures .1), omega (arith, c .before .before .before .before .before .before .drive .kept, c .before .before .before .before .before .before .before .before .before .before .before .before .before .before .before .before .before .before .before .loop .inv .1), omega (arith, c .before .before .before .before .before .before .drive .kept, c .before .before .before .before .before .before .before .before .before .before .before .before .before .before .before .before .before .before .before .loop .inv .2), omega (arith, c .before .before .before .before .before .before .drive .kept, c .before .before .before .before .before .before .before .before .before .before .before .before .before .before .before .before .before .before .before .loop .inv .3))
+loop-again c = (going-on _ _ _ _ _ _ _ _ _ _ _ (c .before .before .before .before .before .before .before .before .before .before .before .before .before .before .before .before .before .before .before .loop .inv .0) (c .before .before .before .before .before .before .before .before .before .before .before .before .before .before .before .before .before .before .due-of .ensures) _ _ (c .before .before .before .before .before .before .before .before .before .before .before .before .before .before .before .before .due .given .1) _ (c .before .before .before .before .before .before .before .before .before .before .before .before .before .before .verdict .ensures) (c .before .before .before .before .before .before .before .before .before .before .before .before .before .if1 .left) (c .before .before .before .before .before .before .before .before .before .before .before .before .before .before .before .before .before .before .before .before .before .before .before .before .before .before .before .pre .3) (c .before .before .before .before .before .before .before .before .before .before .before .before .before .before .before .before .before .before .before .before .before .before .before .before .before .before .before .pre .1) (c .before .before .before .before .before .before .before .before .before .before .before .before .before .before .before .before .before .before .before .before .before .before .before .before .before .before .before .pre .2) _ _ _ (c .before .before .before .before .before .before .before .before .before .before .before .before .apply .ensures) (c .before .before .before .before .before .before .drive .ensures .0) (c .before .before .before .before .before .before .drive .ensures .1), omega (arith, c .before .before .before .before .before .before .drive .kept, c .before .before .before .before .before .before .before .before .before .before .before .before .before .before .before .before .before .before .before .loop .inv .1), omega (arith, c .before .before .before .before .before .before .drive .kept, c .before .before .before .before .before .before .before .before .before .before .before .before .before .before .before .before .before .before .before .loop .inv .2), omega (arith, c .before .before .before .before .before .before .drive .kept, c .before .before .before .before .before .before .before .before .before .before .before .before .before .before .before .before .before .before .before .loop .inv .3))
 
 pub run-spec : {M : Type 1} → statement M
 run-spec =
@@ -88,7 +88,7 @@ run-spec =
     μ-loop
     room-requires
     loop-holds
-    next-event-requires
+    due-of-requires
     enum-known-due
     enum-told
     same-length
