@@ -24,25 +24,7 @@ use Rattle.setup.specs.Setup.{setupOf, Answered}
 use Rattle.answer.specs.declared.Answer.{Answer}
 use Rattle.answer.specs.Promise.{answer, Answers}
 use Rattle.answer.proofs.Given.{unbooked}
-use Rattle.calls.specs.Encoding.{word, word64, real64, treeAt, hasBook, bookCall, isChange, changeCall, questionCall, callWith, sizeOf}
-
--- ---- floats from their bits
-pub number-exponent : (b : ℕ) → (b % 9223372036854775808 / 4503599627370496 ≡ 2047 → ⊥) → T (not (Ieee.nanBits binary64 b))
-unfolding Ieee.nanBits
-number-exponent b h = rw (ne-eqb (b % 9223372036854775808 / 4503599627370496) 2047 h) tt
-
-pub number-digits : (b : ℕ) → b % 4503599627370496 ≡ 0 → T (not (Ieee.nanBits binary64 b))
-unfolding Ieee.nanBits
-number-digits b h = go (eqb (b % 9223372036854775808 / 4503599627370496) 2047) (eqb (b % 4503599627370496) 0) (eq-eqb (b % 4503599627370496) 0 h)
-  where
-    go : (x y : Bool) → y ≡ true → T (not (x && not y))
-    go true y e = rw e tt
-    go false y e = tt
-
-pub not-a-number : (b : ℕ) → b % 9223372036854775808 / 4503599627370496 ≡ 2047 → (b % 4503599627370496 ≡ 0 → ⊥)
-    → Ieee.div binary64 (Ieee.ofBits binary64 0) (Ieee.ofBits binary64 0) ≡ Ieee.ofBits binary64 b
-unfolding Ieee.div Ieee.ofBits Ieee.ofFields
-not-a-number b e d = rw (e, ne-eqb (b % 4503599627370496) 0 d) refl
+use Rattle.encoding.specs.Encoding.{word, word64, real64, treeAt, hasBook, bookCall, isChange, changeCall, questionCall, callWith, sizeOf}
 
 -- ---- the call that the words say
 pub answers-as : (c d : Call) → c ≡ d → (b : Board) (r : Answer) (w w₁ : List ℕ) (x x₁ : List Float) → Answers (step b c) r w w₁ x x₁ → Answers (step b d) r w w₁ x x₁

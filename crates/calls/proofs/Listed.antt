@@ -19,10 +19,11 @@ use Rattle.machine.specs.Refusals.{lent}
 use Rattle.machine.specs.NumberLaws.{either}
 use Rattle.machine.specs.Numbers.{entries-fit}
 use Rattle.state.specs.View.{view}
+use Rattle.accuracy.specs.Claim.{joined}
 use Rattle.answer.specs.declared.Answer.{Answer}
 use Rattle.answer.specs.Promise.{Answers}
-use Rattle.calls.specs.Encoding.{word, word64, hasBook, bookCall, isChange, changeCall, questionCall, callWith, callOf, sizeOf, lenOf, bookOf}
-use Rattle.calls.specs.Taken.{callsFrom, callsOf, noRoom, taken, answerOf, answersOf, joined, Does, Runs}
+use Rattle.encoding.specs.Encoding.{word, word64, hasBook, bookCall, isChange, changeCall, questionCall, callWith, callOf, sizeOf, lenOf, bookOf}
+use Rattle.calls.specs.Taken.{callsFrom, callsOf, noRoom, taken, answerOf, answersOf, Does, Runs}
 use Rattle.calls.proofs.Laws.{lent-change, lent-question}
 
 -- ---- the places that a call is lent

@@ -7,7 +7,7 @@ use lib.Ieee.{binary64}
 use Rattle.machine.specs.Call.{Call, setUp, clockTree, enable, setPin, drivePin, resetPins, read, write, peek, resetTimer, deliver, queryBooked, queryNext, queryLevel, queryVolts, queryLine, queryTime, clearPending}
 use Rattle.setup.specs.Setup.{setupOf}
 use Rattle.pads.specs.Ext.{extOf}
-use Rattle.calls.specs.Encoding.{word, word64, real64, bookCall, changeCall, questionCall, callWith, sizeOf, lenOf, bookOf}
+use Rattle.encoding.specs.Encoding.{word, word64, real64, bookCall, changeCall, questionCall, callWith, sizeOf, lenOf, bookOf}
 use Rattle.calls.specs.Taken.{callsFrom, callsOf}
 
 pub record Figure : Type 0 where

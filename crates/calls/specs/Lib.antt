@@ -1,4 +1,4 @@
-pub mod Encoding
 pub mod Taken
 pub mod TakenLaws
+pub mod Recorded
 pub mod Figures

@@ -6,13 +6,14 @@ use Prim.Native.Nat.{ℕ, zero, suc, _-_}
 use lib.Dec.{eqb, ltb}
 use lib.ListN.{length, drop}
 use lib.Seq.{sets}
-use Rattle.book.specs.Book.{Entry, Book, puts, over, Holds}
+use Rattle.book.specs.Book.{Book, puts, over, Holds}
 use Rattle.machine.specs.Board.{Board}
 use Rattle.machine.specs.Call.{Call, Outcome}
 use Rattle.machine.specs.Step.{step, run, boardAfter}
 use Rattle.machine.specs.Refusals.{lent}
+use Rattle.accuracy.specs.Claim.{joined}
 use Rattle.calls.specs.declared.Ran.{Ran}
-use Rattle.calls.specs.Encoding.{lenOf, callOf}
+use Rattle.encoding.specs.Encoding.{lenOf, callOf}
 
 -- at most so many calls, up to the first words that are no call
 unfoldable pub callsFrom : ℕ → List ℕ → List Call
@@ -41,18 +42,14 @@ unfoldable pub answersOf : List Outcome → List ℕ
 answersOf [] = []
 answersOf (o ∷ os) = answerOf o ++ answersOf os
 
--- "the entries of all calls .. joined in order"
-unfoldable pub joined : List Outcome → List Entry
-joined [] = []
-joined (o ∷ os) = o .entries ++ joined os
-
 -- what one performed call leaves: the board, its answer in the words from place i on, its entries behind those of a book
 pub record Does (o : Outcome) (b₁ : Board) (i : ℕ) (a a₁ : List ℕ) (k k₁ : Book) : Type 0 where
   pub board : b₁ ≡ o .board
   pub answer : a₁ ≡ sets a i (answerOf o)
   pub entries : k₁ ≡ puts k (o .entries)
 
--- what a list of performed calls leaves: the answers and the entries of `run` from place 0, "later places are untouched"
+-- what a list of performed calls leaves: the answers and the entries of `run` (joined as demand 3 joins them) from place 0, "later places
+-- are untouched"
 pub record Runs (b : Board) (cs : List Call) (b₁ : Board) (r : Ran) (a a₁ p p₁ l l₁ c c₁ : List ℕ) : Type 0 where
   pub calls : r .calls ≡ length cs
   pub board : b₁ ≡ boardAfter b cs

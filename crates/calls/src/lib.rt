@@ -15,164 +15,41 @@ ghost use Rattle.book.specs.Book.{book, puts, places, Holds};
 ghost use Rattle.state.specs.View.{view};
 ghost use Rattle.machine.specs.Step.{step};
 ghost use Rattle.answer.specs.Promise.{Answers};
-ghost use Rattle.calls.specs.Encoding as E;
+ghost use Rattle.encoding.specs.Encoding as E;
 ghost use Rattle.calls.specs.Taken.{noRoom, callsOf, taken, Does, Runs};
-
-// ---- arguments
-
-// Word k, 0 behind the end.
-fn word(calls: &[u32], k: usize) -> u32
-    ensures { λ r. ⌜ r ≡ E.word (now (calls .entry)) k ⌝ }
-{
-    if k < calls.len() {
-        return calls[k];
-    }
-    0
-}
-
-// Two words, low then high.
-fn word64(calls: &[u32], k: usize) -> u64
-    requires { ⌜ k < 4294967296 ⌝ }
-    ensures { λ r. ⌜ r ≡ E.word64 (now (calls .entry)) k ⌝ }
-{
-    let low = word(calls, k);
-    let high = word(calls, k + 1);
-    low as u64 + high as u64 * 4294967296
-}
-
-// The float of 64 bits: exponent 2047 with other digits than 0 is not-a-number.
-fn float(bits: u64) -> f64
-    ensures { λ r. ⌜ r ≡ Ieee.ofBits Ieee.binary64 bits ⌝ }
-{
-    let exponent = bits % 9223372036854775808 / 4503599627370496;
-    if exponent != 2047 {
-        return f64::from_bits(bits);
-    }
-    let digits = bits % 4503599627370496;
-    if digits == 0 {
-        return f64::from_bits(bits);
-    }
-    0.0 / 0.0
-}
-
-fn real64(calls: &[u32], k: usize) -> f64
-    requires { ⌜ k < 4294967296 ⌝ }
-    ensures { λ r. ⌜ r ≡ E.real64 (now (calls .entry)) k ⌝ }
-{
-    let bits = word64(calls, k);
-    float(bits)
-}
-
-// ---- a call's words
-
-// Of set-up: nine, seven a timer, and the signal table.
-fn set_up_size(calls: &[u32]) -> usize
-    ensures { λ r. ⌜ r ≡ 9 + E.word (now (calls .entry)) 7 * 7 + E.word (now (calls .entry)) 8 ⌝ }
-{
-    let n = word(calls, 7);
-    let len = word(calls, 8);
-    9 + n as usize * 7 + len as usize
-}
-
-// 0 where the first word is no call's.
-fn size_of(calls: &[u32]) -> usize
-    ensures { λ r. ⌜ r ≡ E.sizeOf (E.word (now (calls .entry)) 0) (now (calls .entry)) ⌝ }
-{
-    let op = word(calls, 0);
-    match op {
-        0 => set_up_size(calls),
-        1 => 13,
-        2 => 3,
-        3 => 12,
-        4 => 9,
-        5 => 5,
-        6 => 6,
-        7 => 9,
-        8 => 5,
-        9 => 6,
-        10 => 6,
-        11 => 2,
-        12 => 1,
-        13 => 2,
-        14 => 2,
-        15 => 2,
-        16 => 3,
-        17 => 2,
-        _ => 0,
-    }
-}
-
-// 0 where the words are no call, or a call cut short.
-fn len_of(calls: &[u32]) -> usize
-    ensures { λ r. ⌜ r ≡ E.lenOf (now (calls .entry)) ⌝ }
-{
-    let n = size_of(calls);
-    if n <= calls.len() {
-        return n;
-    }
-    0
-}
-
-// The places that the call is lent, 0 without a book.
-fn places_of(calls: &[u32]) -> u64
-    ensures { λ r. ⌜ r ≡ E.bookOf (now (calls .entry)) ⌝ }
-{
-    let op = word(calls, 0);
-    match op {
-        3 => word64(calls, 10),
-        4 => word64(calls, 7),
-        5 => word64(calls, 3),
-        7 => word64(calls, 7),
-        9 => word64(calls, 4),
-        10 => word64(calls, 4),
-        _ => 0,
-    }
-}
-
-fn has_book(op: u32) -> bool
-    ensures { λ r. ⌜ r ≡ E.hasBook op ⌝ }
-{
-    (op == 3) | ((op == 4) | ((op == 5) | ((op == 7) | ((op == 9) | (op == 10)))))
-}
-
-fn is_change(op: u32) -> bool
-    ensures { λ r. ⌜ r ≡ E.isChange op ⌝ }
-{
-    (op == 0) | ((op == 1) | ((op == 2) | (op == 17)))
-}
 
 // ---- questions
 
 fn read(words: &[u64; WORDS], reals: &[f64; REALS], calls: &[u32]) -> Answer
     ensures { λ r. ⌜ Answers (step (view (now (words .entry)) (now (reals .entry))) (E.questionCall 6 (now (calls .entry)))) r (now (words .entry)) (now (words .entry)) (now (reals .entry)) (now (reals .entry)) ⌝ }
 {
-    let timer = word(calls, 1);
-    let offset = word(calls, 2);
-    let size = word(calls, 3);
-    let cycle = word64(calls, 4);
+    let timer = encoding::word(calls, 1);
+    let offset = encoding::word(calls, 2);
+    let size = encoding::word(calls, 3);
+    let cycle = encoding::word64(calls, 4);
     mmio::read(words, reals, timer, offset, size, cycle)
 }
 
 fn peek(words: &[u64; WORDS], reals: &[f64; REALS], calls: &[u32]) -> Answer
     ensures { λ r. ⌜ Answers (step (view (now (words .entry)) (now (reals .entry))) (E.questionCall 8 (now (calls .entry)))) r (now (words .entry)) (now (words .entry)) (now (reals .entry)) (now (reals .entry)) ⌝ }
 {
-    let timer = word(calls, 1);
-    let offset = word(calls, 2);
-    let cycle = word64(calls, 3);
+    let timer = encoding::word(calls, 1);
+    let offset = encoding::word(calls, 2);
+    let cycle = encoding::word64(calls, 3);
     mmio::peek(words, reals, timer, offset, cycle)
 }
 
 fn time(words: &[u64; WORDS], reals: &[f64; REALS], calls: &[u32]) -> Answer
     ensures { λ r. ⌜ Answers (step (view (now (words .entry)) (now (reals .entry))) (E.questionCall 16 (now (calls .entry)))) r (now (words .entry)) (now (words .entry)) (now (reals .entry)) (now (reals .entry)) ⌝ }
 {
-    let cycle = word64(calls, 1);
+    let cycle = encoding::word64(calls, 1);
     query::time(words, reals, cycle)
 }
 
 fn question(words: &[u64; WORDS], reals: &[f64; REALS], calls: &[u32], op: u32) -> Answer
     ensures { λ r. ⌜ Answers (step (view (now (words .entry)) (now (reals .entry))) (E.questionCall op (now (calls .entry)))) r (now (words .entry)) (now (words .entry)) (now (reals .entry)) (now (reals .entry)) ⌝ }
 {
-    let k = word(calls, 1);
+    let k = encoding::word(calls, 1);
     match op {
         6 => read(words, reals, calls),
         8 => peek(words, reals, calls),
@@ -191,12 +68,12 @@ fn set_up(words: &mut [u64; WORDS], reals: &mut [f64; REALS], calls: &[u32]) -> 
     requires { ⌜ 9 + E.word (now calls) 7 * 7 + E.word (now calls) 8 ≤ length (now calls) ⌝ }
     ensures { λ r. ⌜ Answers (step (view (now (words .entry)) (now (reals .entry))) (E.changeCall 0 (now (calls .entry)))) r (now (words .entry)) (now (words .exit)) (now (reals .entry)) (now (reals .exit)) ⌝ }
 {
-    let hz = real64(calls, 1);
-    let vcc = real64(calls, 3);
-    let pins = word(calls, 5);
-    let lines = word(calls, 6);
-    let n = word(calls, 7);
-    let len = word(calls, 8);
+    let hz = encoding::real64(calls, 1);
+    let vcc = encoding::real64(calls, 3);
+    let pins = encoding::word(calls, 5);
+    let lines = encoding::word(calls, 6);
+    let n = encoding::word(calls, 7);
+    let len = encoding::word(calls, 8);
     let start = 9 + n as usize * 7;
     let end = start + len as usize;
     let timers = &calls[9..start];
@@ -212,46 +89,23 @@ fn set_up(words: &mut [u64; WORDS], reals: &mut [f64; REALS], calls: &[u32]) -> 
 fn clock(words: &mut [u64; WORDS], reals: &mut [f64; REALS], calls: &[u32]) -> Answer
     ensures { λ r. ⌜ Answers (step (view (now (words .entry)) (now (reals .entry))) (E.changeCall 1 (now (calls .entry)))) r (now (words .entry)) (now (words .exit)) (now (reals .entry)) (now (reals .exit)) ⌝ }
 {
-    let t = tree_of(calls);
-    let cycle = word64(calls, 11);
+    let t = encoding::tree_of(calls);
+    let cycle = encoding::word64(calls, 11);
     mmio::set_clock_tree(words, reals, t, cycle)
-}
-
-fn tree_of(calls: &[u32]) -> ClockTree
-    ensures { λ r. ⌜ r ≡ E.treeAt (now (calls .entry)) ⌝ }
-{
-    let sysclk_hz = real64(calls, 1);
-    let hclk_hz = real64(calls, 3);
-    let ppre1 = word(calls, 5);
-    let ppre2 = word(calls, 6);
-    let ppre3 = word(calls, 7);
-    let ppre4 = word(calls, 8);
-    let tim1 = word(calls, 9);
-    let tim2 = word(calls, 10);
-    ClockTree {
-        sysclk_hz,
-        hclk_hz,
-        ppre1,
-        ppre2,
-        ppre3,
-        ppre4,
-        tim1,
-        tim2,
-    }
 }
 
 fn enable(words: &mut [u64; WORDS], reals: &[f64; REALS], calls: &[u32]) -> Answer
     ensures { λ r. ⌜ Answers (step (view (now (words .entry)) (now (reals .entry))) (E.changeCall 2 (now (calls .entry)))) r (now (words .entry)) (now (words .exit)) (now (reals .entry)) (now (reals .entry)) ⌝ }
 {
-    let w = word(calls, 1);
-    let value = word(calls, 2);
+    let w = encoding::word(calls, 1);
+    let value = encoding::word(calls, 2);
     query::enable(words, reals, w, value)
 }
 
 fn clear_pending(words: &mut [u64; WORDS], reals: &[f64; REALS], calls: &[u32]) -> Answer
     ensures { λ r. ⌜ Answers (step (view (now (words .entry)) (now (reals .entry))) (E.changeCall 17 (now (calls .entry)))) r (now (words .entry)) (now (words .exit)) (now (reals .entry)) (now (reals .entry)) ⌝ }
 {
-    let irq = word(calls, 1);
+    let irq = encoding::word(calls, 1);
     query::clear_pending(words, reals, irq)
 }
 
@@ -280,14 +134,14 @@ fn set_pin(
     ensures { λ r. ⌜ Answers (step (view (now (words .entry)) (now (reals .entry))) (E.bookCall 3 (now (calls .entry)) (places (now (pins .entry)) (now (levels .entry)) (now (cycles .entry))))) r (now (words .entry)) (now (words .exit)) (now (reals .entry)) (now (reals .exit)) ⌝ }
     ensures { λ r. ⌜ Holds (step (view (now (words .entry)) (now (reals .entry))) (E.bookCall 3 (now (calls .entry)) (places (now (pins .entry)) (now (levels .entry)) (now (cycles .entry)))) .entries) (now (pins .entry)) (now (pins .exit)) (now (levels .entry)) (now (levels .exit)) (now (cycles .entry)) (now (cycles .exit)) (r .count) ⌝ }
 {
-    let pin = word(calls, 1);
-    let mode = word(calls, 2);
-    let open_drain = word(calls, 3);
-    let out = word(calls, 4);
-    let pullup = word(calls, 5);
-    let pulldown = word(calls, 6);
-    let function = word(calls, 7);
-    let cycle = word64(calls, 8);
+    let pin = encoding::word(calls, 1);
+    let mode = encoding::word(calls, 2);
+    let open_drain = encoding::word(calls, 3);
+    let out = encoding::word(calls, 4);
+    let pullup = encoding::word(calls, 5);
+    let pulldown = encoding::word(calls, 6);
+    let function = encoding::word(calls, 7);
+    let cycle = encoding::word64(calls, 8);
     pads::set_pin(
         words,
         reals,
@@ -316,10 +170,10 @@ fn drive_pin(
     ensures { λ r. ⌜ Answers (step (view (now (words .entry)) (now (reals .entry))) (E.bookCall 4 (now (calls .entry)) (places (now (pins .entry)) (now (levels .entry)) (now (cycles .entry))))) r (now (words .entry)) (now (words .exit)) (now (reals .entry)) (now (reals .exit)) ⌝ }
     ensures { λ r. ⌜ Holds (step (view (now (words .entry)) (now (reals .entry))) (E.bookCall 4 (now (calls .entry)) (places (now (pins .entry)) (now (levels .entry)) (now (cycles .entry)))) .entries) (now (pins .entry)) (now (pins .exit)) (now (levels .entry)) (now (levels .exit)) (now (cycles .entry)) (now (cycles .exit)) (r .count) ⌝ }
 {
-    let pin = word(calls, 1);
-    let kind = word(calls, 2);
-    let volts = real64(calls, 3);
-    let cycle = word64(calls, 5);
+    let pin = encoding::word(calls, 1);
+    let kind = encoding::word(calls, 2);
+    let volts = encoding::real64(calls, 3);
+    let cycle = encoding::word64(calls, 5);
     pads::drive_pin(words, reals, pins, levels, cycles, pin, kind, volts, cycle)
 }
 
@@ -334,7 +188,7 @@ fn reset_pins(
     ensures { λ r. ⌜ Answers (step (view (now (words .entry)) (now (reals .entry))) (E.bookCall 5 (now (calls .entry)) (places (now (pins .entry)) (now (levels .entry)) (now (cycles .entry))))) r (now (words .entry)) (now (words .exit)) (now (reals .entry)) (now (reals .exit)) ⌝ }
     ensures { λ r. ⌜ Holds (step (view (now (words .entry)) (now (reals .entry))) (E.bookCall 5 (now (calls .entry)) (places (now (pins .entry)) (now (levels .entry)) (now (cycles .entry)))) .entries) (now (pins .entry)) (now (pins .exit)) (now (levels .entry)) (now (levels .exit)) (now (cycles .entry)) (now (cycles .exit)) (r .count) ⌝ }
 {
-    let cycle = word64(calls, 1);
+    let cycle = encoding::word64(calls, 1);
     pads::reset_pins(words, reals, pins, levels, cycles, cycle)
 }
 
@@ -349,12 +203,12 @@ fn write(
     ensures { λ r. ⌜ Answers (step (view (now (words .entry)) (now (reals .entry))) (E.bookCall 7 (now (calls .entry)) (places (now (pins .entry)) (now (levels .entry)) (now (cycles .entry))))) r (now (words .entry)) (now (words .exit)) (now (reals .entry)) (now (reals .exit)) ⌝ }
     ensures { λ r. ⌜ Holds (step (view (now (words .entry)) (now (reals .entry))) (E.bookCall 7 (now (calls .entry)) (places (now (pins .entry)) (now (levels .entry)) (now (cycles .entry)))) .entries) (now (pins .entry)) (now (pins .exit)) (now (levels .entry)) (now (levels .exit)) (now (cycles .entry)) (now (cycles .exit)) (r .count) ⌝ }
 {
-    let timer = word(calls, 1);
-    let offset = word(calls, 2);
-    let size = word(calls, 3);
-    let value = word(calls, 4);
-    let cycle = word64(calls, 5);
-    mmio::write(
+    let timer = encoding::word(calls, 1);
+    let offset = encoding::word(calls, 2);
+    let size = encoding::word(calls, 3);
+    let value = encoding::word(calls, 4);
+    let cycle = encoding::word64(calls, 5);
+    write::write(
         words,
         reals,
         pins,
@@ -379,8 +233,8 @@ fn reset(
     ensures { λ r. ⌜ Answers (step (view (now (words .entry)) (now (reals .entry))) (E.bookCall 9 (now (calls .entry)) (places (now (pins .entry)) (now (levels .entry)) (now (cycles .entry))))) r (now (words .entry)) (now (words .exit)) (now (reals .entry)) (now (reals .exit)) ⌝ }
     ensures { λ r. ⌜ Holds (step (view (now (words .entry)) (now (reals .entry))) (E.bookCall 9 (now (calls .entry)) (places (now (pins .entry)) (now (levels .entry)) (now (cycles .entry)))) .entries) (now (pins .entry)) (now (pins .exit)) (now (levels .entry)) (now (levels .exit)) (now (cycles .entry)) (now (cycles .exit)) (r .count) ⌝ }
 {
-    let timer = word(calls, 1);
-    let cycle = word64(calls, 2);
+    let timer = encoding::word(calls, 1);
+    let cycle = encoding::word64(calls, 2);
     mmio::reset(words, reals, pins, levels, cycles, timer, cycle)
 }
 
@@ -395,8 +249,8 @@ fn deliver(
     ensures { λ r. ⌜ Answers (step (view (now (words .entry)) (now (reals .entry))) (E.bookCall 10 (now (calls .entry)) (places (now (pins .entry)) (now (levels .entry)) (now (cycles .entry))))) r (now (words .entry)) (now (words .exit)) (now (reals .entry)) (now (reals .exit)) ⌝ }
     ensures { λ r. ⌜ Holds (step (view (now (words .entry)) (now (reals .entry))) (E.bookCall 10 (now (calls .entry)) (places (now (pins .entry)) (now (levels .entry)) (now (cycles .entry)))) .entries) (now (pins .entry)) (now (pins .exit)) (now (levels .entry)) (now (levels .exit)) (now (cycles .entry)) (now (cycles .exit)) (r .count) ⌝ }
 {
-    let timer = word(calls, 1);
-    let cycle = word64(calls, 2);
+    let timer = encoding::word(calls, 1);
+    let cycle = encoding::word64(calls, 2);
     mmio::deliver(words, reals, pins, levels, cycles, timer, cycle)
 }
 
@@ -436,11 +290,11 @@ fn perform(
     ensures { λ r. ⌜ Answers (step (view (now (words .entry)) (now (reals .entry))) (E.callWith (now (calls .entry)) (places (now (pins .entry)) (now (levels .entry)) (now (cycles .entry))))) r (now (words .entry)) (now (words .exit)) (now (reals .entry)) (now (reals .exit)) ⌝ }
     ensures { λ r. ⌜ Holds (step (view (now (words .entry)) (now (reals .entry))) (E.callWith (now (calls .entry)) (places (now (pins .entry)) (now (levels .entry)) (now (cycles .entry)))) .entries) (now (pins .entry)) (now (pins .exit)) (now (levels .entry)) (now (levels .exit)) (now (cycles .entry)) (now (cycles .exit)) (r .count) ⌝ }
 {
-    let op = word(calls, 0);
-    if has_book(op) {
+    let op = encoding::word(calls, 0);
+    if encoding::has_book(op) {
         return book_call(words, reals, calls, pins, levels, cycles, op);
     }
-    if is_change(op) {
+    if encoding::is_change(op) {
         return change(words, reals, calls, op);
     }
     question(words, reals, calls, op)
@@ -542,8 +396,8 @@ pub fn run_calls(
     let mut entries: usize = 0;
     loop {
         let rest = &calls[at..];
-        let len = len_of(rest);
-        let lent = places_of(rest);
+        let len = encoding::len_of(rest);
+        let lent = encoding::places_of(rest);
         let i = done * 3;
         if stops(len, size - i, room - entries, lent) {
             return Ran {

@@ -1,8 +1,8 @@
 -- The sum of its parts.
 use borrow.Author.Needs.{needs}
-use Rattle.calls.specs.Encoding as E
-use Rattle.calls.proofs.set_up_size.Statement.{statement}
-use Rattle.calls.proofs.set_up_size.Tie as tie
+use Rattle.encoding.specs.Encoding as E
+use Rattle.encoding.proofs.set_up_size.Statement.{statement}
+use Rattle.encoding.proofs.set_up_size.Tie as tie
 
 word-requires : tie.Need-word-requires
 word-requires c κs = search needs

@@ -1,8 +1,8 @@
 -- The words are the fields.
 use borrow.Author.Needs.{needs}
-use Rattle.calls.specs.Encoding as E
-use Rattle.calls.proofs.tree_of.Statement.{statement}
-use Rattle.calls.proofs.tree_of.Tie as tie
+use Rattle.encoding.specs.Encoding as E
+use Rattle.encoding.proofs.tree_of.Statement.{statement}
+use Rattle.encoding.proofs.tree_of.Tie as tie
 
 real64-requires : tie.Need-real64-requires
 real64-requires c κs = search needs

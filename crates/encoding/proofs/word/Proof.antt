@@ -1,10 +1,10 @@
 -- Within the words, or 0.
 use mathlib.Core.Path.{sym}
 use lib.ListN.{List·getD-eq-default}
-use Rattle.calls.specs.Encoding as E
+use Rattle.encoding.specs.Encoding as E
 use borrow.Author.Needs.{needs}
-use Rattle.calls.proofs.word.Statement.{statement}
-use Rattle.calls.proofs.word.Tie as tie
+use Rattle.encoding.proofs.word.Statement.{statement}
+use Rattle.encoding.proofs.word.Tie as tie
 
 mul-result : tie.Need-mul-result
 mul-result c = search needs

@@ -1,10 +1,10 @@
 -- The float of two words.
 use mathlib.Core.Path.{_∙_, ap}
 use lib.Ieee as Ieee
-use Rattle.calls.specs.Encoding as E
+use Rattle.encoding.specs.Encoding as E
 use borrow.Author.Needs.{needs}
-use Rattle.calls.proofs.real64.Statement.{statement}
-use Rattle.calls.proofs.real64.Tie as tie
+use Rattle.encoding.proofs.real64.Statement.{statement}
+use Rattle.encoding.proofs.real64.Tie as tie
 
 word64-requires : tie.Need-word64-requires
 word64-requires c κs = search needs

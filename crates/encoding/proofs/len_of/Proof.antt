@@ -2,9 +2,9 @@
 use borrow.Author.Needs.{needs}
 use mathlib.Core.Path.{sym}
 use borrow.Author.Tests.{le-leb, lt-leb}
-use Rattle.calls.specs.Encoding as E
-use Rattle.calls.proofs.len_of.Statement.{statement}
-use Rattle.calls.proofs.len_of.Tie as tie
+use Rattle.encoding.specs.Encoding as E
+use Rattle.encoding.proofs.len_of.Statement.{statement}
+use Rattle.encoding.proofs.len_of.Tie as tie
 
 size-of-requires : tie.Need-size-of-requires
 size-of-requires c κs = search needs

@@ -1,8 +1,8 @@
 -- Low and high.
-use Rattle.calls.specs.Encoding as E
+use Rattle.encoding.specs.Encoding as E
 use borrow.Author.Needs.{needs}
-use Rattle.calls.proofs.word64.Statement.{statement}
-use Rattle.calls.proofs.word64.Tie as tie
+use Rattle.encoding.proofs.word64.Statement.{statement}
+use Rattle.encoding.proofs.word64.Tie as tie
 
 word-requires : tie.Need-word-requires
 word-requires c κs = search needs

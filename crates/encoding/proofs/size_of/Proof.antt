@@ -2,9 +2,9 @@
 use borrow.Author.Needs.{needs}
 use mathlib.Core.Path.{sym, _∙_}
 use borrow.Author.Tests.{ne-eqb}
-use Rattle.calls.specs.Encoding as E
-use Rattle.calls.proofs.size_of.Statement.{statement}
-use Rattle.calls.proofs.size_of.Tie as tie
+use Rattle.encoding.specs.Encoding as E
+use Rattle.encoding.proofs.size_of.Statement.{statement}
+use Rattle.encoding.proofs.size_of.Tie as tie
 
 word-requires : tie.Need-word-requires
 word-requires c κs = search needs

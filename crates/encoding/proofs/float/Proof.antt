@@ -1,8 +1,8 @@
 -- A number, or not-a-number.
-use Rattle.calls.proofs.Laws.{number-exponent, number-digits, not-a-number}
+use Rattle.encoding.proofs.Laws.{number-exponent, number-digits, not-a-number}
 use borrow.Author.Needs.{needs}
-use Rattle.calls.proofs.float.Statement.{statement}
-use Rattle.calls.proofs.float.Tie as tie
+use Rattle.encoding.proofs.float.Statement.{statement}
+use Rattle.encoding.proofs.float.Tie as tie
 
 float-from-bits-result : tie.Need-float-from-bits-result
 float-from-bits-result c =
