@@ -1,8 +1,5 @@
 // Answers a call list (docs/CALLS.md): standard input to standard output, from the first board.
-mod answer;
-mod line;
 
-use answer::OUT;
 use line::AT;
 use line::ENCODED;
 use line::LINE;
@@ -11,6 +8,7 @@ use line::STATE;
 use line::USED;
 use line::WIDE;
 use line::WORD;
+use reply::OUT;
 use state::REALS;
 use state::WORDS;
 
@@ -43,7 +41,7 @@ fn run(
 ) -> usize {
     let mut answers = [0u64; 3];
     let ran = calls::run_calls(words, reals, call, &mut answers, pins, levels, cycles);
-    answer::answer(out, n, &answers, pins, levels, cycles, ran.entries)
+    reply::answer(out, n, &answers, pins, levels, cycles, ran.entries)
 }
 
 // The call asks for as many places as it is lent: its last number.
@@ -129,7 +127,7 @@ fn act(
         state[USED] = n as u64;
         return true;
     }
-    let m = answer::malformed(out, used, state[LINE], event);
+    let m = reply::malformed(out, used, state[LINE], event);
     state[USED] = m as u64;
     line::leave(state);
     false
@@ -209,7 +207,7 @@ fn finish(
     if e != line::GO_ON {
         act(e, state, call, words, reals, pins, levels, cycles, out);
     }
-    answer::flush(out, line::size(state[USED]));
+    reply::flush(out, line::size(state[USED]));
 }
 
 // A proved loop has to end, and nothing says that a list does. So the loop counts its turns down from a number that no run
@@ -225,7 +223,7 @@ fn main() {
     let mut levels = [0u8; PLACES];
     let mut cycles = [0u64; PLACES];
     let mut out = [0u8; OUT];
-    state::clear(&mut words, &mut reals, 1.0, 1.0);
+    blank::clear(&mut words, &mut reals, 1.0, 1.0);
     let mut turns = u64::MAX;
     while turns > 0
         && turn(

@@ -3,8 +3,8 @@ use Prim.Native.Nat.{_-_}
 use borrow.Author.Needs.{needs}
 use lib.ListN.{length}
 use native.Mathlib.Omega.{arith}
-use Rattle.replay.proofs.answer.words.Statement.{statement}
-use Rattle.replay.proofs.answer.words.Tie as tie
+use Rattle.reply.proofs.words.Statement.{statement}
+use Rattle.reply.proofs.words.Tie as tie
 
 abbrev Inv-loop : tie.InvT-loop
 Inv-loop out₀ n s at₀ i₀ out at i = Unit {0}

@@ -2,8 +2,8 @@
 use Prim.Native.Nat.{_-_}
 use borrow.Author.Needs.{needs}
 use native.Mathlib.Omega.{arith}
-use Rattle.replay.proofs.line.clear.Statement.{statement}
-use Rattle.replay.proofs.line.clear.Tie as tie
+use Rattle.line.proofs.clear.Statement.{statement}
+use Rattle.line.proofs.clear.Tie as tie
 
 abbrev Inv-loop : tie.InvT-loop
 Inv-loop call₀ from end i₀ call i = Unit {0}

@@ -2,8 +2,8 @@
 use Prim.Native.Nat.{_-_}
 use borrow.Author.Needs.{needs}
 use native.Mathlib.Omega.{arith}
-use Rattle.replay.proofs.answer.answer.Statement.{statement}
-use Rattle.replay.proofs.answer.answer.Tie as tie
+use Rattle.reply.proofs.answer.Statement.{statement}
+use Rattle.reply.proofs.answer.Tie as tie
 
 abbrev Inv-loop : tie.InvT-loop
 Inv-loop out₀ n answer pins levels cycles entries at₀ i₀ out at i = Unit {0}

@@ -2,8 +2,8 @@
 use borrow.Author.Needs.{needs}
 use lib.Seq.{length-take-le}
 use mathlib.Core.Path.{sym}
-use Rattle.replay.proofs.line.named.Statement.{statement}
-use Rattle.replay.proofs.line.named.Tie as tie
+use Rattle.line.proofs.named.Statement.{statement}
+use Rattle.line.proofs.named.Tie as tie
 
 slice-aggregate-call-of : tie.Need-slice-aggregate-call-of
 slice-aggregate-call-of c = sym (length-take-le _ _ (c .before .if1 .taken))

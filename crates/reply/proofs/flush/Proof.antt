@@ -2,8 +2,8 @@
 use borrow.Author.Needs.{needs}
 use lib.Seq.{length-take-le}
 use mathlib.Core.Path.{sym}
-use Rattle.replay.proofs.answer.flush.Statement.{statement}
-use Rattle.replay.proofs.answer.flush.Tie as tie
+use Rattle.reply.proofs.flush.Statement.{statement}
+use Rattle.reply.proofs.flush.Tie as tie
 
 slice-aggregate-write-all : tie.Need-slice-aggregate-write-all
 slice-aggregate-write-all c = sym (length-take-le _ _ (c .before .if1 .taken))
