@@ -181,7 +181,7 @@ fn fill(
     requires { ⌜ S.withinLimits (setupOf hz vcc pins lines (now timers) (now table)) ≡ true ⌝ }
     ensures { λ _. ⌜ view (now (words .exit)) (now (reals .exit)) ≡ freshBoard hz vcc pins lines (instsOf (now (timers .entry))) (now (table .entry)) ⌝ }
 {
-    state::clear(words, reals, hz, vcc);
+    blank::clear(words, reals, hz, vcc);
     store_timers(words, timers);
     store_table(words, table);
     let count = timer_count(timers);
