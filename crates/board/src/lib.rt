@@ -39,7 +39,7 @@ pub extern "C" fn board_reals() -> usize
 pub extern "C" fn board_blank(words: &mut [u64; WORDS], reals: &mut [f64; REALS])
     ensures { λ _. ⌜ view (now (words .exit)) (now (reals .exit)) ≡ firstBoard ⌝ }
 {
-    state::clear(words, reals, 1.0, 1.0);
+    blank::clear(words, reals, 1.0, 1.0);
 }
 
 // ---- set-up, clocks, pins
@@ -215,7 +215,7 @@ pub extern "C" fn board_write(
     ensures { λ r. ⌜ Answers (step (view (now (words .entry)) (now (reals .entry))) (C.write timer offset size value cycle (places (now (pins .entry)) (now (levels .entry)) (now (cycles .entry))))) r (now (words .entry)) (now (words .exit)) (now (reals .entry)) (now (reals .exit)) ⌝ }
     ensures { λ r. ⌜ Holds (step (view (now (words .entry)) (now (reals .entry))) (C.write timer offset size value cycle (places (now (pins .entry)) (now (levels .entry)) (now (cycles .entry)))) .entries) (now (pins .entry)) (now (pins .exit)) (now (levels .entry)) (now (levels .exit)) (now (cycles .entry)) (now (cycles .exit)) (r .count) ⌝ }
 {
-    mmio::write(
+    write::write(
         words,
         reals,
         pins,

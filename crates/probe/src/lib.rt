@@ -1,4 +1,5 @@
 // Functions below the calls, exported for measurement alone (bench/).
+use answer::Answer;
 use gpio::Change;
 use state::REALS;
 use state::WORDS;
@@ -9,6 +10,10 @@ ghost use lib.Ieee.{Float};
 ghost use Rattle.state.specs.View.{view};
 ghost use Rattle.machine.specs.Board.{timerAt, withTimer, withPads};
 ghost use Rattle.machine.specs.Sys.{refreshPin, sigOut};
+ghost use Rattle.machine.specs.Call as C;
+ghost use Rattle.machine.specs.Step.{step};
+ghost use Rattle.book.specs.Book.{places, Holds};
+ghost use Rattle.answer.specs.Promise.{Answers};
 ghost use Rattle.probe.specs.Probe.{Moved, moves};
 
 // 1 if a pin's level changed.
@@ -56,4 +61,21 @@ pub extern "C" fn probe_timer(words: &mut [u64; WORDS], i: u32)
     let k = (i % 8) as usize;
     let t = state::load_timer(words, k);
     state::store_timer(words, k, t);
+}
+
+// The call that resets the pins. It is not measured: with it here the others are compiled as in the board, where refresh_any has two
+// callers and stays out of refresh_pin.
+#[no_mangle]
+pub extern "C" fn probe_reset_pins(
+    words: &mut [u64; WORDS],
+    reals: &mut [f64; REALS],
+    pins: &mut [u8],
+    levels: &mut [u8],
+    cycles: &mut [u64],
+    cycle: u64,
+) -> Answer
+    ensures { λ r. ⌜ Answers (step (view (now (words .entry)) (now (reals .entry))) (C.resetPins cycle (places (now (pins .entry)) (now (levels .entry)) (now (cycles .entry))))) r (now (words .entry)) (now (words .exit)) (now (reals .entry)) (now (reals .exit)) ⌝ }
+    ensures { λ r. ⌜ Holds (step (view (now (words .entry)) (now (reals .entry))) (C.resetPins cycle (places (now (pins .entry)) (now (levels .entry)) (now (cycles .entry)))) .entries) (now (pins .entry)) (now (pins .exit)) (now (levels .entry)) (now (levels .exit)) (now (cycles .entry)) (now (cycles .exit)) (r .count) ⌝ }
+{
+    pads::reset_pins(words, reals, pins, levels, cycles, cycle)
 }
