@@ -92,11 +92,14 @@ pub fn signal_of(g: Gpio) -> u32
     0
 }
 
-// A signal that drives its pin.
+// A signal that drives its pin. The UARTs' signals end at 159; the timers' lie above, and need one test.
 pub fn drives(s: u32) -> bool
     requires { ⌜ s < 65536 ⌝ }
     ensures { λ r. ⌜ r ≡ G.drives s ⌝ }
 {
+    if s >= 160 {
+        return true;
+    }
     if s == 0 {
         return false;
     }

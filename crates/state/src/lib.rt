@@ -3,6 +3,7 @@ ghost use mathlib.Core.Path.{_≡_};
 ghost use mathlib.Core.List.{List, [], _∷_};
 ghost use Prim.Native.Nat.{ℕ, _+_, _*_, _%_, _<_, _≤_, min};
 ghost use lib.ListN.{length, drop};
+ghost use lib.Dec.{ltb};
 ghost use lib.Seq.{paste};
 ghost use lib.Ieee.{Float};
 ghost use Rattle.tim.specs.Timer.{Fit};
@@ -209,6 +210,14 @@ pub fn route(words: &[u64; WORDS], s: usize) -> usize
     ensures { λ r. ⌜ ((x : List Float) → r ≡ routeAt (view (now (words .entry)) x) s) ⌝ }
 {
     lesser(words[ROUTE + s], 128) as usize
+}
+
+// A pin routes signal s.
+pub fn is_routed(words: &[u64; WORDS], s: usize) -> bool
+    requires { ⌜ s < 256 ⌝ }
+    ensures { λ r. ⌜ ((x : List Float) → r ≡ ltb (routeAt (view (now (words .entry)) x) s) 128) ⌝ }
+{
+    words[ROUTE + s] < 128
 }
 
 pub fn set_route(words: &mut [u64; WORDS], s: usize, p: usize)

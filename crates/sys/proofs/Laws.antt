@@ -1,6 +1,6 @@
 -- What the functions leave, over any board: each step's equation in, the definition's board out. Assumes nothing.
 use mathlib.Core.Path.{_≡_, refl, ap, sym, subst, _∙_}
-use mathlib.Core.Bool.{Bool, true, false, cond}
+use mathlib.Core.Bool.{Bool, true, false, cond, _&&_}
 use Prim.Native.Nat.{ℕ, suc, _+_, _-_, _≤_, _<_}
 use native.Mathlib.Nat.{sub-zero}
 use native.Mathlib.Omega.{arith}
@@ -48,9 +48,17 @@ module _ (b b₁ : Board) (i : ℕ) (g : Gpio) (v : Float) (m : Moved) (load : g
       (refreshPin (b .pads) i) refl .board
 
 -- ---- a pin refreshed
+pub both-left : (x y : Bool) → x && y ≡ true → x ≡ true
+both-left true y e = refl
+both-left false y e = e
+
+pub both-right : (x y : Bool) → x && y ≡ true → y ≡ true
+both-right true y e = e
+both-right false y e = absurd (let z : _≡_ {A = ℕ} 0 1 = cc in omega arith)
+
 module _ (b b₁ : Board) (i : ℕ) where
   -- a push-pull pin that its signal drives
-  pub push-sets : (s l : ℕ) → isPushPull (gpioAt (b .pads) i .cfg) ≡ true → s ≡ gpioAt (b .pads) i .sig → drives s ≡ true → l ≡ levelOf (b .pads) s
+  push-sets : (s l : ℕ) → isPushPull (gpioAt (b .pads) i .cfg) ≡ true → s ≡ gpioAt (b .pads) i .sig → drives s ≡ true → l ≡ levelOf (b .pads) s
       → b₁ ≡ withPads b (withGpio (b .pads) i (pushPull (gpioAt (b .pads) i) l (b .pads .vcc))) → b₁ ≡ withPads b (refreshPin (b .pads) i .pads)
   unfolding refreshPin
   push-sets s l h q d r e =
@@ -60,6 +68,14 @@ module _ (b b₁ : Board) (i : ℕ) where
       let same : refreshed i g (levelOf (b .pads) (signalOf g)) v .gpio ≡ pushPull g l v =
       ap (λ (n : ℕ). refreshed i g n v .gpio) own ∙ signal-wins g h (ap drives (sym q) ∙ d) i l v in
       e ∙ ap (λ (x : Gpio). withPads b (withGpio (b .pads) i x)) (sym same)
+
+  -- which has that level
+  push-level : (l : ℕ) → i < length (b .pads .gpio) → b₁ ≡ withPads b (withGpio (b .pads) i (pushPull (gpioAt (b .pads) i) l (b .pads .vcc)))
+      → l ≡ gpioAt (b₁ .pads) i .pin .level
+  unfolding pushPull
+  push-level l h e =
+      sym (ap (λ (y : Board). gpioAt (y .pads) i .pin .level) e
+      ∙ ap (λ (x : Gpio). x .pin .level) (getD-set-same (b .pads .gpio) i (pushPull (gpioAt (b .pads) i) l (b .pads .vcc)) noGpio h))
 
   -- its change, from its level before and after
   pub refresh-moves : i < length (b .pads .gpio) → b₁ ≡ withPads b (refreshPin (b .pads) i .pads)
@@ -76,6 +92,13 @@ module _ (b b₁ : Board) (i : ℕ) where
         board = e;
         change = c ∙ ap (λ (n : ℕ). changed i n now) p ∙ ap (changed i (g .pin .level)) new ∙ sym (level-change i g (levelOf (b .pads) (signalOf g)) (b .pads .vcc));
       }
+
+  -- the change of a push-pull pin that its signal drives
+  pub push-moves : i < length (b .pads .gpio) → (s l was : ℕ) → isPushPull (gpioAt (b .pads) i .cfg) ≡ true → s ≡ gpioAt (b .pads) i .sig → drives s ≡ true
+      → l ≡ levelOf (b .pads) s → was ≡ gpioAt (b .pads) i .pin .level
+      → b₁ ≡ withPads b (withGpio (b .pads) i (pushPull (gpioAt (b .pads) i) l (b .pads .vcc)))
+      → (r : Change) → r ≡ changed i was l → Moves (refreshPin (b .pads) i) b b₁ r
+  push-moves h s l was p q d k o e r c = refresh-moves h (push-sets s l p q d k e) was l o (push-level l h e) r c
 
 -- ---- a pin configured, and its routes
 pub select-sets : (b b₁ b₂ b₃ : Board) (i : ℕ) (g g₁ : Gpio) (c : PinCfg) (f new : ℕ)

@@ -1,10 +1,11 @@
 -- A pin's signal is one of the 256. Assumes nothing.
-use mathlib.Core.Path.{_≡_}
+use mathlib.Core.Path.{_≡_, _∙_, sym}
 use native.Mathlib.Omega.{arith}
 use mathlib.Core.Bool.{Bool, true, false, cond}
 use mathlib.Core.List.{List}
 use Prim.Native.Nat.{ℕ, _≤_, _<_}
-use lib.Dec.{eqb, lit<}
+use lib.Dec.{eqb, ltb, lit<}
+use borrow.Author.Tests.{ltb-true, ltb-false}
 use lib.Ieee.{Float}
 use lib.ListN.{length}
 use Rattle.words.specs.declared.Gpio.{Gpio}
@@ -24,9 +25,12 @@ signal-small w x i = go (eqb (gpioAt (view w x .pads) i .cfg .mode) 2)
 pub loaded-small : (w : List ℕ) (x : List Float) (i : ℕ) {g : Gpio} {s : ℕ} → g ≡ gpioAt (view w x .pads) i → s ≡ signalOf g → s < 256
 loaded-small w x i e f = rw (f, e) (signal-small w x i)
 
--- a route that is some pin is one of the 128
-pub route-small : (w : List ℕ) (x : List Float) (s : ℕ) {p : ℕ} → p ≡ routeOf (view w x .pads) s → (p ≡ 128 → ⊥) → p < 128
-route-small w x s e n = omega (arith, bounded w x .route-le s)
+-- the route of a signal that some pin routes, and that of one that none does
+pub routed-small : (w : List ℕ) (x : List Float) (s : ℕ) {p : ℕ} {r : Bool} → p ≡ routeOf (view w x .pads) s → r ≡ ltb (routeOf (view w x .pads) s) 128 → r ≡ true → p < 128
+routed-small w x s e f t = omega (arith, ltb-true (routeOf (view w x .pads) s) 128 (sym f ∙ t))
+
+pub no-route : (w : List ℕ) (x : List Float) (s : ℕ) {r : Bool} → r ≡ ltb (routeOf (view w x .pads) s) 128 → r ≡ false → routeOf (view w x .pads) s ≡ 128
+no-route w x s f t = omega (arith, bounded w x .route-le s, ltb-false (routeOf (view w x .pads) s) 128 (sym f ∙ t))
 
 -- there are at most 128 pins
 pub pins-small : (w : List ℕ) (x : List Float) {n : ℕ} → n ≡ view w x .counts .pins → n ≤ 128

@@ -5,15 +5,18 @@ use state::REALS;
 use state::WORDS;
 use words::PinCfg;
 ghost use mathlib.Core.Path.{_≡_};
+ghost use mathlib.Core.Bool.{true};
 ghost use mathlib.Core.List.{List};
 ghost use Prim.Native.Nat.{_<_, _≤_};
 ghost use lib.Ieee.{Float};
+ghost use Rattle.gpio.specs.Gpio.{changeOf};
+ghost use Rattle.state.specs.Board.{gpioAt, sigLevelAt};
 ghost use Rattle.state.specs.View.{view};
 ghost use lib.ListN.{length};
 ghost use Rattle.book.specs.Book.{book};
 ghost use Rattle.machine.specs.Board.{withPads, plainCfg};
 ghost use Rattle.machine.specs.Sys as S;
-ghost use Rattle.sys.specs.Moves.{Moves, Reset};
+ghost use Rattle.sys.specs.Moves.{signalDriven, Moves, Reset};
 
 // Re-resolves the level of pin i after any change of its inputs.
 pub fn update_pin(words: &mut [u64; WORDS], reals: &mut [f64; REALS], i: usize) -> Change
@@ -28,34 +31,58 @@ pub fn update_pin(words: &mut [u64; WORDS], reals: &mut [f64; REALS], i: usize) 
     m.change
 }
 
+// Pin i is push-pull, and its signal drives it.
+fn is_driven(words: &[u64; WORDS], i: usize) -> bool
+    requires { ⌜ i < 128 ⌝ }
+    ensures { λ r. ⌜ ((x : List Float) → r ≡ signalDriven (gpioAt (view (now (words .entry)) x) i)) ⌝ }
+{
+    if levels::is_push_pull(words, i) {
+        return gpio::drives(levels::signal(words, i));
+    }
+    false
+}
+
+// Such a pin refreshed: only what changes is stored. The change as a number, which is handed back in a register.
+fn refresh_driven(words: &mut [u64; WORDS], reals: &mut [f64; REALS], i: usize) -> u32
+    requires { ⌜ (i < 128) × (signalDriven (gpioAt (view (now words) (now reals)) i) ≡ true) ⌝ }
+    ensures { λ r. ⌜ Moves (S.refreshPin (view (now (words .entry)) (now (reals .entry)) .pads) i) (view (now (words .entry)) (now (reals .entry))) (view (now (words .exit)) (now (reals .exit))) (changeOf r) ⌝ }
+{
+    let was = levels::level(words, i);
+    let l = state::sig_level(words, levels::signal(words, i) as usize);
+    levels::drive_level(words, reals, i, l);
+    gpio::code_of(gpio::changed(i as u8, was, l))
+}
+
+// Any pin refreshed. It has two callers, so that it is not inlined into the short way.
+fn refresh_slow(words: &mut [u64; WORDS], reals: &mut [f64; REALS], i: usize) -> u32
+    requires { ⌜ i < 128 ⌝ }
+    ensures { λ r. ⌜ Moves (S.refreshPin (view (now (words .entry)) (now (reals .entry)) .pads) i) (view (now (words .entry)) (now (reals .entry))) (view (now (words .exit)) (now (reals .exit))) (changeOf r) ⌝ }
+{
+    let was = levels::level(words, i);
+    refresh_any(words, reals, i);
+    gpio::code_of(gpio::changed(i as u8, was, levels::level(words, i)))
+}
+
+// Pin i refreshed; its change as a number.
+fn refresh(words: &mut [u64; WORDS], reals: &mut [f64; REALS], i: usize) -> u32
+    requires { ⌜ i < 128 ⌝ }
+    ensures { λ r. ⌜ Moves (S.refreshPin (view (now (words .entry)) (now (reals .entry)) .pads) i) (view (now (words .entry)) (now (reals .entry))) (view (now (words .exit)) (now (reals .exit))) (changeOf r) ⌝ }
+{
+    if is_driven(words, i) {
+        return refresh_driven(words, reals, i);
+    }
+    refresh_slow(words, reals, i)
+}
+
 // Recomputes what the chip drives on pin i from its configuration, the selected signal and the signal's level, then re-resolves it.
-// The level is read before and after: the change of a refresh would be handed back through memory.
 pub fn refresh_pin(words: &mut [u64; WORDS], reals: &mut [f64; REALS], i: usize) -> Change
     requires { ⌜ i < 128 ⌝ }
     ensures { λ r. ⌜ Moves (S.refreshPin (view (now (words .entry)) (now (reals .entry)) .pads) i) (view (now (words .entry)) (now (reals .entry))) (view (now (words .exit)) (now (reals .exit))) r ⌝ }
 {
-    let was = levels::level(words, i);
-    refresh(words, reals, i);
-    gpio::changed(i as u8, was, levels::level(words, i))
+    gpio::change_of(refresh(words, reals, i))
 }
 
-// Of a push-pull pin that its signal drives only what changes is stored.
-fn refresh(words: &mut [u64; WORDS], reals: &mut [f64; REALS], i: usize)
-    requires { ⌜ i < 128 ⌝ }
-    ensures { λ _. ⌜ view (now (words .exit)) (now (reals .exit)) ≡ withPads (view (now (words .entry)) (now (reals .entry))) (S.refreshPin (view (now (words .entry)) (now (reals .entry)) .pads) i .pads) ⌝ }
-{
-    if levels::is_push_pull(words, i) {
-        let s = levels::signal(words, i);
-        if gpio::drives(s) {
-            let l = state::sig_level(words, s as usize);
-            levels::drive_level(words, reals, i, l);
-            return;
-        }
-    }
-    refresh_any(words, reals, i);
-}
-
-// Any pin: loaded, its side made anew, resolved and stored. It has two callers, so that it is not inlined into the short way.
+// Any pin: loaded, its side made anew, resolved and stored.
 fn refresh_any(words: &mut [u64; WORDS], reals: &mut [f64; REALS], i: usize)
     requires { ⌜ i < 128 ⌝ }
     ensures { λ _. ⌜ view (now (words .exit)) (now (reals .exit)) ≡ withPads (view (now (words .entry)) (now (reals .entry))) (S.refreshPin (view (now (words .entry)) (now (reals .entry)) .pads) i .pads) ⌝ }
@@ -149,6 +176,18 @@ pub fn drive_pin(
     update_pin(words, reals, i)
 }
 
+// Signal s at a level that it has not, on the pin that routes it; the change as a number.
+pub fn move_signal(words: &mut [u64; WORDS], reals: &mut [f64; REALS], s: usize, level: u8) -> u32
+    requires { ⌜ (s < 256) × (level ≤ 1) × (sigLevelAt (view (now words) (now reals)) s ≡ level → ⊥) ⌝ }
+    ensures { λ r. ⌜ Moves (S.sigOut (view (now (words .entry)) (now (reals .entry)) .pads) s level) (view (now (words .entry)) (now (reals .entry))) (view (now (words .exit)) (now (reals .exit))) (changeOf r) ⌝ }
+{
+    state::set_sig_level(words, s, level);
+    if !state::is_routed(words, s) {
+        return 0;
+    }
+    refresh(words, reals, state::route(words, s))
+}
+
 // Drives output signal s to a level, on the pin that routes it.
 pub fn sig_out(words: &mut [u64; WORDS], reals: &mut [f64; REALS], s: usize, level: u8) -> Change
     requires { ⌜ (s < 256) × (level ≤ 1) ⌝ }
@@ -157,12 +196,7 @@ pub fn sig_out(words: &mut [u64; WORDS], reals: &mut [f64; REALS], s: usize, lev
     if state::sig_level(words, s) == level {
         return Change::Same;
     }
-    state::set_sig_level(words, s, level);
-    let p = state::route(words, s);
-    if p == 128 {
-        return Change::Same;
-    }
-    refresh_pin(words, reals, p)
+    gpio::change_of(move_signal(words, reals, s, level))
 }
 
 // An input with nothing selected.
@@ -185,9 +219,7 @@ fn reset_pin(words: &mut [u64; WORDS], reals: &mut [f64; REALS], i: usize) -> Ch
 {
     let g = state::load_gpio(words, reals, i);
     state::store_gpio(words, reals, i, gpio::configure(g, plain(), 0));
-    let was = levels::level(words, i);
-    refresh_any(words, reals, i);
-    gpio::changed(i as u8, was, levels::level(words, i))
+    gpio::change_of(refresh_slow(words, reals, i))
 }
 
 // Resets the pins' electrical state and the routing; what the outside drives is kept. The changes go to the book, pin by pin.

@@ -1,21 +1,24 @@
 -- Bounds of what the timer's definitions give. Assumes nothing.
-use mathlib.Core.Path.{_≡_, refl, ap, sym}
-use mathlib.Core.Bool.{Bool, true, false, cond}
+use mathlib.Core.Path.{_≡_, refl, ap, sym, subst}
+use mathlib.Core.Bool.{Bool, true, false, cond, not, _&&_}
 use mathlib.Core.List.{List, [], _∷_}
 use Prim.Native.Nat.{ℕ, _+_, _-_, _*_, _%_, _^_, _≤_, _<_}
-use lib.Dec.{ltb, eqb}
+use lib.Dec.{ltb, leb, eqb}
+use lib.ListN.{getD}
 use native.Mathlib.Omega.{arith}
-use native.Mathlib.Nat.{le-refl, le-trans, mul-le-mul, mod-lt}
-use borrow.Author.Tests.{ltb-true, eqb-false}
+use native.Mathlib.Nat.{add-zero, le-refl, le-trans, mul-le-mul, mod-lt}
+use borrow.Author.Tests.{eq-eqb, ne-eqb, lt-ltb, le-ltb, ltb-true, leb-true, leb-false, eqb-true, eqb-false}
+use mir.Val.{boolByte}
 use Rattle.tim.specs.declared.Timer.{Timer}
 use Rattle.tim.specs.declared.Ahead.{Ahead}
 use Rattle.tim.specs.declared.Next.the-variants.{Compare}
 use Rattle.tim.specs.declared.Due.the-variants.{At, Stopped}
 use Rattle.rm0440.specs.Bits.{UDIS}
 use Rattle.rm0440.specs.Update.{shadow}
-use Rattle.tim.specs.Timer.{down, Fit}
+use Rattle.rm0440.specs.Output as Out
+use Rattle.tim.specs.Timer.{down, isOutput, Fit}
 use Rattle.tim.specs.Change.{reloaded, loaded, withFlag, UIF}
-use Rattle.tim.specs.Next.{updateSteps, compares, compareSteps, consider, nextSteps, nextEvent}
+use Rattle.tim.specs.Next.{updateSteps, ahead, waiting, compares, compareSteps, nearer, consider, nextSteps, nextEvent}
 
 -- an event that is considered can only be nearer
 consider-le : (t : Timer) (ch : ℕ) (best : Ahead) → consider t ch best .steps ≤ best .steps
@@ -73,3 +76,59 @@ odd x h = go (eqb (x % 2) 1) refl
 -- four channels, each equal
 pub four : {a b c d a′ b′ c′ d′ : Bool} → a ≡ a′ → b ≡ b′ → c ≡ c′ → d ≡ d′ → (a ∷ b ∷ c ∷ d ∷ []) ≡ (a′ ∷ b′ ∷ c′ ∷ d′ ∷ [])
 four p q r s = rw (p, q, r, s)
+
+never : false ≡ true → ⊥
+never h = subst (λ (b : Bool). cond b ⊥ (Unit {0})) h tt
+
+-- ---- the compares that can be next
+
+-- a channel that is done, or no output, changes nothing
+pub shut : (t : Timer) (ch : ℕ) (best : Ahead) → waiting t ch ≡ false → consider t ch best ≡ best
+unfolding consider compares
+shut t ch best h = rw (closed (getD (t .chan .«cc_done») ch false) (isOutput t ch) (ahead t ch) h)
+  where
+    closed : (d o a : Bool) → (not d && o) ≡ false → (not d && (o && a)) ≡ false
+    closed true o a h = refl
+    closed false false a h = refl
+    closed false true a h = absurd (never (sym h))
+
+-- any other counts if its compare lies ahead
+pub opened : (t : Timer) (ch : ℕ) (best : Ahead) → waiting t ch ≡ true
+    → consider t ch best ≡ cond (ahead t ch) (nearer (compareSteps t ch) ch best) best
+unfolding consider compares
+opened t ch best h = rw (clear (getD (t .chan .«cc_done») ch false) (isOutput t ch) (ahead t ch) h)
+  where
+    clear : (d o a : Bool) → (not d && o) ≡ true → (not d && (o && a)) ≡ a
+    clear false true a h = refl
+    clear false false a h = absurd (never h)
+    clear true o a h = absurd (never h)
+
+-- ---- the output reference
+
+pub bit-le : (b : Bool) → boolByte b ≤ 1
+bit-le true = omega arith
+bit-le false = omega arith
+
+-- PWM mode 1 in one comparison: a count at the compare is still active downward
+pub edge : (d : Bool) (cnt ccr : ℕ) → ltb cnt (ccr + boolByte d) ≡ Out.pwm1 d cnt ccr
+edge false cnt ccr = rw add-zero
+edge true cnt ccr = go (leb cnt ccr) refl
+  where
+    go : (b : Bool) → leb cnt ccr ≡ b → ltb cnt (ccr + 1) ≡ b
+    go true e = lt-ltb cnt (ccr + 1) (omega (arith, leb-true cnt ccr e))
+    go false e = le-ltb cnt (ccr + 1) (omega (arith, leb-false cnt ccr e))
+
+-- the forced modes
+pub forced : (mode : ℕ) (d : Bool) (cnt ccr : ℕ) (l : Bool) → 4 ≤ mode → mode < 6 → eqb mode 5 ≡ Out.ocref mode d cnt ccr l
+unfolding Out.ocref
+forced mode d cnt ccr l h k = go (eqb mode 5) refl
+  where
+    go : (b : Bool) → eqb mode 5 ≡ b → b ≡ cond (eqb mode 4) false (cond b true (cond (eqb mode 6) (Out.pwm1 d cnt ccr) (cond (eqb mode 7) (not (Out.pwm1 d cnt ccr)) l)))
+    go true e = rw (ne-eqb mode 4 (λ q. omega (arith, eqb-true mode 5 e, q)))
+    go false e = rw (eq-eqb mode 4 (omega (arith, eqb-false mode 5 e)))
+
+-- the modes that keep what the last match left
+pub kept-ref : (mode : ℕ) (d : Bool) (cnt ccr : ℕ) (l : Bool) → mode < 4 → l ≡ Out.ocref mode d cnt ccr l
+unfolding Out.ocref
+kept-ref mode d cnt ccr l h =
+    rw (ne-eqb mode 4 (λ q. omega (arith, q)), ne-eqb mode 5 (λ q. omega (arith, q)), ne-eqb mode 6 (λ q. omega (arith, q)), ne-eqb mode 7 (λ q. omega (arith, q)))

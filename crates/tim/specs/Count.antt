@@ -19,14 +19,17 @@ downFrom reload cnt n = cond (leb n cnt) (cnt - n) (reload - (n - cnt - 1) % (re
 abbrev pub ticksAt : Timer → ℕ → ℕ
 ticksAt t c = stepsBetween (t .count .base) c (t .count .tick)
 
+-- the count after n steps
+abbrev pub countAfter : Timer → ℕ → ℕ
+countAfter t n =
+    cond (down t)
+    (downFrom (t .count .«arr_act») (min (t .count .cnt0) (t .count .«arr_act»)) n)
+    (upFrom (t .count .«arr_act») (t .count .cnt0) n)
+
 -- the counter at a cycle; "including its clamp: counting down from a counter above reload reads as from reload" (docs/DIFFERENCES.md, clamp-down)
 unfoldable pub cntAt : Timer → ℕ → ℕ
 cntAt t c =
-    cond (t .count .running)
-    (cond (down t)
-    (downFrom (t .count .«arr_act») (min (t .count .cnt0) (t .count .«arr_act»)) (ticksAt t c))
-    (upFrom (t .count .«arr_act») (t .count .cnt0) (ticksAt t c)))
-    (t .count .cnt0)
+    cond (t .count .running) (countAfter t (ticksAt t c)) (t .count .cnt0)
 
 abbrev pub atCount : Count → ℕ → ℕ → Count
 atCount k cnt base = record {

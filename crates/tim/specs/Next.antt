@@ -20,6 +20,10 @@ abbrev pub ahead : Timer → ℕ → Bool
 ahead t ch =
     cond (down t) (leb (ccrAct t ch) (t .count .cnt0)) (leb (t .count .cnt0) (ccrAct t ch) && leb (ccrAct t ch) (t .count .«arr_act»))
 
+-- an output that is not done
+abbrev pub waiting : Timer → ℕ → Bool
+waiting t ch = not (getD (t .chan .«cc_done») ch false) && isOutput t ch
+
 unfoldable pub compares : Timer → ℕ → Bool
 compares t ch = not (getD (t .chan .«cc_done») ch false) && (isOutput t ch && ahead t ch)
 
@@ -28,11 +32,11 @@ abbrev pub compareSteps : Timer → ℕ → ℕ
 compareSteps t ch = cond (down t) (t .count .cnt0 - ccrAct t ch) (ccrAct t ch - t .count .cnt0)
 
 -- "A compare goes before an update only if strictly earlier; equal compares go lowest channel first."
+abbrev pub nearer : ℕ → ℕ → Ahead → Ahead
+nearer steps ch best = cond (ltb steps (best .steps)) (record { steps = steps; next = Compare ch }) best
+
 unfoldable pub consider : Timer → ℕ → Ahead → Ahead
-consider t ch best =
-    cond (compares t ch)
-    (cond (ltb (compareSteps t ch) (best .steps)) (record { steps = compareSteps t ch; next = Compare ch }) best)
-    best
+consider t ch best = cond (compares t ch) (nearer (compareSteps t ch) ch best) best
 
 unfoldable pub nextSteps : Timer → Ahead
 nextSteps t = consider t 3 (consider t 2 (consider t 1 (consider t 0 (record { steps = updateSteps t; next = Update }))))

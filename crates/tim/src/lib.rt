@@ -1,7 +1,7 @@
 // A general-purpose timer by value: the Rust's periph/tim.rs, without its registers (crate regs). It knows nothing of
 // pins, lines or booking.
 ghost use mathlib.Core.Path.{_≡_};
-ghost use mathlib.Core.Bool.{Bool};
+ghost use mathlib.Core.Bool.{Bool, true, false};
 ghost use Prim.Native.Nat.{ℕ, _+_, _-_, _*_, _/_, _%_, _<_, _≤_, min};
 ghost use lib.Dec.{eqb};
 ghost use lib.ListN.{getD, set};
@@ -9,8 +9,8 @@ ghost use Rattle.rm0440.specs.Counter.{stepCycles, restart};
 ghost use Rattle.rm0440.specs.Output as Out;
 ghost use Rattle.tim.specs.Timer as T;
 ghost use Rattle.tim.specs.Timer.{Fit, withCount};
-ghost use Rattle.tim.specs.Count.{upFrom, downFrom, ticksAt, cntAt, synced, atCount};
-ghost use Rattle.tim.specs.Next.{updateSteps, compares, compareSteps, ahead, consider, nextSteps, nextEvent};
+ghost use Rattle.tim.specs.Count.{upFrom, downFrom, ticksAt, countAfter, cntAt, synced, atCount};
+ghost use Rattle.tim.specs.Next.{updateSteps, waiting, nearer, consider, nextSteps, nextEvent};
 ghost use Rattle.tim.specs.Change as C;
 
 // What set-up fixes: the timer's number, width, channel count, bus, interrupt and enable bit.
@@ -80,7 +80,7 @@ pub enum Due {
     Stopped,
 }
 
-// The count after a number of steps upward. Here, in `ticks_at` and in `synced_base` less than a period or a step needs no division.
+// The count after a number of steps upward.
 fn count_up(reload: u32, cnt: u32, ticks: u64) -> u32
     requires { ⌜ ticks < 9223372036854775808 ⌝ }
     ensures { λ r. ⌜ r ≡ upFrom reload cnt ticks ⌝ }
@@ -90,12 +90,7 @@ fn count_up(reload: u32, cnt: u32, ticks: u64) -> u32
     if sum <= last {
         return sum as u32;
     }
-    let period = last + 1;
-    let over = sum - period;
-    if over < period {
-        return over as u32;
-    }
-    (over % period) as u32
+    (sum % (last + 1)) as u32
 }
 
 fn count_down(reload: u32, cnt: u32, ticks: u64) -> u32
@@ -151,6 +146,9 @@ fn cc_flag(ch: usize) -> u32
 fn at_match(mode: u32, latched: bool) -> bool
     ensures { λ r. ⌜ r ≡ Out.atMatch mode latched ⌝ }
 {
+    if mode >= 4 {
+        return latched;
+    }
     if mode == 1 {
         return true;
     }
@@ -166,10 +164,7 @@ fn at_match(mode: u32, latched: bool) -> bool
 fn pwm1(down: bool, cnt: u32, ccr: u32) -> bool
     ensures { λ r. ⌜ r ≡ Out.pwm1 down cnt ccr ⌝ }
 {
-    if down {
-        return cnt <= ccr;
-    }
-    cnt < ccr
+    (cnt as u64) < ccr as u64 + down as u64
 }
 
 impl Timer {
@@ -252,15 +247,24 @@ impl Timer {
         if c <= self.count.base {
             return 0;
         }
-        let past = c - self.count.base;
-        let tick = self.count.tick as u64;
-        if past < tick {
-            return 0;
-        }
-        past / tick
+        (c - self.count.base) / self.count.tick as u64
     }
 
-    // Counter value at cycle c.
+    fn after_down(self, ticks: u64) -> u32
+        ensures { λ r. ⌜ r ≡ downFrom (self .count .«arr_act») (min (self .count .cnt0) (self .count .«arr_act»)) ticks ⌝ }
+    {
+        let from = lesser(self.count.cnt0, self.count.arr_act);
+        count_down(self.count.arr_act, from, ticks)
+    }
+
+    fn after_up(self, ticks: u64) -> u32
+        requires { ⌜ ticks < 9223372036854775808 ⌝ }
+        ensures { λ r. ⌜ r ≡ upFrom (self .count .«arr_act») (self .count .cnt0) ticks ⌝ }
+    {
+        count_up(self.count.arr_act, self.count.cnt0, ticks)
+    }
+
+    // Counter value at cycle c. The direction comes first, so that little is alive during the division.
     pub fn cnt_at(self, c: u64) -> u32
         requires { ⌜ (Fit self) × (c < 9223372036854775808) ⌝ }
         ensures { λ r. ⌜ r ≡ cntAt self c ⌝ }
@@ -268,28 +272,21 @@ impl Timer {
         if !self.count.running {
             return self.count.cnt0;
         }
-        let ticks = self.ticks_at(c);
         if self.down() {
-            let from = lesser(self.count.cnt0, self.count.arr_act);
-            return count_down(self.count.arr_act, from, ticks);
+            return self.after_down(self.ticks_at(c));
         }
-        count_up(self.count.arr_act, self.count.cnt0, ticks)
+        self.after_up(self.ticks_at(c))
     }
 
-    // The cycle of the last step at or before now.
-    fn synced_base(self, now: u64) -> u64
-        requires { ⌜ Fit self ⌝ }
-        ensures { λ r. ⌜ r ≡ self .count .base + ticksAt self now * self .count .tick ⌝ }
+    // The count after a number of steps.
+    fn count_after(self, ticks: u64) -> u32
+        requires { ⌜ ticks < 9223372036854775808 ⌝ }
+        ensures { λ r. ⌜ r ≡ countAfter self ticks ⌝ }
     {
-        if now <= self.count.base {
-            return self.count.base;
+        if self.down() {
+            return self.after_down(ticks);
         }
-        let past = now - self.count.base;
-        let tick = self.count.tick as u64;
-        if past < tick {
-            return self.count.base;
-        }
-        now - past % tick
+        self.after_up(ticks)
     }
 
     pub fn at_count(mut self, cnt: u32, base: u64) -> Timer
@@ -300,7 +297,7 @@ impl Timer {
         self
     }
 
-    // Re-bases the reference to the most recent counter step at or before now (keeps the sub-step phase).
+    // Re-bases the reference to the most recent counter step at or before now (keeps the sub-step phase). Quotient and remainder are one division.
     pub fn sync(self, now: u64) -> Timer
         requires { ⌜ (Fit self) × (now < 9223372036854775808) ⌝ }
         ensures { λ r. ⌜ r ≡ synced self now ⌝ }
@@ -308,7 +305,12 @@ impl Timer {
         if !self.count.running {
             return self;
         }
-        self.at_count(self.cnt_at(now), self.synced_base(now))
+        if now <= self.count.base {
+            return self.at_count(self.count_after(0), self.count.base);
+        }
+        let past = now - self.count.base;
+        let tick = self.count.tick as u64;
+        self.at_count(self.count_after(past / tick), now - past % tick)
     }
 
     // Channel ch's byte of CCMR1 or CCMR2.
@@ -354,65 +356,51 @@ impl Timer {
         period - cnt
     }
 
-    // Channel ch's compare lies ahead of the counter in this period.
-    fn is_ahead(self, ch: usize) -> bool
+    // Channel ch is an output and not done in this period.
+    fn is_waiting(self, ch: usize) -> bool
         requires { ⌜ ch < 4 ⌝ }
-        ensures { λ r. ⌜ r ≡ ahead self ch ⌝ }
-    {
-        let act = self.chan.ccr_act;
-        let ccr = act[ch];
-        if self.down() {
-            return ccr <= self.count.cnt0;
-        }
-        if self.count.cnt0 <= ccr {
-            return ccr <= self.count.arr_act;
-        }
-        false
-    }
-
-    // Channel ch still compares in this period.
-    fn does_compare(self, ch: usize) -> bool
-        requires { ⌜ ch < 4 ⌝ }
-        ensures { λ r. ⌜ r ≡ compares self ch ⌝ }
+        ensures { λ r. ⌜ r ≡ waiting self ch ⌝ }
     {
         let done = self.chan.cc_done;
         if done[ch] {
             return false;
         }
-        if self.is_output(ch) {
-            return self.is_ahead(ch);
-        }
-        false
+        self.is_output(ch)
     }
 
-    fn compare_steps(self, ch: usize) -> u64
-        requires { ⌜ ch < 4 ⌝ }
-        ensures { λ r. ⌜ r ≡ compareSteps self ch ⌝ }
-    {
-        let act = self.chan.ccr_act;
-        let ccr = act[ch];
-        if self.down() {
-            return less(self.count.cnt0, ccr);
-        }
-        less(ccr, self.count.cnt0)
-    }
-
-    // The nearer of what is nearest so far and channel ch's compare.
-    pub fn consider(self, ch: usize, best: Ahead) -> Ahead
-        requires { ⌜ ch < 4 ⌝ }
+    // The nearer of what is nearest so far and channel ch's compare, counting upward.
+    pub fn consider_up(self, ch: usize, best: Ahead) -> Ahead
+        requires { ⌜ (ch < 4) × (T.down self ≡ false) ⌝ }
         ensures { λ r. ⌜ r ≡ consider self ch best ⌝ }
     {
-        if !self.does_compare(ch) {
+        if !self.is_waiting(ch) {
             return best;
         }
-        let steps = self.compare_steps(ch);
-        if steps < best.steps {
-            return Ahead {
-                steps,
-                next: Next::Compare(ch),
-            };
+        let act = self.chan.ccr_act;
+        let ccr = act[ch];
+        if ccr < self.count.cnt0 {
+            return best;
         }
-        best
+        if ccr > self.count.arr_act {
+            return best;
+        }
+        nearer((ccr - self.count.cnt0) as u64, ch, best)
+    }
+
+    // The same, counting downward.
+    pub fn consider_down(self, ch: usize, best: Ahead) -> Ahead
+        requires { ⌜ (ch < 4) × (T.down self ≡ true) ⌝ }
+        ensures { λ r. ⌜ r ≡ consider self ch best ⌝ }
+    {
+        if !self.is_waiting(ch) {
+            return best;
+        }
+        let act = self.chan.ccr_act;
+        let ccr = act[ch];
+        if ccr > self.count.cnt0 {
+            return best;
+        }
+        nearer((self.count.cnt0 - ccr) as u64, ch, best)
     }
 
     fn next_steps(self) -> Ahead
@@ -422,10 +410,16 @@ impl Timer {
             steps: self.update_steps(),
             next: Next::Update,
         };
-        let a = self.consider(0, update);
-        let b = self.consider(1, a);
-        let c = self.consider(2, b);
-        self.consider(3, c)
+        if self.down() {
+            let a = self.consider_down(0, update);
+            let b = self.consider_down(1, a);
+            let c = self.consider_down(2, b);
+            return self.consider_down(3, c);
+        }
+        let a = self.consider_up(0, update);
+        let b = self.consider_up(1, a);
+        let c = self.consider_up(2, b);
+        self.consider_up(3, c)
     }
 
     // The next event after the reference: the update and every pending compare.
@@ -727,30 +721,32 @@ fn max_of(inst: Inst) -> u32
     }
 }
 
-// a - b, or 0.
-fn less(a: u32, b: u32) -> u64
-    ensures { λ r. ⌜ r ≡ a - b ⌝ }
+// The nearer of what is nearest so far and channel ch's compare, so many steps ahead.
+fn nearer(steps: u64, ch: usize, best: Ahead) -> Ahead
+    ensures { λ r. ⌜ r ≡ nearer steps ch best ⌝ }
 {
-    if a <= b {
-        return 0;
+    if steps < best.steps {
+        return Ahead {
+            steps,
+            next: Next::Compare(ch),
+        };
     }
-    (a - b) as u64
+    best
 }
 
 fn ref_of(mode: u32, down: bool, cnt: u32, ccr: u32, latched: bool) -> bool
+    requires { ⌜ mode < 8 ⌝ }
     ensures { λ r. ⌜ r ≡ Out.ocref mode down cnt ccr latched ⌝ }
 {
-    if mode == 4 {
-        return false;
+    if mode >= 6 {
+        let p = pwm1(down, cnt, ccr);
+        if mode == 6 {
+            return p;
+        }
+        return !p;
     }
-    if mode == 5 {
-        return true;
-    }
-    if mode == 6 {
-        return pwm1(down, cnt, ccr);
-    }
-    if mode == 7 {
-        return !pwm1(down, cnt, ccr);
+    if mode >= 4 {
+        return mode == 5;
     }
     latched
 }

@@ -1,39 +1,24 @@
--- Refreshed; the change is that of its level.
-use Rattle.sys.proofs.Laws.{refresh-moves}
-use Rattle.sys.proofs.Small.{pin-there}
+use Rattle.sys.proofs.Laws.{told}
 use borrow.Author.Needs.{needs}
 use Rattle.sys.proofs.refresh_pin.Statement.{statement}
 use Rattle.sys.proofs.refresh_pin.Tie as tie
-use Rattle.gpio.proofs.changed.Reads as changed-reads
-use Rattle.levels.proofs.level.Reads as level-reads
+use Rattle.sys.proofs.refresh_pin.Reads as reads
+use Rattle.sys.proofs.refresh_pin.Lts as lts
+use Rattle.gpio.proofs.change_of.Reads as change-of-reads
 use Rattle.sys.proofs.refresh.Reads as refresh-reads
 
-level-requires : tie.Need-level-requires
-level-requires c κs = search needs
-
+-- src/lib.rt:82:21
 refresh-requires : tie.Need-refresh-requires
 refresh-requires c κs = search needs
 
-cast-changed : tie.Need-cast-changed
-cast-changed c = search needs
+-- src/lib.rt:82:5
+change-of-requires : tie.Need-change-of-requires
+change-of-requires c κs = search needs
 
-level-requires-2 : tie.Need-level-requires-2
-level-requires-2 c κs = search needs
-
-changed-requires : tie.Need-changed-requires
-changed-requires c κs = search needs
-
+-- src/lib.rt:78:1
 returns : tie.Need-returns
 returns c =
-    refresh-moves _ _ (c .before .before .before .before .before .before .before .before .args .i) (pin-there (c .before .before .before .before .before .before .before .before .args .words .now) (c .before .before .before .before .before .before .before .before .args .reals .now) (c .before .before .before .before .before .before .before .before .pre)) (c .before .before .before .refresh .ensures) _ _ (c .before .before .before .before .before .before .level .ensures (c .before .before .before .before .before .before .before .before .args .reals .now)) (c .before .level2 .ensures _) _ (c .changed .ensures)
+    told _ _ _ _ _ (c .change-of .ensures) (c .before .refresh .ensures)
 
 pub refresh-pin-spec : {M : Type 1} → statement M
-refresh-pin-spec =
-    tie.close
-    (tie.spec
-    level-requires
-    refresh-requires
-    cast-changed
-    level-requires-2
-    changed-requires
-    returns)
+refresh-pin-spec = tie.close (tie.spec refresh-requires change-of-requires returns)

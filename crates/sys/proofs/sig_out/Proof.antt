@@ -1,31 +1,38 @@
--- By the level that the signal has and the pin that routes it.
-use Rattle.sys.proofs.Laws.{sig-none, sig-pin, sig-same}
-use Rattle.sys.proofs.Small.{route-small}
+use mathlib.Core.Path.{_∙_, ap, sym}
+use Rattle.sys.proofs.Laws.{sig-same, told}
 use borrow.Author.Needs.{needs}
-use mathlib.Core.Path.{_∙_, sym}
 use Rattle.sys.proofs.sig_out.Statement.{statement}
 use Rattle.sys.proofs.sig_out.Tie as tie
+use Rattle.sys.proofs.sig_out.Reads as reads
+use Rattle.sys.proofs.sig_out.Lts as lts
+use Rattle.gpio.proofs.change_of.Reads as change-of-reads
+use Rattle.state.proofs.sig_level.Reads as sig-level-reads
+use Rattle.sys.proofs.move_signal.Reads as move-signal-reads
 
+-- src/lib.rt:196:8
 sig-level-requires : tie.Need-sig-level-requires
 sig-level-requires c κs = search needs
 
+-- src/lib.rt:197:9
 returns : tie.Need-returns
-returns c = sig-same _ _ _ (sym (c .before .sig-level .ensures (c .before .before .before .args .reals .now)) ∙ c .if1 .taken)
+returns c =
+    sig-same _ _ _ (sym (c .before .sig-level .ensures (c .before .before .before .args .reals .now)) ∙ c .if1 .taken)
 
-set-sig-level-requires : tie.Need-set-sig-level-requires
-set-sig-level-requires c κs = search needs
+-- src/lib.rt:199:21
+move-signal-requires : tie.Need-move-signal-requires
+move-signal-requires c κs =
+    (c .before .before .before .before .before .pre .0, c .before .before .before .before .before .pre .1, λ e. c .before .before .if1 .left (c .before .before .before .sig-level .ensures (c .before .before .before .before .before .args .reals .now) ∙ e))
 
-route-requires : tie.Need-route-requires
-route-requires c κs = search needs
+-- src/lib.rt:199:5
+change-of-requires : tie.Need-change-of-requires
+change-of-requires c κs = search needs
 
+-- src/lib.rt:192:1
 returns-2 : tie.Need-returns-2
-returns-2 c = sig-none _ _ _ (λ e. c .before .before .before .before .before .if1 .left (c .before .before .before .before .before .before .sig-level .ensures (c .before .before .before .before .before .before .before .before .args .reals .now) ∙ e)) _ (c .before .before .before .set-sig-level .ensures (c .before .before .before .before .before .before .before .before .args .reals .now)) (sym (c .before .route .ensures (c .before .before .before .before .before .before .before .before .args .reals .now)) ∙ c .if2 .taken)
-
-refresh-pin-requires : tie.Need-refresh-pin-requires
-refresh-pin-requires c κs = route-small _ _ _ (c .before .before .before .route .ensures (c .before .before .before .before .before .before .before .before .before .before .args .reals .now)) (c .before .before .if2 .left)
-
-returns-3 : tie.Need-returns-3
-returns-3 c = sig-pin _ _ _ (λ e. c .before .before .before .before .before .before .before .before .if1 .left (c .before .before .before .before .before .before .before .before .before .sig-level .ensures (c .before .before .before .before .before .before .before .before .before .before .before .args .reals .now) ∙ e)) _ (c .before .before .before .before .before .before .set-sig-level .ensures (c .before .before .before .before .before .before .before .before .before .before .before .args .reals .now)) _ (c .before .before .before .before .route .ensures (c .before .before .before .before .before .before .before .before .before .before .before .args .reals .now)) (c .before .before .before .if2 .left) _ _ (c .refresh-pin .ensures)
+returns-2 c =
+    told _ _ _ _ _ (c .change-of .ensures) (c .before .move-signal .ensures)
 
 pub sig-out-spec : {M : Type 1} → statement M
-sig-out-spec = tie.close (tie.spec sig-level-requires returns set-sig-level-requires route-requires returns-2 refresh-pin-requires returns-3)
+sig-out-spec =
+    tie.close
+    (tie.spec sig-level-requires returns move-signal-requires change-of-requires returns-2)

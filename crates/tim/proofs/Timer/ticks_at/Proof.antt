@@ -1,29 +1,33 @@
--- Before the reference no step has passed, nor in less than a step.
 use Prim.Native.Nat.{_-_}
-use borrow.Author.Needs.{needs}
-use mathlib.Core.Path.{_≡_, sym}
-use native.Mathlib.Nat.{div-eq-of-lt, zero-div}
+use mathlib.Core.Path.{_≡_}
+use native.Mathlib.Nat.{zero-div}
 use native.Mathlib.Omega.{arith}
+use borrow.Author.Needs.{needs}
 use Rattle.tim.proofs.Timer.ticks_at.Statement.{statement}
 use Rattle.tim.proofs.Timer.ticks_at.Tie as tie
+use Rattle.tim.proofs.Timer.ticks_at.Reads as reads
+use Rattle.tim.proofs.Timer.ticks_at.Lts as lts
 
+-- src/lib.rt:248:13
 returns : tie.Need-returns
-returns c = let z : c .before .before .args .c - c .before .before .args .self .count .base ≡ 0 = omega arith in rw (z, zero-div)
+returns c =
+    let z : c .before .before .args .c - c .before .before .args .self .count .base ≡ 0 = omega arith in rw (z, zero-div)
 
-sub-past : tie.Need-sub-past
-sub-past c = search needs
+-- src/lib.rt:250:10
+sub-result : tie.Need-sub-result
+sub-result c = search needs
 
-cast-tick : tie.Need-cast-tick
-cast-tick c = search needs
+-- src/lib.rt:250:33
+cast-result : tie.Need-cast-result
+cast-result c = search needs
 
-returns-2 : tie.Need-returns-2
-returns-2 c = sym (div-eq-of-lt (c .if2 .taken))
-
+-- src/lib.rt:250:9
 div-result : tie.Need-div-result
 div-result c = search needs
 
-returns-3 : tie.Need-returns-3
-returns-3 c = search needs
+-- src/lib.rt:243:5
+returns-2 : tie.Need-returns-2
+returns-2 c = search needs
 
 pub ticks-at-spec : {M : Type 1} → statement M
-ticks-at-spec = tie.close (tie.spec returns sub-past cast-tick returns-2 div-result returns-3)
+ticks-at-spec = tie.close (tie.spec returns sub-result cast-result div-result returns-2)
