@@ -113,6 +113,45 @@ fn count_at(t: Timer, e: Next) -> u32
     }
 }
 
+// Drives channel ch's signal s to a level, and writes the change at place k; the next place.
+fn drive_one(
+    words: &mut [u64; WORDS],
+    reals: &mut [f64; REALS],
+    pins: &mut [u8],
+    levels: &mut [u8],
+    cycles: &mut [u64],
+    k: usize,
+    channels: u32,
+    ch: u32,
+    s: usize,
+    level: bool,
+    at: u64,
+) -> usize
+{
+    let c = outputs::drive_channel(words, reals, channels, ch, s, level);
+    book::append(pins, levels, cycles, k, gpio::change_of(c), at)
+}
+
+fn drive_four(
+    words: &mut [u64; WORDS],
+    reals: &mut [f64; REALS],
+    pins: &mut [u8],
+    levels: &mut [u8],
+    cycles: &mut [u64],
+    k: usize,
+    t: Timer,
+    s: usize,
+    cnt: u32,
+    at: u64,
+) -> usize
+{
+    let n = t.inst.channels;
+    let a = drive_one(words, reals, pins, levels, cycles, k, n, 0, s, t.output(0, cnt), at);
+    let b = drive_one(words, reals, pins, levels, cycles, a, n, 1, s + 1, t.output(1, cnt), at);
+    let c = drive_one(words, reals, pins, levels, cycles, b, n, 2, s + 2, t.output(2, cnt), at);
+    drive_one(words, reals, pins, levels, cycles, c, n, 3, s + 3, t.output(3, cnt), at)
+}
+
 // Drives the outputs after an event, and writes their level changes at its due cycle from place n on; the next place.
 fn drive(
     words: &mut [u64; WORDS],
@@ -130,26 +169,15 @@ fn drive(
     ensures { λ r. ⌜ Driven (driveOutputs t (countAt t e) (view (now (words .entry)) (now (reals .entry)) .pads)) at (view (now (words .entry)) (now (reals .entry))) (view (now (words .exit)) (now (reals .exit))) (book (now (pins .entry)) (now (levels .entry)) (now (cycles .entry)) n) (book (now (pins .exit)) (now (levels .exit)) (now (cycles .exit)) r) ⌝ }
     ensures { λ r. ⌜ r ≤ n + 4 ⌝ }
 {
+    if t.inst.n < 2 {
+        return n;
+    }
+    if t.inst.n > 4 {
+        return n;
+    }
     let cnt = count_at(t, e);
-    let l = t.output(0, cnt);
-    let l1 = t.output(1, cnt);
-    let l2 = t.output(2, cnt);
-    let l3 = t.output(3, cnt);
-    outputs::drive_and_append(
-        words,
-        reals,
-        pins,
-        levels,
-        cycles,
-        n,
-        t.inst.n,
-        t.inst.channels,
-        l,
-        l1,
-        l2,
-        l3,
-        at,
-    )
+    let s = sig::tim(t.inst.n as u8, 0) as usize;
+    drive_four(words, reals, pins, levels, cycles, n, t, s, cnt, at)
 }
 
 // The next event and its steps. It and `due_of` are tim's own, written out here: so they are compiled into the loop, and the timer stays in registers.
@@ -160,10 +188,16 @@ fn first_of(t: Timer) -> Ahead
         steps: t.update_steps(),
         next: Next::Update,
     };
-    let a = t.consider(0, update);
-    let b = t.consider(1, a);
-    let c = t.consider(2, b);
-    t.consider(3, c)
+    if t.down() {
+        let a = t.consider_down(0, update);
+        let b = t.consider_down(1, a);
+        let c = t.consider_down(2, b);
+        return t.consider_down(3, c);
+    }
+    let a = t.consider_up(0, update);
+    let b = t.consider_up(1, a);
+    let c = t.consider_up(2, b);
+    t.consider_up(3, c)
 }
 
 fn due_of(t: Timer) -> Due

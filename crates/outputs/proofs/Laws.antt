@@ -10,10 +10,10 @@ use Rattle.gpio.specs.declared.Change.{Change}
 use Rattle.gpio.specs.Gpio.{changeOf, bit}
 use Rattle.book.specs.declared.Changes.{Changes}
 use Rattle.book.specs.Book.{Book, puts, entriesOf}
-use Rattle.machine.specs.Board.{Board, Pads}
+use Rattle.machine.specs.Board.{Board, Pads, levelOf}
 use Rattle.machine.specs.Sys.{Drive, sigOut, driver, driveChannel, noChanges, driveOutputs}
 use Rattle.sys.specs.Moves.{Moves}
-use Rattle.sys.proofs.Laws.{then-moves}
+use Rattle.sys.proofs.Laws.{sig-same, then-moves}
 use Rattle.outputs.specs.Outputs.{Drives, Driven, levelDriven, fourDriven, levelsDriven}
 
 pub channel-drives : (b b₁ : Board) (channels ch s k : ℕ) (l : Bool) (r : Change) → ch < channels → k ≡ bit l
@@ -24,6 +24,12 @@ channel-drives b b₁ channels ch s k l r h q m = simp (lt-ltb ch channels h, �
 pub channel-still : (b : Board) (channels ch s : ℕ) (l : Bool) → channels ≤ ch → Moves (levelDriven channels ch s l (b .pads)) b b (changeOf 0)
 unfolding levelDriven changeOf
 channel-still b channels ch s l h = simp (le-ltb ch channels h) (record { board = refl; change = refl })
+
+-- a signal that has its level
+pub channel-same : (b : Board) (channels ch s k : ℕ) (l : Bool) → ch < channels → levelOf (b .pads) s ≡ k → k ≡ bit l
+    → Moves (levelDriven channels ch s l (b .pads)) b b (changeOf 0)
+unfolding changeOf
+channel-same b channels ch s k l h e q = channel-drives b b channels ch s k l _ h q (sig-same b s k e)
 
 -- a signal's number that a call gave
 pub at-signal : (b b₁ : Board) (channels ch s s₁ : ℕ) (l : Bool) (r : Change) → s ≡ s₁

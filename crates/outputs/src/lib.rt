@@ -6,7 +6,7 @@ use state::WORDS;
 ghost use mathlib.Core.Path.{_≡_};
 ghost use Prim.Native.Nat.{_+_, _<_, _≤_};
 ghost use lib.ListN.{length};
-ghost use Rattle.gpio.specs.Gpio.{bit, changeOf};
+ghost use Rattle.gpio.specs.Gpio.{changeOf};
 ghost use Rattle.state.specs.View.{view};
 ghost use Rattle.book.specs.Book.{book};
 ghost use Rattle.machine.specs.Board.{timerAt};
@@ -14,14 +14,9 @@ ghost use Rattle.machine.specs.Sys as S;
 ghost use Rattle.sys.specs.Moves.{Moves};
 ghost use Rattle.outputs.specs.Outputs.{Drives, Driven, levelDriven, fourDriven, levelsDriven};
 
-fn level_of(b: bool) -> u8
-    ensures { λ r. ⌜ (r ≡ bit b) × (r ≤ 1) ⌝ }
-{
-    if b { 1 } else { 0 }
-}
-
-// Signal s, of channel ch, at a level, if the timer has that channel. The change as a number.
-fn drive_channel(
+// Signal s, of channel ch, at a level, if the timer has that channel. The change as a number. A signal that has its level is looked at
+// here, where this is compiled into the caller; what moves one is called.
+pub fn drive_channel(
     words: &mut [u64; WORDS],
     reals: &mut [f64; REALS],
     channels: u32,
@@ -32,11 +27,20 @@ fn drive_channel(
     requires { ⌜ s < 256 ⌝ }
     ensures { λ r. ⌜ Moves (levelDriven channels ch s level (view (now (words .entry)) (now (reals .entry)) .pads)) (view (now (words .entry)) (now (reals .entry))) (view (now (words .exit)) (now (reals .exit))) (changeOf r) ⌝ }
 {
-    if ch < channels {
-        let c = sys::sig_out(words, reals, s, level_of(level));
-        return gpio::code_of(c);
+    if ch >= channels {
+        return 0;
     }
-    0
+    let was = state::sig_level(words, s);
+    if level {
+        if was == 1 {
+            return 0;
+        }
+        return sys::move_signal(words, reals, s, 1);
+    }
+    if was == 0 {
+        return 0;
+    }
+    sys::move_signal(words, reals, s, 0)
 }
 
 // The signals of timer n's four channels at their levels.
