@@ -7,7 +7,7 @@ use Prim.Native.Nat.{ℕ, _≤_, _<_}
 use native.Mathlib.Omega.{arith}
 use lib.ListN.{length}
 use lib.Dec.{eqb, ltb, leb}
-use borrow.Author.Tests.{eqb-true, ltb-false, leb-false}
+use borrow.Author.Tests.{eqb-true, ltb-true, ltb-false, leb-false, le-leb, lt-leb, not-true, not-false}
 use lib.Ieee.{Float}
 use Rattle.book.specs.Book.{Entry, Holds}
 use Rattle.machine.specs.Board.{Board}
@@ -124,3 +124,17 @@ passed b index count size cycle need places h =
       cycle-le = cycle-small cycle (b .counts .last) g;
       places-le = ltb-false places need i;
     }
+
+-- ---- a timer's call without a book
+
+pub missing : (i n : ℕ) (t : Bool) → t ≡ ltb i n → not t ≡ true → leb n i ≡ true
+missing i n t e h = le-leb n i (ltb-false i n (sym e ∙ not-true t h))
+
+pub present : (i n : ℕ) (t : Bool) → t ≡ ltb i n → not t ≡ false → leb n i ≡ false
+present i n t e h = lt-leb n i (ltb-true i n (sym e ∙ not-false t h))
+
+-- no places are needed
+pub timer-passed : (b : Board) (index count size cycle : ℕ)
+    → 0 ≡ first (noSuchIndex index count ∷ badSize size ∷ clockAstray b cycle ∷ []) → Passed index count size cycle 0 0
+unfolding first
+timer-passed b index count size cycle h = passed b index count size cycle 0 0 h

@@ -8,12 +8,12 @@ ghost use Rattle.machine.specs.Step.{astray, oddSize};
 ghost use Rattle.machine.specs.Refusals.{first, noSuchIndex, badSize, clockAstray, bookFull};
 ghost use Rattle.answer.specs.Promise.{answer};
 
-// The number, the value and the number of entries. The entries are in the lent book.
+// The value, the number and the number of entries: 16 bytes, which come back in two registers. The entries are in the lent book.
 #[repr(C)]
 pub struct Answer {
-    pub number: u8,
     pub value: u64,
-    pub count: usize,
+    pub number: u32,
+    pub count: u32,
 }
 
 // Refused with number n: no value, no entries.
@@ -21,8 +21,8 @@ pub fn refused(n: u8) -> Answer
     ensures { λ r. ⌜ r ≡ answer n 0 0 ⌝ }
 {
     Answer {
-        number: n,
         value: 0,
+        number: n as u32,
         count: 0,
     }
 }
@@ -32,8 +32,8 @@ pub fn served(value: u64) -> Answer
     ensures { λ r. ⌜ r ≡ answer 0 value 0 ⌝ }
 {
     Answer {
-        number: 0,
         value,
+        number: 0,
         count: 0,
     }
 }
@@ -86,6 +86,22 @@ pub fn refusal(
     }
     if places < need {
         return 6;
+    }
+    0
+}
+
+// The first of the numbers 2, 3, 5 that applies to a timer's call without a book, 0 if none does.
+pub fn timer_refusal(words: &[u64; WORDS], index: u32, size: u32, cycle: u64) -> u8
+    ensures { λ r. ⌜ ((x : List Float) → r ≡ first (noSuchIndex index ((view (now (words .entry)) x) .counts .timers) ∷ badSize size ∷ clockAstray (view (now (words .entry)) x) cycle ∷ [])) ⌝ }
+{
+    if !state::has_timer(words, index) {
+        return 2;
+    }
+    if odd_size(size) {
+        return 3;
+    }
+    if is_astray(words, cycle) {
+        return 5;
     }
     0
 }

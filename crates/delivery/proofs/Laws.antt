@@ -2,7 +2,7 @@
 use mathlib.Core.Path.{_≡_, refl, ap, sym, subst, _∙_}
 use mathlib.Core.Bool.{Bool, true, false, cond}
 use mathlib.Core.List.{List, [], _∷_}
-use Prim.Native.Nat.{ℕ, zero, suc, _+_, _-_, _<_, _≤_}
+use Prim.Native.Nat.{ℕ, zero, suc, _+_, _-_, _*_, _<_, _≤_}
 use native.Mathlib.Nat.{add-zero}
 use native.Mathlib.Omega.{arith}
 use lib.Dec.{eqb, ltb, leb, lit<}
@@ -189,6 +189,7 @@ pub record Going (cycle div room : ℕ) (o : Run) (b₀ : Board) (k₀ : Book) (
   pub fit : Fit t
   pub within : k .count ≤ room
   pub few : events ≤ mostEvents
+  pub small : k .count ≤ 4 * events
   pub board : b ≡ withPads b₀ (b .pads)
   pub same : settle k₀ 0 o ≡ settle k events (run (mostEvents - events) cycle div (room - k .count) t (b .pads))
 
@@ -200,6 +201,7 @@ begins cycle div room t b k f h =
       fit = f;
       within = omega arith;
       few = omega arith;
+      small = omega arith;
       board = refl;
       same = ap (λ (n : ℕ). settle k 0 (run mostEvents cycle div n t (b .pads))) e;
     }
@@ -241,6 +243,7 @@ module _ (cycle div room : ℕ) (o : Run) (b₀ : Board) (k₀ : Book) (t : Time
           fit = rw a (fit-applied t e at div (g .fit) (omega (arith, y .due)) p q);
           within = omega (arith, y .free, g .within);
           few = omega (arith, y .few);
+          small = omega (arith, g .small);
           board = w .board ∙ ap (λ (u : Board). withPads u (driveOutputs t₁ (countAt t₁ e) (b .pads) .pads)) (g .board)
               ∙ ap (withPads b₀) (sym (ap (λ (u : Board). u .pads) (w .board)));
           same = g .same

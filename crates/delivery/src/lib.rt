@@ -228,7 +228,7 @@ fn run(
 ) -> Ran
     requires { ⌜ (Fit timer) × (1 ≤ div) × (div ≤ 8192) × (cycle < 9223372036854775808) ⌝ }
     ensures { λ r. ⌜ Ends (run mostEvents cycle div (places (now (pins .entry)) (now (levels .entry)) (now (cycles .entry))) timer (view (now (words .entry)) (now (reals .entry)) .pads)) (view (now (words .entry)) (now (reals .entry))) (view (now (words .exit)) (now (reals .exit))) (book (now (pins .entry)) (now (levels .entry)) (now (cycles .entry)) 0) (book (now (pins .exit)) (now (levels .exit)) (now (cycles .exit)) (r .count)) r ⌝ }
-    ensures { λ r. ⌜ (Fit (r .timer)) × (r .due ≡ nextEvent (r .timer)) × (r .count ≤ length (now (pins .entry))) × (r .count ≤ length (now (levels .entry))) × (r .count ≤ length (now (cycles .entry))) ⌝ }
+    ensures { λ r. ⌜ (Fit (r .timer)) × (r .due ≡ nextEvent (r .timer)) × (r .count ≤ length (now (pins .entry))) × (r .count ≤ length (now (levels .entry))) × (r .count ≤ length (now (cycles .entry))) × (r .count ≤ 400004) ⌝ }
 {
     let room = book::room(pins, levels, cycles);
     let mut t = timer;
@@ -284,6 +284,7 @@ pub fn deliver(
 ) -> Delivered
     requires { ⌜ (i < 8) × (cycle < 9223372036854775808) ⌝ }
     ensures { λ r. ⌜ Delivers (delivered (view (now (words .entry)) (now (reals .entry))) i cycle (places (now (pins .entry)) (now (levels .entry)) (now (cycles .entry)))) (view (now (words .entry)) (now (reals .entry))) i cycle (view (now (words .exit)) (now (reals .exit))) r (now (pins .entry)) (now (pins .exit)) (now (levels .entry)) (now (levels .exit)) (now (cycles .entry)) (now (cycles .exit)) ⌝ }
+    ensures { λ r. ⌜ r .count ≤ 400004 ⌝ }
 {
     let t = state::load_timer(words, i);
     let div = rcc::divider(words, reals, t);

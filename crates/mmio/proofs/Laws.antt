@@ -34,7 +34,7 @@ use Rattle.delivery.specs.declared.Delivered.{Delivered}
 use Rattle.delivery.specs.Delivery.{Delivers}
 use Rattle.answer.specs.declared.Answer.{Answer}
 use Rattle.answer.specs.Promise.{answer, Answers}
-use Rattle.answer.proofs.Given.{Passed, passed, away, gives, turns-away, turns-away-book, serves, serves-book}
+use Rattle.answer.proofs.Given.{Passed, passed, timer-passed, away, gives, turns-away, turns-away-book, serves, serves-book}
 use Rattle.mmio.specs.Leaves.{Leaves}
 
 -- the numbers that `refusal` looks at, with the count of timers
@@ -67,22 +67,31 @@ pub within : (p l c : List ℕ) (room k : ℕ) → room ≡ places p l c → 4 �
 within p l c room k e h j = (omega arith, omega arith, omega arith)
 
 -- ---- reads
-module _ (w : List ℕ) (x : List Float) (timer offset size cycle n num : ℕ) (r : Answer) (e : n ≡ view w x .counts .timers)
-    (h : num ≡ asked timer n size (view w x) cycle 0 0) where
+
+-- the numbers that `timer_refusal` looks at
+abbrev pub barred : ℕ → ℕ → Board → ℕ → ℕ
+barred timer size b cycle = first (noSuchIndex timer (b .counts .timers) ∷ badSize size ∷ clockAstray b cycle ∷ [])
+
+-- what holds of an admitted read
+pub read-admitted : (w : List ℕ) (x : List Float) (timer size cycle num : ℕ) → num ≡ barred timer size (view w x) cycle → num ≡ 0 → Passed timer 8 size cycle 0 0
+read-admitted w x timer size cycle num h z =
+    let p = timer-passed (view w x) timer (view w x .counts .timers) size cycle (sym z ∙ h) in
+    record { index-lt = omega (arith, p .index-lt, bounded w x .timers-le); size-le = p .size-le; cycle-le = p .cycle-le; places-le = p .places-le }
+
+module _ (w : List ℕ) (x : List Float) (timer offset size cycle num : ℕ) (r : Answer) (h : num ≡ barred timer size (view w x) cycle) where
   read-first : num ≡ first (refusals (view w x) (read timer offset size cycle))
-  unfolding first refusals
-  read-first = asked-count timer n size (view w x) cycle 0 0 num e h
+  unfolding refusals
+  read-first = h
 
   pub read-away : (num ≡ 0 → ⊥) → r ≡ answer num 0 0 → Answers (step (view w x) (read timer offset size cycle)) r w w x x
   read-away z a = turns-away w x (read timer offset size cycle) num r read-first z a
 
   module _ (z : num ≡ 0) (on : Bool) (gate : on ≡ clockOn (view w x) (timerAt (view w x) timer)) where
-    pub read-on : (reg v : ℕ) → not on ≡ false → reg ≡ R.regRead (timerAt (view w x) timer) (register offset) cycle → v ≡ laneRead reg offset size → r ≡ answer 0 v 0
+    pub read-on : (v : ℕ) → not on ≡ false → v ≡ laneRead (R.regRead (timerAt (view w x) timer) (register offset) cycle) offset size → r ≡ answer 0 v 0
         → Answers (step (view w x) (read timer offset size cycle)) r w w x x
     unfolding performed
-    read-on reg v o p q a =
-        rw a (serves (view w x) (read timer offset size cycle) (answer 0 v 0) w w x x (sym z ∙ read-first) refl
-        (rw (sym gate ∙ not-false on o) (q ∙ ap (λ (k : ℕ). laneRead k offset size) p)) refl refl)
+    read-on v o q a =
+        rw a (serves (view w x) (read timer offset size cycle) (answer 0 v 0) w w x x (sym z ∙ read-first) refl (rw (sym gate ∙ not-false on o) q) refl refl)
 
     pub read-off : not on ≡ true → r ≡ answer 0 0 0 → Answers (step (view w x) (read timer offset size cycle)) r w w x x
     unfolding performed
@@ -90,22 +99,21 @@ module _ (w : List ℕ) (x : List Float) (timer offset size cycle n num : ℕ) (
         rw a (serves (view w x) (read timer offset size cycle) (answer 0 0 0) w w x x (sym z ∙ read-first) refl (rw (sym gate ∙ not-true on o) refl) refl refl)
 
 -- the counter, read directly
-pub counter-read : (t : Timer) (offset cycle c : ℕ) → offset / 4 ≡ 9 → c ≡ cntAt t cycle → c ≡ R.regRead t (register offset) cycle
-unfolding R.regRead
+pub counter-read : (t : Timer) (offset cycle c : ℕ) → offset / 4 ≡ 9 → c ≡ cntAt t cycle → c ≡ laneRead (R.regRead t (register offset) cycle) offset 4
+unfolding R.regRead laneRead
 counter-read t offset cycle c h e = e ∙ ap (λ (q : ℕ). R.regRead t (q * 4) cycle) (sym h)
 
-module _ (w : List ℕ) (x : List Float) (timer offset cycle n num : ℕ) (r : Answer) (e : n ≡ view w x .counts .timers)
-    (h : num ≡ asked timer n 4 (view w x) cycle 0 0) where
+module _ (w : List ℕ) (x : List Float) (timer offset cycle num : ℕ) (r : Answer) (h : num ≡ barred timer 4 (view w x) cycle) where
   peek-first : num ≡ first (refusals (view w x) (peek timer offset cycle))
   unfolding first refusals
-  peek-first = asked-count timer n 4 (view w x) cycle 0 0 num e h
+  peek-first = h
 
   pub peek-away : (num ≡ 0 → ⊥) → r ≡ answer num 0 0 → Answers (step (view w x) (peek timer offset cycle)) r w w x x
   peek-away z a = turns-away w x (peek timer offset cycle) num r peek-first z a
 
-  pub peek-gives : num ≡ 0 → (v : ℕ) → v ≡ R.regRead (timerAt (view w x) timer) (register offset) cycle → r ≡ answer 0 v 0
+  pub peek-gives : num ≡ 0 → (v : ℕ) → v ≡ laneRead (R.regRead (timerAt (view w x) timer) (register offset) cycle) offset 4 → r ≡ answer 0 v 0
       → Answers (step (view w x) (peek timer offset cycle)) r w w x x
-  unfolding performed
+  unfolding performed laneRead
   peek-gives z v p a = rw a (serves (view w x) (peek timer offset cycle) (answer 0 v 0) w w x x (sym z ∙ peek-first) refl p refl refl)
 
 -- ---- a timer stored and its outputs driven

@@ -10,18 +10,19 @@ ghost use lib.Ieee.{Float};
 ghost use lib.ListN.{length};
 ghost use Rattle.tim.specs.Count.{cntAt};
 ghost use Rattle.regs.specs.Regs as R;
+ghost use Rattle.periph.specs.Lane.{laneRead};
 ghost use Rattle.state.specs.View.{view};
 ghost use Rattle.book.specs.Book.{book, places, Holds};
 ghost use Rattle.machine.specs.Board.{timerAt};
 ghost use Rattle.machine.specs.Call as Call;
-ghost use Rattle.machine.specs.Step.{step, timerReset};
+ghost use Rattle.machine.specs.Step.{step, register, timerReset};
 ghost use Rattle.answer.specs.Promise.{Answers};
 ghost use Rattle.mmio.specs.Leaves.{Leaves};
 
 // ---- reads
 
 // Timer i's register at a cycle.
-pub fn value_of(words: &[u64; WORDS], i: usize, off: u32, cycle: u64) -> u32
+fn value_of(words: &[u64; WORDS], i: usize, off: u32, cycle: u64) -> u32
     requires { ⌜ (i < 8) × (cycle < 9223372036854775808) ⌝ }
     ensures { λ r. ⌜ ((x : List Float) → r ≡ R.regRead (timerAt (view (now (words .entry)) x) i) off cycle) ⌝ }
 {
@@ -38,6 +39,50 @@ pub fn count_of(words: &[u64; WORDS], i: usize, cycle: u64) -> u32
     t.cnt_at(cycle)
 }
 
+// The lane of timer i's register at the offset. Several calls share it, so that it stays a function of its own: a read of the
+// counter, which does without it, is then short.
+pub fn lane_of(words: &[u64; WORDS], i: usize, offset: u32, size: u32, cycle: u64) -> u32
+    requires { ⌜ (i < 8) × (size ≤ 4) × (cycle < 9223372036854775808) ⌝ }
+    ensures { λ r. ⌜ ((x : List Float) → r ≡ laneRead (R.regRead (timerAt (view (now (words .entry)) x) i) (register offset) cycle) offset size) ⌝ }
+{
+    let reg = value_of(words, i, offset / 4 * 4, cycle);
+    periph::lane_read(reg, offset, size as u8)
+}
+
+// A read of 4 bytes, by far the most: the counter's needs no lane.
+fn read_whole(words: &[u64; WORDS], timer: u32, offset: u32, cycle: u64) -> Answer
+    ensures { λ r. ⌜ ((x : List Float) → Answers (step (view (now (words .entry)) x) (Call.read timer offset 4 cycle)) r (now (words .entry)) (now (words .entry)) x x) ⌝ }
+{
+    let no = answer::timer_refusal(words, timer, 4, cycle);
+    if no != 0 {
+        return answer::refused(no);
+    }
+    if !rcc::clock_on(words, timer as usize) {
+        return answer::served(0);
+    }
+    if offset / 4 == 9 {
+        let c = count_of(words, timer as usize, cycle);
+        return answer::served(c as u64);
+    }
+    let v = lane_of(words, timer as usize, offset, 4, cycle);
+    answer::served(v as u64)
+}
+
+// A read of any size.
+fn read_part(words: &[u64; WORDS], timer: u32, offset: u32, size: u32, cycle: u64) -> Answer
+    ensures { λ r. ⌜ ((x : List Float) → Answers (step (view (now (words .entry)) x) (Call.read timer offset size cycle)) r (now (words .entry)) (now (words .entry)) x x) ⌝ }
+{
+    let no = answer::timer_refusal(words, timer, size, cycle);
+    if no != 0 {
+        return answer::refused(no);
+    }
+    if !rcc::clock_on(words, timer as usize) {
+        return answer::served(0);
+    }
+    let v = lane_of(words, timer as usize, offset, size, cycle);
+    answer::served(v as u64)
+}
+
 // A read: 0 while the timer's clock is off.
 pub fn read(
     words: &[u64; WORDS],
@@ -49,21 +94,10 @@ pub fn read(
 ) -> Answer
     ensures { λ r. ⌜ Answers (step (view (now (words .entry)) (now (reals .entry))) (Call.read timer offset size cycle)) r (now (words .entry)) (now (words .entry)) (now (reals .entry)) (now (reals .entry)) ⌝ }
 {
-    let n = state::timer_count(words);
-    let no = answer::refusal(words, timer, n, size, cycle, 0, 0);
-    if no != 0 {
-        return answer::refused(no);
+    if size == 4 {
+        return read_whole(words, timer, offset, cycle);
     }
-    if !rcc::clock_on(words, timer as usize) {
-        return answer::served(0);
-    }
-    if offset / 4 == 9 {
-        let c = count_of(words, timer as usize, cycle);
-        return answer::served(periph::lane_read(c, offset, size as u8) as u64);
-    }
-    let reg = value_of(words, timer as usize, offset / 4 * 4, cycle);
-    let v = periph::lane_read(reg, offset, size as u8);
-    answer::served(v as u64)
+    read_part(words, timer, offset, size, cycle)
 }
 
 // A peek: the whole register, clock or not.
@@ -76,13 +110,12 @@ pub fn peek(
 ) -> Answer
     ensures { λ r. ⌜ Answers (step (view (now (words .entry)) (now (reals .entry))) (Call.peek timer offset cycle)) r (now (words .entry)) (now (words .entry)) (now (reals .entry)) (now (reals .entry)) ⌝ }
 {
-    let n = state::timer_count(words);
-    let no = answer::refusal(words, timer, n, 4, cycle, 0, 0);
-    if no != 0 {
-        return answer::refused(no);
+    let n = answer::timer_refusal(words, timer, 4, cycle);
+    if n != 0 {
+        return answer::refused(n);
     }
-    let v = value_of(words, timer as usize, offset / 4 * 4, cycle);
-    answer::served(v as u64)
+    let reg = lane_of(words, timer as usize, offset, 4, cycle);
+    answer::served(reg as u64)
 }
 
 // ---- reset
@@ -133,9 +166,9 @@ pub fn reset(
     }
     let count = reset_timer(words, reals, pins, levels, cycles, timer as usize, cycle);
     Answer {
-        number: 0,
         value: 0,
-        count,
+        number: 0,
+        count: count as u32,
     }
 }
 
@@ -163,9 +196,9 @@ pub fn deliver(
     let d = delivery::deliver(words, reals, pins, levels, cycles, timer as usize, cycle);
     state::set_last(words, cycle);
     Answer {
-        number: d.number,
         value: d.events,
-        count: d.count,
+        number: d.number as u32,
+        count: d.count as u32,
     }
 }
 

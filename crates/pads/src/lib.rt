@@ -96,9 +96,9 @@ fn changed(
     state::set_last(words, at);
     let count = book::append(pins, levels, cycles, 0, change, at);
     Answer {
-        number: 0,
         value: 0,
-        count,
+        number: 0,
+        count: count as u32,
     }
 }
 
@@ -175,8 +175,8 @@ pub fn reset_pins(
     let count = sys::reset_pins(words, reals, pins, levels, cycles, cycle);
     state::set_last(words, cycle);
     Answer {
-        number: 0,
         value: 0,
-        count,
+        number: 0,
+        count: count as u32,
     }
 }

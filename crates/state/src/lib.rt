@@ -2,6 +2,7 @@
 ghost use mathlib.Core.Path.{_≡_};
 ghost use mathlib.Core.List.{List, [], _∷_};
 ghost use Prim.Native.Nat.{ℕ, _+_, _*_, _%_, _<_, _≤_, min};
+ghost use lib.Dec.{ltb};
 ghost use lib.ListN.{length, drop};
 ghost use lib.Dec.{ltb};
 ghost use lib.Seq.{paste};
@@ -418,6 +419,16 @@ pub fn timer_count(words: &[u64; WORDS]) -> usize
     ensures { λ r. ⌜ ((x : List Float) → r ≡ (view (now (words .entry)) x) .counts .timers) ⌝ }
 {
     lesser(words[TIMER_COUNT], 8) as usize
+}
+
+// A timer of that index.
+pub fn has_timer(words: &[u64; WORDS], i: u32) -> bool
+    ensures { λ r. ⌜ ((x : List Float) → r ≡ ltb i ((view (now (words .entry)) x) .counts .timers)) ⌝ }
+{
+    if i >= 8 {
+        return false;
+    }
+    (i as u64) < words[TIMER_COUNT]
 }
 
 pub fn pin_count(words: &[u64; WORDS]) -> usize

@@ -26,13 +26,13 @@ ghost use Rattle.write.specs.Writes.{Driven, writtenBy, writtenOn, compa
 
 // The register's present value, 0 for EGR.
 fn present(words: &[u64; WORDS], i: usize, off: u32, cycle: u64) -> u32
-    requires { ⌜ (i < 8) × (cycle < 9223372036854775808) ⌝ }
+    requires { ⌜ (i < 8) × (register off ≡ off) × (cycle < 9223372036854775808) ⌝ }
     ensures { λ r. ⌜ ((x : List Float) → r ≡ present (timerAt (view (now (words .entry)) x) i) off cycle) ⌝ }
 {
     if off == 0x14 {
         return 0;
     }
-    mmio::value_of(words, i, off, cycle)
+    mmio::lane_of(words, i, off, 4, cycle)
 }
 
 // The lane merged into its register. A whole write needs no present value.
@@ -155,9 +155,9 @@ fn write_timer(
     }
     let count = follow(words, reals, pins, levels, cycles, i, w, cycle);
     Answer {
-        number: 0,
         value: 0,
-        count,
+        number: 0,
+        count: count as u32,
     }
 }
 
@@ -297,9 +297,9 @@ fn write_other(
         let ch = ((off - 0x34) / 4) as usize;
         let count = write_compare(words, reals, pins, levels, cycles, i, ch, v, cycle);
         return Answer {
-            number: 0,
             value: 0,
-            count,
+            number: 0,
+            count: count as u32,
         };
     }
     write_timer(words, reals, pins, levels, cycles, i, off, v, cycle)

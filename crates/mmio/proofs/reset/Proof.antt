@@ -5,65 +5,48 @@ use mathlib.Core.Path.{sym}
 use borrow.Author.Needs.{needs}
 use Rattle.mmio.proofs.reset.Statement.{statement}
 use Rattle.mmio.proofs.reset.Tie as tie
-use Rattle.mmio.proofs.reset.Reads as reads
-use Rattle.mmio.proofs.reset.Lts as lts
-use Rattle.answer.proofs.refusal.Reads as refusal-reads
-use Rattle.answer.proofs.refused.Reads as refused-reads
-use Rattle.book.proofs.room.Reads as room-reads
-use Rattle.mmio.proofs.reset_timer.Reads as reset-timer-reads
-use Rattle.state.proofs.timer_count.Reads as timer-count-reads
 
--- src/lib.rt:279:9
 room-requires : tie.Need-room-requires
 room-requires c κs = search needs
 
--- src/lib.rt:280:9
 timer-count-requires : tie.Need-timer-count-requires
 timer-count-requires c κs = search needs
 
--- src/lib.rt:281:9
 refusal-requires : tie.Need-refusal-requires
 refusal-requires c κs = search needs
 
--- src/lib.rt:283:9
 refused-requires : tie.Need-refused-requires
 refused-requires c κs = search needs
 
--- src/lib.rt:283:9
 same-length : tie.Need-same-length
 same-length c = search needs
 
--- src/lib.rt:283:9
 same-length-2 : tie.Need-same-length-2
 same-length-2 c = search needs
 
--- src/lib.rt:283:9
 same-length-3 : tie.Need-same-length-3
 same-length-3 c = search needs
 
--- src/lib.rt:283:9
 returns : tie.Need-returns
 returns c =
     (reset-away (c .before .before .before .before .before .before .before .before .before .before .before .before .before .args .words .now) (c .before .before .before .before .before .before .before .before .before .before .before .before .before .args .reals .now) (c .before .before .before .before .before .before .before .before .before .before .before .before .before .args .timer) (c .before .before .before .before .before .before .before .before .before .before .before .before .before .args .cycle) _ _ _ (c .before .before .before .before .timer-count .ensures (c .before .before .before .before .before .before .before .before .before .before .before .before .before .args .reals .now)) (rw (sym (c .before .before .before .before .before .before .room .ensures)) (c .before .before .refusal .ensures (c .before .before .before .before .before .before .before .before .before .before .before .before .before .args .reals .now))) (c .before .if1 .taken) _ (c .refused .ensures), reset-away-book (c .before .before .before .before .before .before .before .before .before .before .before .before .before .args .words .now) (c .before .before .before .before .before .before .before .before .before .before .before .before .before .args .reals .now) (c .before .before .before .before .before .before .before .before .before .before .before .before .before .args .timer) (c .before .before .before .before .before .before .before .before .before .before .before .before .before .args .cycle) _ _ _ (c .before .before .before .before .timer-count .ensures (c .before .before .before .before .before .before .before .before .before .before .before .before .before .args .reals .now)) (rw (sym (c .before .before .before .before .before .before .room .ensures)) (c .before .before .refusal .ensures (c .before .before .before .before .before .before .before .before .before .before .before .before .before .args .reals .now))) (c .before .if1 .taken) _ (c .refused .ensures) (c .before .before .before .before .before .before .before .before .before .before .before .before .before .args .pins .now) (c .before .before .before .before .before .before .before .before .before .before .before .before .before .args .levels .now) (c .before .before .before .before .before .before .before .before .before .before .before .before .before .args .cycles .now))
 
--- src/lib.rt:285:9
 reset-timer-requires : tie.Need-reset-timer-requires
 reset-timer-requires c κs =
     let q = admitted (c .before .before .before .before .before .before .before .before .before .before .before .before .before .before .before .before .before .args .words .now) (c .before .before .before .before .before .before .before .before .before .before .before .before .before .before .before .before .before .args .reals .now) (c .before .before .before .before .before .before .before .before .before .before .before .before .before .before .before .before .before .args .timer) _ 4 (c .before .before .before .before .before .before .before .before .before .before .before .before .before .before .before .before .before .args .cycle) 4 (c .before .before .before .before .before .before .before .before .before .before .room .result) _ (c .before .before .before .before .before .before .before .before .timer-count .ensures (c .before .before .before .before .before .before .before .before .before .before .before .before .before .before .before .before .before .args .reals .now)) (c .before .before .before .before .before .before .refusal .ensures (c .before .before .before .before .before .before .before .before .before .before .before .before .before .before .before .before .before .args .reals .now)) (c .before .before .before .before .before .if1 .left) in (q .index-lt, fits (c .before .before .before .before .before .before .before .before .before .before .before .before .before .before .before .before .before .args .pins .now) (c .before .before .before .before .before .before .before .before .before .before .before .before .before .before .before .before .before .args .levels .now) (c .before .before .before .before .before .before .before .before .before .before .before .before .before .before .before .before .before .args .cycles .now) _ (c .before .before .before .before .before .before .before .before .before .before .room .ensures) (q .places-le))
 
--- src/lib.rt:267:1
+cast-t30 : tie.Need-cast-t30
+cast-t30 c = omega (arith, c .before .before .before .before .before .before .reset-timer .ensures .1)
+
 same-length-4 : tie.Need-same-length-4
 same-length-4 c = search needs
 
--- src/lib.rt:267:1
 same-length-5 : tie.Need-same-length-5
 same-length-5 c = search needs
 
--- src/lib.rt:267:1
 same-length-6 : tie.Need-same-length-6
 same-length-6 c = search needs
 
--- src/lib.rt:267:1
 returns-2 : tie.Need-returns-2
 returns-2 c =
     reset-gives (c .before .before .before .before .before .before .before .before .before .before .before .before .before .before .before .before .before .before .before .before .before .before .before .before .args .words .now) (c .before .before .before .before .before .before .before .before .before .before .before .before .before .before .before .before .before .before .before .before .before .before .before .before .args .reals .now) (c .before .before .before .before .before .before .before .before .before .before .before .before .before .before .before .before .before .before .before .before .before .before .before .before .args .timer) (c .before .before .before .before .before .before .before .before .before .before .before .before .before .before .before .before .before .before .before .before .before .before .before .before .args .cycle) _ _ _ (c .before .before .before .before .before .before .before .before .before .before .before .before .before .before .before .timer-count .ensures (c .before .before .before .before .before .before .before .before .before .before .before .before .before .before .before .before .before .before .before .before .before .before .before .before .args .reals .now)) (rw (sym (c .before .before .before .before .before .before .before .before .before .before .before .before .before .before .before .before .before .room .ensures)) (c .before .before .before .before .before .before .before .before .before .before .before .before .before .refusal .ensures (c .before .before .before .before .before .before .before .before .before .before .before .before .before .before .before .before .before .before .before .before .before .before .before .before .args .reals .now))) (c .before .before .before .before .before .before .before .before .before .before .before .before .if1 .left) _ _ _ _ _ _ _ _ _ (c .before .before .before .before .before .before .reset-timer .ensures .0) (within (c .before .before .before .before .before .before .before .before .before .before .before .before .before .before .before .before .before .before .before .before .before .before .before .before .args .pins .now) (c .before .before .before .before .before .before .before .before .before .before .before .before .before .before .before .before .before .before .before .before .before .before .before .before .args .levels .now) (c .before .before .before .before .before .before .before .before .before .before .before .before .before .before .before .before .before .before .before .before .before .before .before .before .args .cycles .now) _ _ (c .before .before .before .before .before .before .before .before .before .before .before .before .before .before .before .before .before .room .ensures) (admitted (c .before .before .before .before .before .before .before .before .before .before .before .before .before .before .before .before .before .before .before .before .before .before .before .before .args .words .now) (c .before .before .before .before .before .before .before .before .before .before .before .before .before .before .before .before .before .before .before .before .before .before .before .before .args .reals .now) (c .before .before .before .before .before .before .before .before .before .before .before .before .before .before .before .before .before .before .before .before .before .before .before .before .args .timer) _ 4 (c .before .before .before .before .before .before .before .before .before .before .before .before .before .before .before .before .before .before .before .before .before .before .before .before .args .cycle) 4 (c .before .before .before .before .before .before .before .before .before .before .before .before .before .before .before .before .before .room .result) _ (c .before .before .before .before .before .before .before .before .before .before .before .before .before .before .before .timer-count .ensures (c .before .before .before .before .before .before .before .before .before .before .before .before .before .before .before .before .before .before .before .before .before .before .before .before .args .reals .now)) (c .before .before .before .before .before .before .before .before .before .before .before .before .before .refusal .ensures (c .before .before .before .before .before .before .before .before .before .before .before .before .before .before .before .before .before .before .before .before .before .before .before .before .args .reals .now)) (c .before .before .before .before .before .before .before .before .before .before .before .before .if1 .left) .places-le) (c .before .before .before .before .before .before .reset-timer .ensures .1))
@@ -81,6 +64,7 @@ reset-spec =
     same-length-3
     returns
     reset-timer-requires
+    cast-t30
     same-length-4
     same-length-5
     same-length-6

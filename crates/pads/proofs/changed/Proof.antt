@@ -1,6 +1,7 @@
 -- The cycle kept, then the change written.
 use borrow.Author.Needs.{needs}
 use mathlib.Core.Path.{refl}
+use native.Mathlib.Omega.{arith}
 use Rattle.pads.proofs.changed.Statement.{statement}
 use Rattle.pads.proofs.changed.Tie as tie
 
@@ -9,6 +10,9 @@ set-last-requires c κs = search needs
 
 append-requires : tie.Need-append-requires
 append-requires c κs = c .before .before .before .before .before .before .before .before .pre
+
+cast-t16 : tie.Need-cast-t16
+cast-t16 c = omega (arith, c .before .before .before .before .before .before .append .ensures .1)
 
 same-length : tie.Need-same-length
 same-length c = search needs
@@ -23,4 +27,4 @@ returns : tie.Need-returns
 returns c = (λ x. c .before .before .before .before .before .before .before .before .before .before .set-last .ensures x, (refl, (c .before .before .before .before .before .before .append .ensures .0, c .before .before .before .before .before .before .append .ensures .1)))
 
 pub changed-spec : {M : Type 1} → statement M
-changed-spec = tie.close (tie.spec set-last-requires append-requires same-length same-length-2 same-length-3 returns)
+changed-spec = tie.close (tie.spec set-last-requires append-requires cast-t16 same-length same-length-2 same-length-3 returns)

@@ -1,6 +1,7 @@
 -- Refused, or every pin reset and the cycle kept.
 use Rattle.book.specs.Book.{places}
 use Rattle.pads.proofs.Laws.{refuses, reset-number, reset-room, pins-reset}
+use Rattle.state.specs.Bounded.{bounded}
 use Rattle.state.specs.View.{view}
 use borrow.Author.Needs.{needs}
 use mathlib.Core.Path.{refl}
@@ -38,6 +39,9 @@ reset-pins-requires c κs = omega (arith, reset-room (view (c .before .before .b
 set-last-requires : tie.Need-set-last-requires
 set-last-requires c κs = search needs
 
+cast-t30 : tie.Need-cast-t30
+cast-t30 c = omega (arith, c .before .before .before .before .before .before .before .before .reset-pins .ensures .1, bounded (c .before .before .before .before .before .before .before .before .before .before .before .before .before .before .before .before .before .before .before .before .before .before .before .before .before .before .args .words .now) (c .before .before .before .before .before .before .before .before .before .before .before .before .before .before .before .before .before .before .before .before .before .before .before .before .before .before .args .reals .now) .pins-le)
+
 same-length-4 : tie.Need-same-length-4
 same-length-4 c = search needs
 
@@ -51,4 +55,4 @@ returns-2 : tie.Need-returns-2
 returns-2 c = pins-reset _ _ _ _ _ _ _ _ _ _ _ _ _ _ _ (reset-number (view (c .before .before .before .before .before .before .before .before .before .before .before .before .before .before .before .before .before .before .before .before .before .before .before .before .before .before .args .words .now) (c .before .before .before .before .before .before .before .before .before .before .before .before .before .before .before .before .before .before .before .before .before .before .before .before .before .before .args .reals .now)) (c .before .before .before .before .before .before .before .before .before .before .before .before .before .before .before .before .before .before .before .before .before .before .before .before .before .before .args .cycle) _ _ (places (c .before .before .before .before .before .before .before .before .before .before .before .before .before .before .before .before .before .before .before .before .before .before .before .before .before .before .args .pins .now) (c .before .before .before .before .before .before .before .before .before .before .before .before .before .before .before .before .before .before .before .before .before .before .before .before .before .before .args .levels .now) (c .before .before .before .before .before .before .before .before .before .before .before .before .before .before .before .before .before .before .before .before .before .before .before .before .before .before .args .cycles .now)) _ (c .before .before .before .before .before .before .before .before .before .before .before .before .before .before .before .refusal .ensures (c .before .before .before .before .before .before .before .before .before .before .before .before .before .before .before .before .before .before .before .before .before .before .before .before .before .before .args .reals .now)) (c .before .before .before .before .before .before .before .before .before .before .before .before .before .before .before .before .before .before .before .before .before .pin-count .ensures (c .before .before .before .before .before .before .before .before .before .before .before .before .before .before .before .before .before .before .before .before .before .before .before .before .before .before .args .reals .now)) (c .before .before .before .before .before .before .before .before .before .before .before .before .before .before .before .before .before .room .ensures)) (c .before .before .before .before .before .before .before .before .before .before .before .before .before .before .if1 .left) (c .before .before .before .before .before .before .before .before .reset-pins .ensures .0) (c .before .before .before .before .before .before .before .before .reset-pins .ensures .1) (c .set-last .ensures _) refl
 
 pub reset-pins-spec : {M : Type 1} → statement M
-reset-pins-spec = tie.close (tie.spec pin-count-requires room-requires refusal-requires refused-requires same-length same-length-2 same-length-3 returns reset-pins-requires set-last-requires same-length-4 same-length-5 same-length-6 returns-2)
+reset-pins-spec = tie.close (tie.spec pin-count-requires room-requires refusal-requires refused-requires same-length same-length-2 same-length-3 returns reset-pins-requires set-last-requires cast-t30 same-length-4 same-length-5 same-length-6 returns-2)

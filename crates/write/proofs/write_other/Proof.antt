@@ -20,6 +20,9 @@ write-compare-requires : tie.Need-write-compare-requires
 write-compare-requires c κs =
     let s = c .before .before .before .before .before .before .before .before .before .before in ((s .pre .0 .0, channel-lt (s .args .off) (sym (c .before .before .before .before .before .before .is-compare .ensures) ∙ c .before .before .before .before .before .if1 .taken) .1, omega (arith, s .pre .0 .1)), s .pre .1)
 
+cast-t13 : tie.Need-cast-t13
+cast-t13 c = omega (arith, c .before .before .before .before .before .before .write-compare .ensures .1)
+
 same-length : tie.Need-same-length
 same-length c = search needs
 
@@ -56,6 +59,7 @@ write-other-spec =
     sub-ch
     cast-ch
     write-compare-requires
+    cast-t13
     same-length
     same-length-2
     same-length-3
