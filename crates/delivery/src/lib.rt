@@ -21,8 +21,8 @@ ghost use Rattle.state.specs.Board.{withInst};
 ghost use Rattle.machine.specs.Board.{timerAt, withTimer};
 ghost use Rattle.machine.specs.Sys.{driveOutputs};
 ghost use Rattle.machine.specs.Deliver.{applied, countAt, run, mostEvents, delivered};
-ghost use Rattle.outputs.specs.Outputs.{Driven};
-ghost use Rattle.delivery.specs.Delivery.{OfFour, verdictOf, Ends, Delivers};
+ghost use Rattle.outputs.specs.Outputs.{Driven, levelDriven};
+ghost use Rattle.delivery.specs.Delivery.{OfFour, verdictOf, DrivenOne, DrivenTwo, Ends, Delivers};
 
 // What a delivery answers: 0 or 8, the events handled, and the entries made.
 pub struct Delivered {
@@ -127,11 +127,63 @@ fn drive_one(
     level: bool,
     at: u64,
 ) -> usize
+    requires { ⌜ (s < 256) × (k < length (now pins)) × (k < length (now levels)) × (k < length (now cycles)) ⌝ }
+    ensures { λ r. ⌜ DrivenOne (levelDriven channels ch s level (view (now (words .entry)) (now (reals .entry)) .pads)) at (view (now (words .entry)) (now (reals .entry))) (view (now (words .exit)) (now (reals .exit))) (book (now (pins .entry)) (now (levels .entry)) (now (cycles .entry)) k) (book (now (pins .exit)) (now (levels .exit)) (now (cycles .exit)) r) ⌝ }
+    ensures { λ r. ⌜ r ≤ k + 1 ⌝ }
 {
     let c = outputs::drive_channel(words, reals, channels, ch, s, level);
     book::append(pins, levels, cycles, k, gpio::change_of(c), at)
 }
 
+// Drives two of a timer's channels, ch and the next, whose signals are s and s + 1.
+fn drive_two(
+    words: &mut [u64; WORDS],
+    reals: &mut [f64; REALS],
+    pins: &mut [u8],
+    levels: &mut [u8],
+    cycles: &mut [u64],
+    k: usize,
+    channels: u32,
+    ch: u32,
+    s: usize,
+    l: bool,
+    l1: bool,
+    at: u64,
+) -> usize
+    requires { ⌜ (s < 255) × (ch < 4) ⌝ }
+    requires { ⌜ (k + 2 ≤ length (now pins)) × (k + 2 ≤ length (now levels)) × (k + 2 ≤ length (now cycles)) ⌝ }
+    ensures { λ r. ⌜ DrivenTwo channels ch s l l1 at (view (now (words .entry)) (now (reals .entry))) (view (now (words .exit)) (now (reals .exit))) (book (now (pins .entry)) (now (levels .entry)) (now (cycles .entry)) k) (book (now (pins .exit)) (now (levels .exit)) (now (cycles .exit)) r) ⌝ }
+    ensures { λ r. ⌜ r ≤ k + 2 ⌝ }
+{
+    let a = drive_one(
+        words,
+        reals,
+        pins,
+        levels,
+        cycles,
+        k,
+        channels,
+        ch,
+        s,
+        l,
+        at,
+    );
+    drive_one(
+        words,
+        reals,
+        pins,
+        levels,
+        cycles,
+        a,
+        channels,
+        ch + 1,
+        s + 1,
+        l1,
+        at,
+    )
+}
+
+// Drives the four channels of a timer that drives, at a count.
 fn drive_four(
     words: &mut [u64; WORDS],
     reals: &mut [f64; REALS],
@@ -140,16 +192,35 @@ fn drive_four(
     cycles: &mut [u64],
     k: usize,
     t: Timer,
-    s: usize,
     cnt: u32,
     at: u64,
 ) -> usize
+    requires { ⌜ (2 ≤ t .inst .n) × (t .inst .n ≤ 4) ⌝ }
+    requires { ⌜ (k + 4 ≤ length (now pins)) × (k + 4 ≤ length (now levels)) × (k + 4 ≤ length (now cycles)) ⌝ }
+    ensures { λ r. ⌜ Driven (driveOutputs t cnt (view (now (words .entry)) (now (reals .entry)) .pads)) at (view (now (words .entry)) (now (reals .entry))) (view (now (words .exit)) (now (reals .exit))) (book (now (pins .entry)) (now (levels .entry)) (now (cycles .entry)) k) (book (now (pins .exit)) (now (levels .exit)) (now (cycles .exit)) r) ⌝ }
+    ensures { λ r. ⌜ r ≤ k + 4 ⌝ }
 {
-    let n = t.inst.channels;
-    let a = drive_one(words, reals, pins, levels, cycles, k, n, 0, s, t.output(0, cnt), at);
-    let b = drive_one(words, reals, pins, levels, cycles, a, n, 1, s + 1, t.output(1, cnt), at);
-    let c = drive_one(words, reals, pins, levels, cycles, b, n, 2, s + 2, t.output(2, cnt), at);
-    drive_one(words, reals, pins, levels, cycles, c, n, 3, s + 3, t.output(3, cnt), at)
+    let s = sig::tim(t.inst.n as u8, 0) as usize;
+    let x = t.inst.channels;
+    let l = t.output(0, cnt);
+    let l1 = t.output(1, cnt);
+    let l2 = t.output(2, cnt);
+    let l3 = t.output(3, cnt);
+    let m = drive_two(words, reals, pins, levels, cycles, k, x, 0, s, l, l1, at);
+    drive_two(
+        words,
+        reals,
+        pins,
+        levels,
+        cycles,
+        m,
+        x,
+        2,
+        s + 2,
+        l2,
+        l3,
+        at,
+    )
 }
 
 // Drives the outputs after an event, and writes their level changes at its due cycle from place n on; the next place.
@@ -176,8 +247,7 @@ fn drive(
         return n;
     }
     let cnt = count_at(t, e);
-    let s = sig::tim(t.inst.n as u8, 0) as usize;
-    drive_four(words, reals, pins, levels, cycles, n, t, s, cnt, at)
+    drive_four(words, reals, pins, levels, cycles, n, t, cnt, at)
 }
 
 // The next event and its steps. It and `due_of` are tim's own, written out here: so they are compiled into the loop, and the timer stays in registers.
