@@ -162,7 +162,7 @@ fn deliver_half() -> Row {
                 then += PERIOD / 10;
                 sum += p.lend(|s, book| {
                     let a = s.deliver(book, 0, then);
-                    book.cycles[..a.count].iter().sum::<u64>()
+                    book.cycles[..a.count as usize].iter().sum::<u64>()
                 });
             }
             sum
@@ -185,7 +185,7 @@ fn deliver_many() -> Row {
             p.lend(|s, book| {
                 let a = s.deliver(book, 0, FAR);
                 assert_eq!((a.number, a.value), (8, EVENTS));
-                book.cycles[a.count - 1] + a.count as u64
+                book.cycles[a.count as usize - 1] + a.count as u64
             })
         }),
     }

@@ -99,13 +99,15 @@ impl Port {
         let lengths = self.lengths(lent);
         self.dirty = true;
         let a = self.make(call, lengths);
-        if a.count > lent {
-            return Err(Fault::Count { count: a.count, places: lent as u64 });
+        let count = a.count as usize;
+        if count > lent {
+            return Err(Fault::Count { count, places: lent as u64 });
         }
         let entry = |i: usize| Entry { pin: self.pins[i] as u16, level: self.levels[i], cycle: self.cycles[i] };
-        let entries = (0..a.count).map(entry).collect();
-        self.places(a.count, lengths)?;
-        Ok(Answer { number: a.number, value: a.value, entries })
+        let entries = (0..count).map(entry).collect();
+        self.places(count, lengths)?;
+        // A number that is too large is not the oracle's either.
+        Ok(Answer { number: u8::try_from(a.number).unwrap_or(u8::MAX), value: a.value, entries })
     }
 
     /// The state is what it was after the last call that may change it.

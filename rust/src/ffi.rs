@@ -9,12 +9,12 @@
 #[repr(C)]
 #[derive(Clone, Copy, Debug, PartialEq, Eq)]
 pub struct Answer {
-    /// 0 served, else the number of [`Error`](crate::Error).
-    pub number: u8,
     /// The register, the events handled, what a query asks, else 0.
     pub value: u64,
+    /// 0 served, else the number of [`Error`](crate::Error).
+    pub number: u32,
     /// Entries made in the book.
-    pub count: usize,
+    pub count: u32,
 }
 
 /// A lent book: three slices, filled from place 0. Its length is the shortest of the three.
@@ -42,14 +42,14 @@ unsafe extern "C" {
     fn board_set_up(w: *mut u64, r: *mut f64, hz: f64, vcc: f64, pins: u32, lines: u32, timers: *const u32, timers_len: usize, table: *const u32, table_len: usize) -> Answer;
     fn board_set_clock_tree(w: *mut u64, r: *mut f64, sysclk_hz: f64, hclk_hz: f64, ppre1: u32, ppre2: u32, ppre3: u32, ppre4: u32, tim1: u32, tim2: u32, cycle: u64) -> Answer;
     fn board_enable(w: *mut u64, r: *mut f64, word: u32, value: u32) -> Answer;
-    fn board_set_pin(w: *mut u64, r: *mut f64, p: *mut u8, np: usize, l: *mut u8, nl: usize, c: *mut u64, nc: usize, pin: u32, mode: u32, open_drain: u32, out: u32, pullup: u32, pulldown: u32, function: u32, cycle: u64) -> Answer;
-    fn board_drive_pin(w: *mut u64, r: *mut f64, p: *mut u8, np: usize, l: *mut u8, nl: usize, c: *mut u64, nc: usize, pin: u32, kind: u32, volts: f64, cycle: u64) -> Answer;
-    fn board_reset_pins(w: *mut u64, r: *mut f64, p: *mut u8, np: usize, l: *mut u8, nl: usize, c: *mut u64, nc: usize, cycle: u64) -> Answer;
+    fn board_set_pin(w: *mut u64, r: *mut f64, pin: u32, mode: u32, open_drain: u32, out: u32, pullup: u32, pulldown: u32, function: u32, cycle: u64, p: *mut u8, np: usize, l: *mut u8, nl: usize, c: *mut u64, nc: usize) -> Answer;
+    fn board_drive_pin(w: *mut u64, r: *mut f64, pin: u32, kind: u32, volts: f64, cycle: u64, p: *mut u8, np: usize, l: *mut u8, nl: usize, c: *mut u64, nc: usize) -> Answer;
+    fn board_reset_pins(w: *mut u64, r: *mut f64, cycle: u64, p: *mut u8, np: usize, l: *mut u8, nl: usize, c: *mut u64, nc: usize) -> Answer;
     fn board_read(w: *const u64, r: *const f64, timer: u32, offset: u32, size: u32, cycle: u64) -> Answer;
-    fn board_write(w: *mut u64, r: *mut f64, p: *mut u8, np: usize, l: *mut u8, nl: usize, c: *mut u64, nc: usize, timer: u32, offset: u32, size: u32, value: u32, cycle: u64) -> Answer;
+    fn board_write(w: *mut u64, r: *mut f64, timer: u32, offset: u32, size: u32, value: u32, cycle: u64, p: *mut u8, np: usize, l: *mut u8, nl: usize, c: *mut u64, nc: usize) -> Answer;
     fn board_peek(w: *const u64, r: *const f64, timer: u32, offset: u32, cycle: u64) -> Answer;
-    fn board_reset(w: *mut u64, r: *mut f64, p: *mut u8, np: usize, l: *mut u8, nl: usize, c: *mut u64, nc: usize, timer: u32, cycle: u64) -> Answer;
-    fn board_deliver(w: *mut u64, r: *mut f64, p: *mut u8, np: usize, l: *mut u8, nl: usize, c: *mut u64, nc: usize, timer: u32, cycle: u64) -> Answer;
+    fn board_reset(w: *mut u64, r: *mut f64, timer: u32, cycle: u64, p: *mut u8, np: usize, l: *mut u8, nl: usize, c: *mut u64, nc: usize) -> Answer;
+    fn board_deliver(w: *mut u64, r: *mut f64, timer: u32, cycle: u64, p: *mut u8, np: usize, l: *mut u8, nl: usize, c: *mut u64, nc: usize) -> Answer;
     fn board_booked(w: *const u64, r: *const f64, timer: u32) -> Answer;
     fn board_next(w: *const u64, r: *const f64) -> Answer;
     fn board_level(w: *const u64, r: *const f64, pin: u32) -> Answer;
@@ -78,7 +78,7 @@ macro_rules! change {
 /// A call that changes the state and is lent a book.
 macro_rules! lend {
     ($f:ident, $s:ident, $b:ident $(, $arg:expr)*) => {
-        change!($f, $s, $b.pins.as_mut_ptr(), $b.pins.len(), $b.levels.as_mut_ptr(), $b.levels.len(), $b.cycles.as_mut_ptr(), $b.cycles.len() $(, $arg)*)
+        change!($f, $s $(, $arg)*, $b.pins.as_mut_ptr(), $b.pins.len(), $b.levels.as_mut_ptr(), $b.levels.len(), $b.cycles.as_mut_ptr(), $b.cycles.len())
     };
 }
 

@@ -324,7 +324,7 @@ impl Board {
     /// Handles a timer's events that are due at `cycle`. Stopped early it is no error: what it did stands.
     pub fn deliver(&mut self, timer: u32, cycle: u64) -> Result<Delivered<'_>, Error> {
         let a = self.lend(|s, book| s.deliver(book, timer, cycle));
-        match Error::from_number(a.number) {
+        match error(a) {
             None | Some(Error::Backlog) => Ok(Delivered { events: a.value, backlog: a.number != 0, entries: self.entries(a.count) }),
             Some(e) => Err(e),
         }
@@ -364,10 +364,10 @@ impl Board {
         call(&mut self.state, &mut Book { pins: &mut self.pins, levels: &mut self.levels, cycles: &mut self.cycles })
     }
 
-    fn entries(&mut self, count: usize) -> &[Entry] {
+    fn entries(&mut self, count: u32) -> &[Entry] {
         let places = self.pins.iter().zip(&self.levels).zip(&self.cycles);
         self.entries.clear();
-        self.entries.extend(places.take(count).map(|((&pin, &level), &cycle)| Entry { pin, level, cycle }));
+        self.entries.extend(places.take(count as usize).map(|((&pin, &level), &cycle)| Entry { pin, level, cycle }));
         &self.entries
     }
 
@@ -378,8 +378,13 @@ impl Board {
     }
 }
 
+/// The numbers are 0 to 8.
+fn error(a: Answer) -> Option<Error> {
+    Error::from_number(a.number as u8)
+}
+
 fn value(a: Answer) -> Result<u64, Error> {
-    match Error::from_number(a.number) {
+    match error(a) {
         None => Ok(a.value),
         Some(e) => Err(e),
     }

@@ -1,5 +1,6 @@
-// The board's calls, exported for C and Rust: the state by two thin references, the book by its three slices. Each answers and leaves
-// what the machine's `step` gives, for every argument and every content of the arrays.
+// The board's calls, exported for C and Rust: the state by two thin references, the book by its three slices, which come last: so the
+// call's own numbers are passed in registers. Each answers and leaves what the machine's `step` gives, for every argument and every
+// content of the arrays.
 use answer::Answer;
 use clk::ClockTree;
 use state::REALS;
@@ -60,8 +61,8 @@ pub extern "C" fn board_set_up(
 {
     let number = setup::set_up(words, reals, hz, vcc, pins, lines, timers, table);
     Answer {
-        number,
         value: 0,
+        number: number as u32,
         count: 0,
     }
 }
@@ -114,9 +115,6 @@ pub extern "C" fn board_enable(
 pub extern "C" fn board_set_pin(
     words: &mut [u64; WORDS],
     reals: &mut [f64; REALS],
-    pins: &mut [u8],
-    levels: &mut [u8],
-    cycles: &mut [u64],
     pin: u32,
     mode: u32,
     open_drain: u32,
@@ -125,6 +123,9 @@ pub extern "C" fn board_set_pin(
     pulldown: u32,
     function: u32,
     cycle: u64,
+    pins: &mut [u8],
+    levels: &mut [u8],
+    cycles: &mut [u64],
 ) -> Answer
     ensures { λ r. ⌜ Answers (step (view (now (words .entry)) (now (reals .entry))) (C.setPin pin mode «open_drain» out pullup pulldown function cycle (places (now (pins .entry)) (now (levels .entry)) (now (cycles .entry))))) r (now (words .entry)) (now (words .exit)) (now (reals .entry)) (now (reals .exit)) ⌝ }
     ensures { λ r. ⌜ Holds (step (view (now (words .entry)) (now (reals .entry))) (C.setPin pin mode «open_drain» out pullup pulldown function cycle (places (now (pins .entry)) (now (levels .entry)) (now (cycles .entry)))) .entries) (now (pins .entry)) (now (pins .exit)) (now (levels .entry)) (now (levels .exit)) (now (cycles .entry)) (now (cycles .exit)) (r .count) ⌝ }
@@ -151,13 +152,13 @@ pub extern "C" fn board_set_pin(
 pub extern "C" fn board_drive_pin(
     words: &mut [u64; WORDS],
     reals: &mut [f64; REALS],
-    pins: &mut [u8],
-    levels: &mut [u8],
-    cycles: &mut [u64],
     pin: u32,
     kind: u32,
     volts: f64,
     cycle: u64,
+    pins: &mut [u8],
+    levels: &mut [u8],
+    cycles: &mut [u64],
 ) -> Answer
     ensures { λ r. ⌜ Answers (step (view (now (words .entry)) (now (reals .entry))) (C.drivePin pin (extOf kind volts) cycle (places (now (pins .entry)) (now (levels .entry)) (now (cycles .entry))))) r (now (words .entry)) (now (words .exit)) (now (reals .entry)) (now (reals .exit)) ⌝ }
     ensures { λ r. ⌜ Holds (step (view (now (words .entry)) (now (reals .entry))) (C.drivePin pin (extOf kind volts) cycle (places (now (pins .entry)) (now (levels .entry)) (now (cycles .entry)))) .entries) (now (pins .entry)) (now (pins .exit)) (now (levels .entry)) (now (levels .exit)) (now (cycles .entry)) (now (cycles .exit)) (r .count) ⌝ }
@@ -170,10 +171,10 @@ pub extern "C" fn board_drive_pin(
 pub extern "C" fn board_reset_pins(
     words: &mut [u64; WORDS],
     reals: &mut [f64; REALS],
+    cycle: u64,
     pins: &mut [u8],
     levels: &mut [u8],
     cycles: &mut [u64],
-    cycle: u64,
 ) -> Answer
     ensures { λ r. ⌜ Answers (step (view (now (words .entry)) (now (reals .entry))) (C.resetPins cycle (places (now (pins .entry)) (now (levels .entry)) (now (cycles .entry))))) r (now (words .entry)) (now (words .exit)) (now (reals .entry)) (now (reals .exit)) ⌝ }
     ensures { λ r. ⌜ Holds (step (view (now (words .entry)) (now (reals .entry))) (C.resetPins cycle (places (now (pins .entry)) (now (levels .entry)) (now (cycles .entry)))) .entries) (now (pins .entry)) (now (pins .exit)) (now (levels .entry)) (now (levels .exit)) (now (cycles .entry)) (now (cycles .exit)) (r .count) ⌝ }
@@ -203,14 +204,14 @@ pub extern "C" fn board_read(
 pub extern "C" fn board_write(
     words: &mut [u64; WORDS],
     reals: &mut [f64; REALS],
-    pins: &mut [u8],
-    levels: &mut [u8],
-    cycles: &mut [u64],
     timer: u32,
     offset: u32,
     size: u32,
     value: u32,
     cycle: u64,
+    pins: &mut [u8],
+    levels: &mut [u8],
+    cycles: &mut [u64],
 ) -> Answer
     ensures { λ r. ⌜ Answers (step (view (now (words .entry)) (now (reals .entry))) (C.write timer offset size value cycle (places (now (pins .entry)) (now (levels .entry)) (now (cycles .entry))))) r (now (words .entry)) (now (words .exit)) (now (reals .entry)) (now (reals .exit)) ⌝ }
     ensures { λ r. ⌜ Holds (step (view (now (words .entry)) (now (reals .entry))) (C.write timer offset size value cycle (places (now (pins .entry)) (now (levels .entry)) (now (cycles .entry)))) .entries) (now (pins .entry)) (now (pins .exit)) (now (levels .entry)) (now (levels .exit)) (now (cycles .entry)) (now (cycles .exit)) (r .count) ⌝ }
@@ -248,11 +249,11 @@ pub extern "C" fn board_peek(
 pub extern "C" fn board_reset(
     words: &mut [u64; WORDS],
     reals: &mut [f64; REALS],
+    timer: u32,
+    cycle: u64,
     pins: &mut [u8],
     levels: &mut [u8],
     cycles: &mut [u64],
-    timer: u32,
-    cycle: u64,
 ) -> Answer
     ensures { λ r. ⌜ Answers (step (view (now (words .entry)) (now (reals .entry))) (C.resetTimer timer cycle (places (now (pins .entry)) (now (levels .entry)) (now (cycles .entry))))) r (now (words .entry)) (now (words .exit)) (now (reals .entry)) (now (reals .exit)) ⌝ }
     ensures { λ r. ⌜ Holds (step (view (now (words .entry)) (now (reals .entry))) (C.resetTimer timer cycle (places (now (pins .entry)) (now (levels .entry)) (now (cycles .entry)))) .entries) (now (pins .entry)) (now (pins .exit)) (now (levels .entry)) (now (levels .exit)) (now (cycles .entry)) (now (cycles .exit)) (r .count) ⌝ }
@@ -265,11 +266,11 @@ pub extern "C" fn board_reset(
 pub extern "C" fn board_deliver(
     words: &mut [u64; WORDS],
     reals: &mut [f64; REALS],
+    timer: u32,
+    cycle: u64,
     pins: &mut [u8],
     levels: &mut [u8],
     cycles: &mut [u64],
-    timer: u32,
-    cycle: u64,
 ) -> Answer
     ensures { λ r. ⌜ Answers (step (view (now (words .entry)) (now (reals .entry))) (C.deliver timer cycle (places (now (pins .entry)) (now (levels .entry)) (now (cycles .entry))))) r (now (words .entry)) (now (words .exit)) (now (reals .entry)) (now (reals .exit)) ⌝ }
     ensures { λ r. ⌜ Holds (step (view (now (words .entry)) (now (reals .entry))) (C.deliver timer cycle (places (now (pins .entry)) (now (levels .entry)) (now (cycles .entry)))) .entries) (now (pins .entry)) (now (pins .exit)) (now (levels .entry)) (now (levels .exit)) (now (cycles .entry)) (now (cycles .exit)) (r .count) ⌝ }

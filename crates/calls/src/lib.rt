@@ -80,8 +80,8 @@ fn set_up(words: &mut [u64; WORDS], reals: &mut [f64; REALS], calls: &[u32]) -> 
     let table = &calls[start..end];
     let number = setup::set_up(words, reals, hz, vcc, pins, lines, timers, table);
     Answer {
-        number,
         value: 0,
+        number: number as u32,
         count: 0,
     }
 }
@@ -366,7 +366,7 @@ fn perform_call(
 {
     let r = perform_at(words, reals, calls, pins, levels, cycles, at, end);
     put_answer(answers, i, r);
-    r.count
+    r.count as usize
 }
 
 // No call, no room for its answer, or not the places that it is lent.

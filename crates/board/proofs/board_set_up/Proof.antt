@@ -3,18 +3,16 @@ use Rattle.board.proofs.Laws.{set-up-answers}
 use borrow.Author.Needs.{needs}
 use Rattle.board.proofs.board_set_up.Statement.{statement}
 use Rattle.board.proofs.board_set_up.Tie as tie
-use Rattle.board.proofs.board_set_up.Reads as reads
-use Rattle.board.proofs.board_set_up.Lts as lts
-use Rattle.setup.proofs.set_up.Reads as set-up-reads
 
--- src/lib.rt:61:9
 set-up-requires : tie.Need-set-up-requires
 set-up-requires c κs = search needs
 
--- src/lib.rt:48:1
+cast-t12 : tie.Need-cast-t12
+cast-t12 c = search needs
+
 returns : tie.Need-returns
 returns c =
     set-up-answers _ _ _ _ _ _ (c .set-up .ensures)
 
 pub board-set-up-spec : {M : Type 1} → statement M
-board-set-up-spec = tie.close (tie.spec set-up-requires returns)
+board-set-up-spec = tie.close (tie.spec set-up-requires cast-t12 returns)

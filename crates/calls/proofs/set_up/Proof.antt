@@ -62,8 +62,11 @@ part-table-end c = omega (arith, c .before .before .word3 .ensures, c .before .w
 set-up-requires : tie.Need-set-up-requires
 set-up-requires c κs = search needs
 
+cast-t23 : tie.Need-cast-t23
+cast-t23 c = search needs
+
 returns : tie.Need-returns
 returns c = answers-as _ _ (set-up-is (c .before .before .before .before .before .before .before .before .before .before .before .before .args .calls .now) _ _ _ _ _ _ (c .before .before .before .before .before .before .before .before .before .before .real64 .ensures) (c .before .before .before .before .before .before .before .before .before .real642 .ensures) (c .before .before .before .before .before .before .before .before .word .ensures) (c .before .before .before .before .before .before .before .word2 .ensures) (c .before .before .before .before .before .before .word3 .ensures) (c .before .before .before .before .before .word4 .ensures)) _ _ _ _ _ _ (set-up-answers _ _ _ _ _ _ (c .set-up .ensures))
 
 pub set-up-spec : {M : Type 1} → statement M
-set-up-spec = tie.close (tie.spec real64-requires real64-requires-2 word-requires word-requires-2 word-requires-3 word-requires-4 cast-start mul-start add-start cast-end add-end sub-timers part-timers-start part-timers-end mul-table sub-table part-table-start part-table-end set-up-requires returns)
+set-up-spec = tie.close (tie.spec real64-requires real64-requires-2 word-requires word-requires-2 word-requires-3 word-requires-4 cast-start mul-start add-start cast-end add-end sub-timers part-timers-start part-timers-end mul-table sub-table part-table-start part-table-end set-up-requires cast-t23 returns)
