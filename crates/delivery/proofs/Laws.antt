@@ -21,24 +21,17 @@ use Rattle.tim.specs.Timer.{Fit}
 use Rattle.tim.specs.Next.{nextEvent, nextSteps, consider, compares, compareSteps}
 use Rattle.tim.proofs.Fit.{either, fit-updated, fit-compared}
 use Rattle.tim.proofs.Fixed.{inst-updated, inst-compared}
-use Rattle.book.specs.Book.{Entry, Book, book, put, puts, entryOf, entriesOf}
-use Rattle.book.specs.Laws.{puts-append, puts-four, holds}
+use Rattle.book.specs.Book.{Entry, Book, book, put, puts, entriesOf}
+use Rattle.book.specs.Laws.{puts-append, holds}
 use Rattle.state.specs.View.{view}
 use Rattle.state.specs.Bounded.{bounded}
 use Rattle.state.specs.Board.{withBooking, withInst}
 use Rattle.machine.specs.Board.{Board, Pads, noTimer, timerAt, withPads, withTimer}
-use Rattle.machine.specs.Sys.{Move, driver, driveOutputs}
+use Rattle.machine.specs.Sys.{driveOutputs}
 use Rattle.machine.specs.Deliver.{applied, countAt, Turn, turn, turnOf, dueBy, Run, stop, after, run, mostEvents, dividerOf, bookingOf, lineSettled, rebooked, delivered, settled}
-use Rattle.tim.specs.Change.{output}
-use Rattle.sig.specs.Signal.{timSignal}
-use Rattle.gpio.specs.declared.Change.{Change}
-use Rattle.gpio.specs.Gpio.{changeOf}
-use Rattle.book.specs.declared.Changes.{Changes}
-use Rattle.sys.specs.Moves.{Moves}
-use Rattle.outputs.specs.Outputs.{Driven, levelDriven}
-use Rattle.outputs.proofs.Laws.{at-signal, drives-append, four, levels-drive, outputs-driven}
+use Rattle.outputs.specs.Outputs.{Driven}
 use Rattle.delivery.specs.declared.Ran.{Ran}
-use Rattle.delivery.specs.Delivery.{OfFour, verdictOf, DrivenOne, DrivenTwo, Ends, Delivers}
+use Rattle.delivery.specs.Delivery.{OfFour, verdictOf, Ends, Delivers}
 
 -- ---- an event's channel is one of four
 
@@ -71,46 +64,6 @@ fit-applied t (Compare ch) at div f h p d = fit-compared t f ch
 pub driven : (b b₁ : Board) (k k₁ : Book) (t : Timer) (e : Next) (cnt at : ℕ) → cnt ≡ countAt t e
     → Driven (driveOutputs t cnt (b .pads)) at b b₁ k k₁ → Driven (driveOutputs t (countAt t e) (b .pads)) at b b₁ k k₁
 driven b b₁ k k₁ t e cnt at h d = subst (λ (n : ℕ). Driven (driveOutputs t n (b .pads)) at b b₁ k k₁) h d
-
-pub one-driven : (m : Move) (at : ℕ) (b b₁ : Board) (k k₁ : Book) (n : ℕ) (c : Change) → Moves m b b₁ (changeOf n) → c ≡ changeOf n
-    → k₁ ≡ puts k (entryOf at c) → DrivenOne m at b b₁ k k₁
-one-driven m at b b₁ k k₁ n c h e w = record { board = h .board; entries = w ∙ ap (λ (x : Change). puts k (entryOf at x)) (e ∙ h .change) }
-
-pub two-driven : (x ch s : ℕ) (l l₁ : Bool) (at : ℕ) (b b₁ b₂ : Board) (k k₁ k₂ : Book)
-    → DrivenOne (levelDriven x ch s l (b .pads)) at b b₁ k k₁ → DrivenOne (levelDriven x (ch + 1) (s + 1) l₁ (b₁ .pads)) at b₁ b₂ k₁ k₂
-    → DrivenTwo x ch s l l₁ at b b₂ k k₂
-two-driven x ch s l l₁ at b b₁ b₂ k k₁ k₂ p q = record { between = b₁; book = k₁; first = p; second = q }
-
-moves-of : (m : Move) (at : ℕ) (b b₁ : Board) (k k₁ : Book) → DrivenOne m at b b₁ k k₁ → Moves m b b₁ (m .change)
-moves-of m at b b₁ k k₁ d = record { board = d .board; change = refl }
-
--- a timer's four channels, two by two
-pub four-driven : (t : Timer) (cnt at s : ℕ) (l l₁ l₂ l₃ : Bool) (b b₂ b₄ : Board) (k k₂ k₄ : Book) → 2 ≤ t .inst .n → t .inst .n ≤ 4
-    → s ≡ timSignal (t .inst .n) 0 → l ≡ output t 0 cnt → l₁ ≡ output t 1 cnt → l₂ ≡ output t 2 cnt → l₃ ≡ output t 3 cnt
-    → DrivenTwo (t .inst .channels) 0 s l l₁ at b b₂ k k₂ → DrivenTwo (t .inst .channels) 2 (s + 2) l₂ l₃ at b₂ b₄ k₂ k₄
-    → Driven (driveOutputs t cnt (b .pads)) at b b₄ k k₄
-four-driven t cnt at s l l₁ l₂ l₃ b b₂ b₄ k k₂ k₄ g h e p p₁ p₂ p₃ u v =
-    let n = t .inst .n in
-    let x = t .inst .channels in
-    let b₁ = u .between in
-    let b₃ = v .between in
-    let a = levelDriven x 0 s l (b .pads) in
-    let a₁ = levelDriven x 1 (s + 1) l₁ (b₁ .pads) in
-    let a₂ = levelDriven x 2 (s + 2) l₂ (b₂ .pads) in
-    let a₃ = levelDriven x 3 (s + 2 + 1) l₃ (b₃ .pads) in
-    let m = at-signal b b₁ x 0 s (timSignal n 0) l (a .change) e (moves-of a at b b₁ k (u .book) (u .first)) in
-    let m₁ = at-signal b₁ b₂ x 1 (s + 1) (timSignal n 1) l₁ (a₁ .change) (omega arith) (moves-of a₁ at b₁ b₂ (u .book) k₂ (u .second)) in
-    let m₂ = at-signal b₂ b₃ x 2 (s + 2) (timSignal n 2) l₂ (a₂ .change) (omega arith) (moves-of a₂ at b₂ b₃ k₂ (v .book) (v .first)) in
-    let m₃ = at-signal b₃ b₄ x 3 (s + 2 + 1) (timSignal n 3) l₃ (a₃ .change) (omega arith) (moves-of a₃ at b₃ b₄ (v .book) k₄ (v .second)) in
-    let c : Changes = record { a = a .change; b = a₁ .change; c = a₂ .change; d = a₃ .change } in
-    outputs-driven b b₄ t t cnt at l l₁ l₂ l₃ k k₄ refl p p₁ p₂ p₃
-    (drives-append _ at b b₄ k k₄ c (levels-drive b b₄ n x l l₁ l₂ l₃ c g h (four b b₁ b₂ b₃ b₄ n x l l₁ l₂ l₃ _ _ _ _ m m₁ m₂ m₃))
-    (puts-four k (u .book) k₂ (v .book) k₄ at c (u .first .entries) (u .second .entries) (v .first .entries) (v .second .entries)))
-
--- a timer that drives nothing
-pub none-driven : (t : Timer) (cnt at : ℕ) (b : Board) (k : Book) → driver (t .inst .n) ≡ false → Driven (driveOutputs t cnt (b .pads)) at b b k k
-unfolding driveOutputs entriesOf entryOf puts
-none-driven t cnt at b k h = simp h (record { board = refl; entries = refl })
 
 -- the same as machine's turn
 record Turns (s : Turn) (t₁ : Timer) (p₁ : Pads) (k k₁ : Book) : Type 0 where

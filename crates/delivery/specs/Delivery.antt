@@ -1,15 +1,13 @@
 -- What a delivery over the lent state and the lent book leaves.
 use mathlib.Core.Path.{_≡_}
-use mathlib.Core.Bool.{Bool, cond}
+use mathlib.Core.Bool.{cond}
 use mathlib.Core.List.{List}
-use Prim.Native.Nat.{ℕ, _+_, _<_}
+use Prim.Native.Nat.{ℕ, _<_}
 use lib.Dec.{ltb, leb}
 use Rattle.tim.specs.declared.Next.{Next}
 use Rattle.tim.specs.declared.Next.the-variants.{Update, Compare}
-use Rattle.book.specs.Book.{Book, puts, entryOf, Holds}
+use Rattle.book.specs.Book.{Book, puts, Holds}
 use Rattle.machine.specs.Board.{Board, withPads}
-use Rattle.machine.specs.Sys.{Move}
-use Rattle.outputs.specs.Outputs.{levelDriven}
 use Rattle.machine.specs.Deliver.{Run, mostEvents, settled}
 use Rattle.delivery.specs.declared.Ran.{Ran}
 use Rattle.delivery.specs.declared.Delivered.{Delivered}
@@ -22,18 +20,6 @@ OfFour (Compare ch) = ch < 4
 -- "stops when nothing is due (0), or with more due after 100,001 events or with under 4 places left (8)"; 1 goes on
 unfoldable pub verdictOf : ℕ → ℕ → ℕ → ℕ → ℕ
 verdictOf at cycle events left = cond (leb at cycle) (cond (leb mostEvents events) 8 (cond (ltb left 4) 8 1)) 0
-
--- one channel's signal at a level, and its change put into a book at a cycle
-pub record DrivenOne (m : Move) (at : ℕ) (b b₁ : Board) (k k₁ : Book) : Type 0 where
-  pub board : b₁ ≡ withPads b (m .pads)
-  pub entries : k₁ ≡ puts k (entryOf at (m .change))
-
--- two channels', one after the other
-pub record DrivenTwo (channels ch s : ℕ) (l l₁ : Bool) (at : ℕ) (b b₂ : Board) (k k₂ : Book) : Type 0 where
-  pub between : Board
-  pub book : Book
-  pub first : DrivenOne (levelDriven channels ch s l (b .pads)) at b between k book
-  pub second : DrivenOne (levelDriven channels (ch + 1) (s + 1) l₁ (between .pads)) at between b₂ book k₂
 
 -- a run of events, its timer not stored yet
 pub record Ends (o : Run) (b b₁ : Board) (k k₁ : Book) (r : Ran) : Type 0 where

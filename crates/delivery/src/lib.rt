@@ -21,8 +21,8 @@ ghost use Rattle.state.specs.Board.{withInst};
 ghost use Rattle.machine.specs.Board.{timerAt, withTimer};
 ghost use Rattle.machine.specs.Sys.{driveOutputs};
 ghost use Rattle.machine.specs.Deliver.{applied, countAt, run, mostEvents, delivered};
-ghost use Rattle.outputs.specs.Outputs.{Driven, levelDriven};
-ghost use Rattle.delivery.specs.Delivery.{OfFour, verdictOf, DrivenOne, DrivenTwo, Ends, Delivers};
+ghost use Rattle.outputs.specs.Outputs.{Driven, levelDriven, DrivenOne, DrivenTwo};
+ghost use Rattle.delivery.specs.Delivery.{OfFour, verdictOf, Ends, Delivers};
 
 // What a delivery answers: 0 or 8, the events handled, and the entries made.
 pub struct Delivered {

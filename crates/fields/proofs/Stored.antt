@@ -109,6 +109,11 @@ module _ (w : List ℕ) (i : ℕ) (x : List Float) (h : i < 8) where
       go (suc zero) f = word 16 (omega arith)
       go (suc (suc q)) f = absurd (omega arith)
 
+  -- the counter
+  pub cnt-read : timerAt (view w x) i .count .cnt0 ≡ getD w (i * 40 + 35) 0 % 4294967296
+  unfolding decodeTimer
+  cnt-read = ap (λ (t : Timer). t .count .cnt0) (held w i h x) ∙ word 35 (omega arith)
+
   -- the fixed parts
   pub inst-read : instOf (u32At w (i * 40)) (u32At w (i * 40 + 1)) (u32At w (i * 40 + 2)) (u32At w (i * 40 + 3)) (u32At w (i * 40 + 4)) (u32At w (i * 40 + 5)) (u32At w (i * 40 + 6))
       ≡ timerAt (view w x) i .inst

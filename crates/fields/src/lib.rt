@@ -83,6 +83,14 @@ pub fn set_at(words: &mut [u64; WORDS], i: usize, cnt: u32, base: u64)
     words[i * TIMER_WORDS + 36] = base;
 }
 
+// The counter of timer i at its reference.
+pub fn cnt0(words: &[u64; WORDS], i: usize) -> u32
+    requires { ⌜ i < 8 ⌝ }
+    ensures { λ r. ⌜ ((x : List Float) → r ≡ timerAt (view (now (words .entry)) x) i .count .cnt0) ⌝ }
+{
+    (words[i * TIMER_WORDS + 35] % 4294967296) as u32
+}
+
 // Channel ch's byte of CCMR1 or CCMR2, of its word alone.
 pub fn ccmr_byte(words: &[u64; WORDS], i: usize, ch: usize) -> u32
     requires { ⌜ (i < 8) × (ch < 4) ⌝ }

@@ -5,7 +5,7 @@ use mathlib.Core.Bool.{Bool, true, false}
 use mathlib.Core.List.{List, [], _∷_}
 use Prim.Native.Nat.{ℕ, zero, suc, _+_, _*_, _≤_, _<_}
 use native.Mathlib.Omega.{arith}
-use lib.Dec.{ltb, lit≤}
+use lib.Dec.{eqb, ltb, lit≤}
 use mir.Val.{boolByte}
 use lib.ListN.{length, getD, set, List·getD-map}
 use lib.Seq.{getD-set-same, getD-set-other}
@@ -22,6 +22,12 @@ word-line l = go (l .high) (l .pending)
     go true false = refl
     go false true = refl
     go false false = refl
+
+-- a line that is low, with or without its pending flag
+pub low-word : (p : ℕ) → p < 2 → lineOf (p * 2) ≡ record { high = false; pending = eqb p 1 }
+low-word zero h = refl
+low-word (suc zero) h = refl
+low-word (suc (suc n)) h = absurd (omega arith)
 
 -- a flag as a number
 pub flag-le : (b : Bool) → boolByte b ≤ 1

@@ -76,6 +76,19 @@ pub fn word_of(l: Line) -> u64
     l.state()
 }
 
+// The word of a line, driven to a level: one that is high already keeps its word, a rise pends.
+pub fn driven(word: u64, level: bool) -> u64
+    ensures { λ r. ⌜ lineOf r ≡ lineSet (lineOf word) level ⌝ }
+{
+    if level {
+        if word % 2 == 1 {
+            return word;
+        }
+        return 3;
+    }
+    word / 2 % 2 * 2
+}
+
 // Drives line `irq`, one of the first `nirq` words of `lines`. At or above `nirq` nothing changes.
 pub fn set_line_at(lines: &mut [u64], nirq: u32, irq: u32, level: bool)
     requires { ⌜ nirq ≤ length (now lines) ⌝ }

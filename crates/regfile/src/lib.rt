@@ -99,6 +99,14 @@ pub fn write_ccr(words: &mut [u64; WORDS], i: usize, ch: usize, v: u32, cycle: u
 
 // ---- CR1
 
+// Neither CEN nor DIR changes.
+fn stays(old: u32, new: u32) -> bool {
+    if old % 2 == new % 2 {
+        return old / 16 % 2 == new / 16 % 2;
+    }
+    false
+}
+
 // A write of CR1, served unless the timer would run upward with its counter above the active reload + 1: then nothing changes.
 pub fn write_cr1(
     words: &mut [u64; WORDS],
@@ -113,6 +121,12 @@ pub fn write_cr1(
     ensures { λ r. ⌜ (r ≡ false → now (words .exit) ≡ now (words .entry)) ⌝ }
 {
     let t = state::load_timer(words, i);
+    let new = regs::kept_cr1(t, v);
+    if stays(t.regs.cr1, new) {
+        sync(words, i, cycle);
+        fields::set_reg(words, i, 0, new);
+        return true;
+    }
     let div = rcc::divider(words, reals, t);
     let s = regs::write_cr1(t, v, cycle, div);
     if regs::is_astray(s) {

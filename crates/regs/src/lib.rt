@@ -144,7 +144,7 @@ fn with_ccr_act(mut timer: Timer, ch: usize, v: u32) -> Timer
 }
 
 // The bits that CR1 keeps: those of a basic timer without channels.
-fn kept_cr1(timer: Timer, v: u32) -> u32
+pub fn kept_cr1(timer: Timer, v: u32) -> u32
     ensures { λ r. ⌜ r ≡ R.keptCr1 timer v ⌝ }
 {
     if timer.inst.channels == 0 {

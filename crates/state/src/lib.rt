@@ -384,8 +384,7 @@ pub fn set_line(words: &mut [u64; WORDS], irq: u32, level: bool)
     let count = line_count(words);
     if nvic::has_line(count, irq) {
         let at = LINES + irq as usize;
-        let was = nvic::line_of(words[at]);
-        words[at] = nvic::word_of(was.set_line(level));
+        words[at] = nvic::driven(words[at], level);
     }
 }
 

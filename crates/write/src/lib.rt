@@ -244,7 +244,7 @@ fn write_ccr(
     ensures { λ r. ⌜ r ≤ 4 ⌝ }
 {
     let on = regfile::write_ccr(words, i, ch, v, cycle);
-    let cnt = mmio::count_of(words, i, cycle);
+    let cnt = fields::cnt0(words, i);
     let k = drive(words, reals, pins, levels, cycles, on, i, cnt, cycle);
     rebook_if(words, on, i, cycle);
     state::set_last(words, cycle);
@@ -308,7 +308,7 @@ fn write_other(
 // ---- any register
 
 // A write while the timer's clock is on.
-fn write_on(
+fn write_any(
     words: &mut [u64; WORDS],
     reals: &mut [f64; REALS],
     pins: &mut [u8],
@@ -337,6 +337,68 @@ fn write_on(
     write_other(words, reals, pins, levels, cycles, i, off, v, cycle)
 }
 
+// An answer without a value as a number: the number plus 2^32 times the count. It is handed back in a register.
+fn code_of(a: Answer) -> u64
+    requires { ⌜ a .value ≡ 0 ⌝ }
+    ensures { λ r. ⌜ answerOf r ≡ a ⌝ }
+{
+    a.number as u64 + 4294967296 * a.count as u64
+}
+
+// The answer of such a number.
+fn answer_of(code: u64) -> Answer
+    ensures { λ r. ⌜ r ≡ answerOf code ⌝ }
+{
+    Answer {
+        value: 0,
+        number: (code % 4294967296) as u32,
+        count: (code / 4294967296) as u32,
+    }
+}
+
+// The same, its answer as a number. It has two callers, so that it is not inlined into the short way.
+fn write_on(
+    words: &mut [u64; WORDS],
+    reals: &mut [f64; REALS],
+    pins: &mut [u8],
+    levels: &mut [u8],
+    cycles: &mut [u64],
+    i: usize,
+    offset: u32,
+    size: u32,
+    value: u32,
+    cycle: u64,
+) -> u64
+    requires { ⌜ (i < 8) × (size ≤ 4) × (cycle ≤ 4611686018427387904) ⌝ }
+    requires { ⌜ (4 ≤ length (now pins)) × (4 ≤ length (now levels)) × (4 ≤ length (now cycles)) ⌝ }
+    ensures { λ r. ⌜ Answers (writtenOn (view (now (words .entry)) (now (reals .entry))) i offset size value cycle) (answerOf r) (now (words .entry)) (now (words .exit)) (now (reals .entry)) (now (reals .exit)) ⌝ }
+    ensures { λ r. ⌜ Holds (writtenOn (view (now (words .entry)) (now (reals .entry))) i offset size value cycle .entries) (now (pins .entry)) (now (pins .exit)) (now (levels .entry)) (now (levels .exit)) (now (cycles .entry)) (now (cycles .exit)) (answerOf r .count) ⌝ }
+{
+    let a = write_any(
+        words,
+        reals,
+        pins,
+        levels,
+        cycles,
+        i,
+        offset,
+        size,
+        value,
+        cycle,
+    );
+    code_of(a)
+}
+
+// A whole write of DIER or SR.
+fn write_flags(words: &mut [u64; WORDS], i: usize, off: u32, v: u32, cycle: u64)
+    requires { ⌜ (i < 8) × (lines off ≡ true) ⌝ }
+    ensures { λ _. ⌜ ((x : List Float) → view (now (words .exit)) x ≡ followed (view (now (words .entry)) x) i cycle (plainly (timerAt (view (now (words .entry)) x) i) off v) .board) ⌝ }
+{
+    regfile::write_plain(words, i, off, v);
+    rcc::settle_line_at(words, i);
+    state::set_last(words, cycle);
+}
+
 // A write: nothing but the cycle of the last changing call while the timer's clock is off.
 pub fn write(
     words: &mut [u64; WORDS],
@@ -359,20 +421,40 @@ pub fn write(
     if no != 0 {
         return answer::refused(no);
     }
-    if rcc::clock_on(words, timer as usize) {
-        return write_on(
+    let i = timer as usize;
+    if !rcc::clock_on(words, i) {
+        state::set_last(words, cycle);
+        return answer::served(0);
+    }
+    let off = offset / 4 * 4;
+    if !has_line(off) {
+        return answer_of(write_on(
             words,
             reals,
             pins,
             levels,
             cycles,
-            timer as usize,
+            i,
             offset,
             size,
             value,
             cycle,
-        );
+        ));
     }
-    state::set_last(words, cycle);
+    if size != 4 {
+        return answer_of(write_on(
+            words,
+            reals,
+            pins,
+            levels,
+            cycles,
+            i,
+            offset,
+            size,
+            value,
+            cycle,
+        ));
+    }
+    write_flags(words, i, off, value, cycle);
     answer::served(0)
 }

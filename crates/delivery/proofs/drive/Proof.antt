@@ -1,5 +1,5 @@
-use Rattle.delivery.proofs.Laws.{driven, none-driven}
-use Rattle.outputs.proofs.Laws.{above-four, below-two}
+use Rattle.delivery.proofs.Laws.{driven}
+use Rattle.outputs.proofs.Laws.{above-four, below-two, none-driven}
 use native.Mathlib.Omega.{arith}
 use borrow.Author.Needs.{needs}
 use Rattle.delivery.proofs.drive.Statement.{statement}
@@ -9,37 +9,37 @@ use Rattle.delivery.proofs.drive.Lts as lts
 use Rattle.delivery.proofs.count_at.Reads as count-at-reads
 use Rattle.delivery.proofs.drive_four.Reads as drive-four-reads
 
--- src/lib.rt:207:9
+-- src/lib.rt:174:9
 returns : tie.Need-returns
 returns c =
     (none-driven (c .before .before .before .before .before .args .t) _ (c .before .before .before .before .before .args .at) _ _ (below-two _ (c .if1 .taken)), omega arith)
 
--- src/lib.rt:210:9
+-- src/lib.rt:177:9
 returns-2 : tie.Need-returns-2
 returns-2 c =
     (none-driven (c .before .before .before .before .before .before .before .args .t) _ (c .before .before .before .before .before .before .before .args .at) _ _ (above-four _ (c .before .before .if1 .left) (c .if2 .taken)), omega arith)
 
--- src/lib.rt:212:9
+-- src/lib.rt:179:9
 count-at-requires : tie.Need-count-at-requires
 count-at-requires c κs = search needs
 
--- src/lib.rt:213:5
+-- src/lib.rt:180:5
 drive-four-requires : tie.Need-drive-four-requires
 drive-four-requires c κs = search needs
 
--- src/lib.rt:190:1
+-- src/lib.rt:157:1
 same-length : tie.Need-same-length
 same-length c = search needs
 
--- src/lib.rt:190:1
+-- src/lib.rt:157:1
 same-length-2 : tie.Need-same-length-2
 same-length-2 c = search needs
 
--- src/lib.rt:190:1
+-- src/lib.rt:157:1
 same-length-3 : tie.Need-same-length-3
 same-length-3 c = search needs
 
--- src/lib.rt:190:1
+-- src/lib.rt:157:1
 returns-3 : tie.Need-returns-3
 returns-3 c =
     (driven _ _ _ _ (c .before .before .before .before .before .before .before .before .before .before .before .before .before .before .before .before .before .before .before .before .args .t) (c .before .before .before .before .before .before .before .before .before .before .before .before .before .before .before .before .before .before .before .before .args .e) _ _ (c .before .before .before .before .before .before .before .before .before .before .before .before .count-at .ensures) (c .before .before .before .before .before .before .drive-four .ensures .0), c .before .before .before .before .before .before .drive-four .ensures .1)

@@ -1,4 +1,4 @@
-use Rattle.delivery.proofs.Laws.{one-driven}
+use Rattle.outputs.proofs.Laws.{one-driven}
 use borrow.Author.Needs.{needs}
 use Rattle.delivery.proofs.drive_one.Statement.{statement}
 use Rattle.delivery.proofs.drive_one.Tie as tie

@@ -1,4 +1,4 @@
-use Rattle.delivery.proofs.Laws.{two-driven}
+use Rattle.outputs.proofs.Laws.{two-driven}
 use native.Mathlib.Omega.{arith}
 use borrow.Author.Needs.{needs}
 use Rattle.delivery.proofs.drive_two.Statement.{statement}
