@@ -1,3 +1,4 @@
 pub mod Written
 mod Plainly
 pub mod Control
+pub mod Unmoved

@@ -17,6 +17,7 @@ ghost use Rattle.state.specs.Board.{timerAt, withTimer};
 ghost use Rattle.machine.specs.Deliver.{dividerOf};
 ghost use Rattle.regfile.specs.Plain.{plain, plainRegs};
 ghost use Rattle.regfile.specs.Behind.{behindOf};
+ghost use Rattle.regfile.specs.Steady.{steady};
 
 // ---- registers that a write stores and no more: CR2, SMCR, DIER, SR, PSC
 
@@ -100,11 +101,22 @@ pub fn write_ccr(words: &mut [u64; WORDS], i: usize, ch: usize, v: u32, cycle: u
 // ---- CR1
 
 // Neither CEN nor DIR changes.
-fn stays(old: u32, new: u32) -> bool {
+fn stays(old: u32, new: u32) -> bool
+    ensures { λ r. ⌜ r ≡ steady old new ⌝ }
+{
     if old % 2 == new % 2 {
         return old / 16 % 2 == new / 16 % 2;
     }
     false
+}
+
+// CR1 of a timer that the write neither starts, stops nor turns: CR1 and the reference are stored.
+fn write_steady(words: &mut [u64; WORDS], i: usize, new: u32, cycle: u64)
+    requires { ⌜ (i < 8) × (cycle < 9223372036854775808) ⌝ }
+    ensures { λ _. ⌜ ((x : List Float) → view (now (words .exit)) x ≡ withTimer (view (now (words .entry)) x) i (R.withCr1 (synced (timerAt (view (now (words .entry)) x) i) cycle) new)) ⌝ }
+{
+    sync(words, i, cycle);
+    fields::set_reg(words, i, 0, new);
 }
 
 // A write of CR1, served unless the timer would run upward with its counter above the active reload + 1: then nothing changes.
@@ -123,8 +135,7 @@ pub fn write_cr1(
     let t = state::load_timer(words, i);
     let new = regs::kept_cr1(t, v);
     if stays(t.regs.cr1, new) {
-        sync(words, i, cycle);
-        fields::set_reg(words, i, 0, new);
+        write_steady(words, i, new, cycle);
         return true;
     }
     let div = rcc::divider(words, reals, t);
