@@ -47,7 +47,7 @@ steady-written t v now div h =
 
 -- ---- a timer that was synced is not astray
 
-up-le : (reload cnt n : ℕ) → upFrom reload cnt n ≤ reload
+pub up-le : (reload cnt n : ℕ) → upFrom reload cnt n ≤ reload
 unfolding upFrom
 up-le reload cnt n = go (leb (cnt + n) reload) refl
   where

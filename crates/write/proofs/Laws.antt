@@ -2,7 +2,7 @@
 use mathlib.Core.Path.{_≡_, refl, ap, sym, subst, _∙_}
 use mathlib.Core.Bool.{Bool, true, false, cond, not, _&&_, _||_, false≢true}
 use mathlib.Core.List.{List, [], _∷_}
-use Prim.Native.Nat.{ℕ, _≤_, _<_}
+use Prim.Native.Nat.{ℕ, _+_, _*_, _/_, _%_, _≤_, _<_}
 use native.Mathlib.Omega.{arith}
 use lib.Dec.{leb, ltb, eqb}
 use borrow.Author.Tests.{eq-eqb, ne-eqb, eqb-true, leb-true, not-true, not-false}
@@ -18,7 +18,7 @@ use Rattle.regs.specs.Regs as R
 use Rattle.tim.proofs.Fit.{either}
 use Rattle.regs.proofs.Fixed.{inst-written}
 use Rattle.periph.specs.Lane.{laneWrite}
-use Rattle.book.specs.Book.{Book, book, puts, entriesOf, Holds}
+use Rattle.book.specs.Book.{Entry, Book, book, puts, entriesOf, Holds}
 use Rattle.book.specs.Laws.{holds}
 use Rattle.machine.specs.Board.{Board, timerAt, withTimer, withPads, withLast}
 use Rattle.machine.specs.Sys.{driveOutputs}
@@ -39,7 +39,7 @@ use Rattle.mmio.specs.Leaves.{Leaves}
 use Rattle.mmio.proofs.Laws.{asked, asked-count}
 use Rattle.regfile.specs.Plain.{plain, lines, plainRegs, plainly}
 use Rattle.fields.proofs.Words.{same-timer}
-use Rattle.write.specs.Writes.{Driven, writtenBy, writtenOn, compareWritten}
+use Rattle.write.specs.Writes.{Driven, writtenBy, writtenOn, compareWritten, answerOf}
 
 -- ---- what follows
 pub drives-on : (on : Bool) (t : Timer) (cnt cycle : ℕ) (b b₁ : Board) (k k₁ : Book) → on ≡ true → O.Driven (driveOutputs t cnt (b .pads)) cycle b b₁ k k₁
@@ -148,6 +148,30 @@ module _ (w : List ℕ) (x : List Float) (i offset size value cycle v : ℕ)
       → Holds (writtenOn (view w x) i offset size value cycle .entries) p p₁ l l₁ c c₁ k
   on-merged-book p p₁ l l₁ c c₁ k m = subst (λ (z : ℕ). Holds (writtenBy (view w x) i (register offset) z cycle .entries) p p₁ l l₁ c c₁ k) e m
 
+-- a whole write is its value
+pub whole : (old offset size value : ℕ) → size ≡ 4 → value ≡ laneWrite old offset size value
+unfolding laneWrite
+whole old offset size value h = rw (eq-eqb size 4 h)
+
+-- a write answers no value
+pub no-value : (b : Board) (i off v cycle : ℕ) → writtenBy b i off v cycle .value ≡ 0
+unfolding writtenBy followed
+no-value b i off v cycle =
+    either (λ (o : Outcome). o .value ≡ 0) (counterAstray off (R.regWritten (timerAt b i) off v cycle (dividerOf b (timerAt b i)) .timer)) refl refl
+
+-- the answer that a number stands for
+pub coded : (o : Outcome) (a r : Answer) (w w₁ : List ℕ) (x x₁ : List Float) → r ≡ a → Answers o a w w₁ x x₁ → Answers o r w w₁ x x₁
+coded o a r w w₁ x x₁ e m = subst (λ (y : Answer). Answers o y w w₁ x x₁) (sym e) m
+
+pub coded-book : (es : List Entry) (a r : Answer) (p p₁ l l₁ c c₁ : List ℕ) → r ≡ a → Holds es p p₁ l l₁ c c₁ (a .count) → Holds es p p₁ l l₁ c c₁ (r .count)
+coded-book es a r p p₁ l l₁ c c₁ e m = subst (λ (y : Answer). Holds es p p₁ l l₁ c c₁ (y .count)) (sym e) m
+
+pub coding : (a : Answer) → a .value ≡ 0 → a .number < 4294967296 → answerOf (a .number + 4294967296 * a .count) ≡ a
+coding a z h =
+    let n : (a .number + 4294967296 * a .count) % 4294967296 ≡ a .number = omega arith in
+    let k : (a .number + 4294967296 * a .count) / 4294967296 ≡ a .count = omega arith in
+    rw (n, k, ← z)
+
 -- ---- the five plain registers
 
 -- what holds at each of them
@@ -200,6 +224,15 @@ plain-follows b b₁ b₂ b₃ i off v cycle on l line e₁ e₂ e₃ =
     ∙ ap (λ (y : Timer). cond (lines off) (lineSettled y b₁) b₁) (stored-there b b₁ i u l e₁)
     ∙ ap (λ (y : Board). cond (lines off) (lineSettled u y) y) e₁ in
     e₃ ∙ ap (λ (y : Board). withLast y cycle) settled
+
+-- DIER and SR are plain
+pub lines-plain : (off : ℕ) → lines off ≡ true → plain off ≡ true
+lines-plain off h = go (eqb off 0x0c) refl (eqb off 0x10) refl h
+  where
+    go : (a : Bool) → eqb off 0x0c ≡ a → (c : Bool) → eqb off 0x10 ≡ c → lines off ≡ true → plain off ≡ true
+    go true p c q k = rw (eqb-true off 0x0c p) refl
+    go false p true q k = rw (eqb-true off 0x10 q) refl
+    go false p false q k = absurd (false≢true (sym (rw (p, q) refl) ∙ k))
 
 -- ---- CR1
 
@@ -274,7 +307,7 @@ driven-at true t cnt cnt₁ cycle b b₁ k k₁ h d = subst (λ (n : ℕ). Drive
 driven-at false t cnt cnt₁ cycle b b₁ k k₁ h d = record { board = d .board; entries = d .entries }
 
 pub compares : (b b₁ b₂ b₃ b₄ : Board) (i ch v cycle cnt : ℕ) (on : Bool) (k k₁ : Book) → i < length (b .timers)
-    → b₁ ≡ withTimer b i (R.ccrWritten (timerAt b i) ch v cycle .timer) → on ≡ R.ccrWritten (timerAt b i) ch v cycle .drive → cnt ≡ cntAt (timerAt b₁ i) cycle
+    → b₁ ≡ withTimer b i (R.ccrWritten (timerAt b i) ch v cycle .timer) → on ≡ R.ccrWritten (timerAt b i) ch v cycle .drive → (R.ccrWritten (timerAt b i) ch v cycle .drive ≡ true → cnt ≡ cntAt (timerAt b₁ i) cycle)
     → Driven on (timerAt b₁ i) cnt cycle b₁ b₂ k k₁ → b₃ ≡ cond on (rebooked i (timerAt b₂ i) cycle b₂) b₂ → b₄ ≡ withLast b₃ cycle
     → Leaves (followed b i cycle (R.ccrWritten (timerAt b i) ch v cycle)) b₄ k k₁
 compares b b₁ b₂ b₃ b₄ i ch v cycle cnt on k k₁ l e₁ o n d e₃ e₄ =
@@ -283,7 +316,7 @@ compares b b₁ b₂ b₃ b₄ i ch v cycle cnt on k k₁ l e₁ o n d e₃ e₄
     let d₁ : Driven (w .drive) (timerAt b₁ i) cnt cycle b₁ b₂ k k₁ = subst (λ (z : Bool). Driven z (timerAt b₁ i) cnt cycle b₁ b₂ k k₁) o d in
     follows b b₁ b₂ b₂ b₃ b₄ i cycle w k k₁ l e₁
     (driven-at (w .drive) (timerAt b₁ i) cnt (w .cnt) cycle b₁ b₂ k k₁
-    (λ h. n ∙ ap (λ (y : Timer). cntAt y cycle) there ∙ compare-count (timerAt b i) ch v cycle h) d₁)
+    (λ h. n h ∙ ap (λ (y : Timer). cntAt y cycle) there ∙ compare-count (timerAt b i) ch v cycle h) d₁)
     (ap (λ (z : Bool). cond z (lineSettled (timerAt b₂ i) b₂) b₂) (sym (compare-line (timerAt b i) ch v cycle)))
     (e₃ ∙ ap (λ (z : Bool). cond z (rebooked i (timerAt b₂ i) cycle b₂) b₂) (o ∙ compare-booked (timerAt b i) ch v cycle))
     e₄

@@ -2,7 +2,7 @@
 use mathlib.Core.Path.{_≡_}
 use mathlib.Core.Bool.{Bool, cond}
 use mathlib.Core.List.{[]}
-use Prim.Native.Nat.{ℕ}
+use Prim.Native.Nat.{ℕ, _/_, _%_}
 use lib.Dec.{eqb}
 use Rattle.tim.specs.declared.Timer.{Timer}
 use Rattle.book.specs.Book.{Book, puts, entriesOf}
@@ -14,6 +14,7 @@ use Rattle.machine.specs.Step.{refuseIf, register, present, counterAstray, foll
 use Rattle.regs.specs.declared.Written.{Written}
 use Rattle.regs.specs.Regs as R
 use Rattle.periph.specs.Lane.{laneWrite}
+use Rattle.answer.specs.declared.Answer.{Answer}
 
 -- the outputs driven where `on`, and their changes put into the book
 pub record Driven (on : Bool) (t : Timer) (cnt cycle : ℕ) (b b₁ : Board) (k k₁ : Book) : Type 0 where
@@ -34,3 +35,7 @@ writtenOn b i offset size value cycle =
 -- a write of channel ch's compare: of a timer without channels nothing
 unfoldable pub compareWritten : Timer → ℕ → ℕ → ℕ → Written
 compareWritten t ch v cycle = cond (eqb (t .inst .channels) 0) (R.only t) (R.ccrWritten t ch v cycle)
+
+-- an answer without a value, of a number: the number plus 2^32 times the count
+abbrev pub answerOf : ℕ → Answer
+answerOf k = record { value = 0; number = k % 4294967296; count = k / 4294967296 }

@@ -22,7 +22,7 @@ ghost use Rattle.machine.specs.Step.{step, register, present, counterAstray, fo
 ghost use Rattle.answer.specs.Promise.{Answers};
 ghost use Rattle.mmio.specs.Leaves.{Leaves};
 ghost use Rattle.regfile.specs.Plain.{plain, lines, plainly};
-ghost use Rattle.write.specs.Writes.{Driven, writtenBy, writtenOn, compareWritten};
+ghost use Rattle.write.specs.Writes.{Driven, writtenBy, writtenOn, compareWritten, answerOf};
 
 // The register's present value, 0 for EGR.
 fn present(words: &[u64; WORDS], i: usize, off: u32, cycle: u64) -> u32
