@@ -39,8 +39,8 @@ pub fn count_of(words: &[u64; WORDS], i: usize, cycle: u64) -> u32
     t.cnt_at(cycle)
 }
 
-// The lane of timer i's register at the offset. Several calls share it, so that it stays a function of its own: a read of the
-// counter, which does without it, is then short.
+// The lane of timer i's register at the offset. It has several callers, so it is not compiled into them: a read of the counter,
+// which goes without it, stays short.
 pub fn lane_of(words: &[u64; WORDS], i: usize, offset: u32, size: u32, cycle: u64) -> u32
     requires { ⌜ (i < 8) × (size ≤ 4) × (cycle < 9223372036854775808) ⌝ }
     ensures { λ r. ⌜ ((x : List Float) → r ≡ laneRead (R.regRead (timerAt (view (now (words .entry)) x) i) (register offset) cycle) offset size) ⌝ }
@@ -49,7 +49,7 @@ pub fn lane_of(words: &[u64; WORDS], i: usize, offset: u32, size: u32, cycle: u6
     periph::lane_read(reg, offset, size as u8)
 }
 
-// A read of 4 bytes, by far the most: the counter's needs no lane.
+// A read of 4 bytes, the most common one. The counter is read directly.
 fn read_whole(words: &[u64; WORDS], timer: u32, offset: u32, cycle: u64) -> Answer
     ensures { λ r. ⌜ ((x : List Float) → Answers (step (view (now (words .entry)) x) (Call.read timer offset 4 cycle)) r (now (words .entry)) (now (words .entry)) x x) ⌝ }
 {
