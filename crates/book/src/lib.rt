@@ -3,7 +3,7 @@ use gpio::Change;
 ghost use mathlib.Core.Path.{_≡_};
 ghost use Prim.Native.Nat.{_+_, _≤_, _<_};
 ghost use lib.ListN.{length};
-ghost use Rattle.book.specs.Book.{book, puts, entryOf, entriesOf, places};
+ghost use Rattle.book.specs.Book.{book, puts, entryOf, places};
 
 // The level changes of a timer's four channels.
 pub struct Changes {
@@ -50,27 +50,4 @@ pub fn append(
             writer::append(cycles, n, cycle)
         }
     }
-}
-
-// Writes the changes of four channels, in order; the next place.
-pub fn append_all(
-    pins: &mut [u8],
-    levels: &mut [u8],
-    cycles: &mut [u64],
-    n: usize,
-    changes: Changes,
-    cycle: u64,
-) -> usize
-    requires { ⌜ (n + 4 ≤ length (now pins)) × (n + 4 ≤ length (now levels)) × (n + 4 ≤ length (now cycles)) ⌝ }
-    ensures { λ r. ⌜ book (now (pins .exit)) (now (levels .exit)) (now (cycles .exit)) r ≡ puts (book (now (pins .entry)) (now (levels .entry)) (now (cycles .entry)) n) (entriesOf cycle changes) ⌝ }
-    ensures { λ r. ⌜ r ≤ n + 4 ⌝ }
-{
-    let a = changes.a;
-    let b = changes.b;
-    let c = changes.c;
-    let d = changes.d;
-    let i = append(pins, levels, cycles, n, a, cycle);
-    let j = append(pins, levels, cycles, i, b, cycle);
-    let k = append(pins, levels, cycles, j, c, cycle);
-    append(pins, levels, cycles, k, d, cycle)
 }
