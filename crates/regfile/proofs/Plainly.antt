@@ -1,10 +1,11 @@
 -- Each of the registers that a write stores and no more, by its offset. Assumes nothing.
-use mathlib.Core.Path.{_≡_, ap, _∙_}
+use mathlib.Core.Path.{_≡_, ap, sym, _∙_}
+use mathlib.Core.Bool.{Bool, true, false, _||_}
 use Prim.Native.Nat.{ℕ, _<_}
 use native.Mathlib.Nat.{lt-of-le-of-lt}
-use borrow.Author.Tests.{eq-eqb, ne-eqb}
+use borrow.Author.Tests.{eq-eqb, ne-eqb, eqb-true}
 use lib.Bits.{bitAnd, bitOr, and-le-r}
-use lib.Dec.{lit<}
+use lib.Dec.{eqb, lit<}
 use Rattle.rm0440.specs.Registers.{keptMask, mask, bits}
 use Rattle.tim.specs.declared.Timer.{Timer}
 use Rattle.tim.specs.Timer.{withRegs}
@@ -12,7 +13,7 @@ use Rattle.regs.specs.Regs.{withPsc}
 use Rattle.machine.specs.Board.{Board}
 use Rattle.state.specs.Board.{timerAt, withTimer}
 use Rattle.fields.specs.Field.{withReg}
-use Rattle.regfile.specs.Plain.{plainRegs}
+use Rattle.regfile.specs.Plain.{plain, lines, plainRegs}
 
 pub psc-lt : (v m : ℕ) → m ≡ keptMask 10 → bitAnd v m < 65536
 unfolding mask bits
@@ -50,3 +51,21 @@ module _ (b b₁ : Board) (i off v : ℕ) where
         unfolding plainRegs
         psc e₄ m k q =
             rw (ne-eqb _ _ e₁, ne-eqb _ _ e₂, ne-eqb _ _ e₃, ne-eqb _ _ e₄) (q ∙ ap (λ (y : ℕ). withTimer b i (withPsc t (bitAnd v y))) k)
+
+-- a register of the line that is not DIER is SR
+pub not-dier : (off : ℕ) → lines off ≡ true → (off ≡ 0x0c → ⊥) → off ≡ 0x10
+not-dier off h n = eqb-true off 0x10 (ap (λ (b : Bool). b || eqb off 0x10) (sym (ne-eqb off 0x0c n)) ∙ h)
+
+or-left : (a b : Bool) → (a || (b || false)) ≡ true → (a || b) ≡ true
+or-left true b h = h
+or-left false true h = h
+or-left false false h = h
+
+-- the two that are left of the five are the line's
+pub line-left : (off : ℕ) → plain off ≡ true → (off ≡ 0x04 → ⊥) → (off ≡ 0x08 → ⊥) → (off ≡ 0x28 → ⊥) → lines off ≡ true
+line-left off h n₁ n₂ n₃ =
+    or-left (eqb off 0x0c) (eqb off 0x10)
+    (ap (λ (b : Bool). eqb off 0x0c || (eqb off 0x10 || b)) (sym (ne-eqb off 0x28 n₃))
+    ∙ ap (λ (b : Bool). b || (eqb off 0x0c || (eqb off 0x10 || eqb off 0x28))) (sym (ne-eqb off 0x08 n₂))
+    ∙ ap (λ (b : Bool). b || (eqb off 0x08 || (eqb off 0x0c || (eqb off 0x10 || eqb off 0x28)))) (sym (ne-eqb off 0x04 n₁))
+    ∙ h)

@@ -15,12 +15,26 @@ ghost use Rattle.regs.specs.Regs as R;
 ghost use Rattle.state.specs.View.{view};
 ghost use Rattle.state.specs.Board.{timerAt, withTimer};
 ghost use Rattle.machine.specs.Deliver.{dividerOf};
-ghost use Rattle.regfile.specs.Plain.{plain, plainRegs};
+ghost use Rattle.regfile.specs.Plain.{plain, lines, plainRegs};
 ghost use Rattle.regfile.specs.Behind.{behindOf};
 ghost use Rattle.regfile.specs.Steady.{steady};
 
-// ---- registers that a write stores and no more: CR2, SMCR, DIER, SR, PSC
+// ---- registers that a write stores and no more
 
+// DIER or SR: the interrupt line follows them.
+pub fn write_flags(words: &mut [u64; WORDS], i: usize, off: u32, v: u32)
+    requires { ⌜ (i < 8) × (lines off ≡ true) ⌝ }
+    ensures { λ _. ⌜ ((x : List Float) → view (now (words .exit)) x ≡ withTimer (view (now (words .entry)) x) i (withRegs (timerAt (view (now (words .entry)) x) i) (plainRegs ((timerAt (view (now (words .entry)) x) i) .regs) off v))) ⌝ }
+{
+    if off == 0x0c {
+        fields::set_reg(words, i, 3, v & regs::kept(3));
+        return;
+    }
+    let t = state::load_timer(words, i);
+    fields::set_reg(words, i, 4, t.regs.sr & (v | Timer::SR_STAYS));
+}
+
+// One of CR2, SMCR, DIER, SR, PSC.
 pub fn write_plain(words: &mut [u64; WORDS], i: usize, off: u32, v: u32)
     requires { ⌜ (i < 8) × (plain off ≡ true) ⌝ }
     ensures { λ _. ⌜ ((x : List Float) → view (now (words .exit)) x ≡ withTimer (view (now (words .entry)) x) i (withRegs (timerAt (view (now (words .entry)) x) i) (plainRegs ((timerAt (view (now (words .entry)) x) i) .regs) off v))) ⌝ }
@@ -33,16 +47,11 @@ pub fn write_plain(words: &mut [u64; WORDS], i: usize, off: u32, v: u32)
         fields::set_reg(words, i, 2, v);
         return;
     }
-    if off == 0x0c {
-        fields::set_reg(words, i, 3, v & regs::kept(3));
+    if off == 0x28 {
+        fields::set_psc(words, i, v & regs::kept(10));
         return;
     }
-    if off == 0x10 {
-        let t = state::load_timer(words, i);
-        fields::set_reg(words, i, 4, t.regs.sr & (v | Timer::SR_STAYS));
-        return;
-    }
-    fields::set_psc(words, i, v & regs::kept(10));
+    write_flags(words, i, off, v);
 }
 
 // ---- compares

@@ -394,7 +394,7 @@ fn write_flags(words: &mut [u64; WORDS], i: usize, off: u32, v: u32, cycle: u64)
     requires { ⌜ (i < 8) × (lines off ≡ true) ⌝ }
     ensures { λ _. ⌜ ((x : List Float) → view (now (words .exit)) x ≡ followed (view (now (words .entry)) x) i cycle (plainly (timerAt (view (now (words .entry)) x) i) off v) .board) ⌝ }
 {
-    regfile::write_plain(words, i, off, v);
+    regfile::write_flags(words, i, off, v);
     rcc::settle_line_at(words, i);
     state::set_last(words, cycle);
 }

@@ -1,6 +1,7 @@
 -- By the offset.
 use Rattle.state.specs.View.{view}
 use Rattle.regfile.proofs.Plainly as P
+use native.Mathlib.Omega.{arith}
 use borrow.Author.Needs.{needs}
 use Rattle.regfile.proofs.write_plain.Statement.{statement}
 use Rattle.regfile.proofs.write_plain.Tie as tie
@@ -22,33 +23,20 @@ returns-2 c =
 kept-requires : tie.Need-kept-requires
 kept-requires c κs = search needs
 
-set-reg-requires-3 : tie.Need-set-reg-requires-3
-set-reg-requires-3 c κs = search needs
+set-psc-requires : tie.Need-set-psc-requires
+set-psc-requires c κs =
+    (c .before .before .before .before .before .pre .0, P.psc-lt (c .before .before .before .before .before .args .v) _ (c .kept .ensures))
 
 returns-3 : tie.Need-returns-3
 returns-3 c =
-    let s = c .before .before .before .before .before .before in λ x. P.dier (view (s .args .words .now) x) _ (s .args .i) (s .args .off) (s .args .v) (c .before .before .before .before .before .if1 .left) (c .before .before .before .before .if2 .left) (c .before .before .before .if3 .taken) _ (c .before .kept .ensures) (c .set-reg3 .ensures x)
+    let s = c .before .before .before .before .before .before in λ x. P.psc (view (s .args .words .now) x) _ (s .args .i) (s .args .off) (s .args .v) (c .before .before .before .before .before .if1 .left) (c .before .before .before .before .if2 .left) (λ e. omega (arith, e, c .before .before .before .if3 .taken)) (λ e. omega (arith, e, c .before .before .before .if3 .taken)) _ (c .before .kept .ensures) (c .set-psc .ensures x)
 
-load-timer-requires : tie.Need-load-timer-requires
-load-timer-requires c κs = search needs
-
-set-reg-requires-4 : tie.Need-set-reg-requires-4
-set-reg-requires-4 c κs = search needs
+write-flags-requires : tie.Need-write-flags-requires
+write-flags-requires c κs =
+    let s = c .before .before .before .before in (s .pre .0, P.line-left (s .args .off) (s .pre .1) (c .before .before .before .if1 .left) (c .before .before .if2 .left) (c .before .if3 .left))
 
 returns-4 : tie.Need-returns-4
-returns-4 c =
-    let s = c .before .before .before .before .before .before .before .before .before in λ x. P.sr (view (s .args .words .now) x) _ (s .args .i) (s .args .off) (s .args .v) (c .before .before .before .before .before .before .before .before .if1 .left) (c .before .before .before .before .before .before .before .if2 .left) (c .before .before .before .before .before .before .if3 .left) (c .before .before .before .before .before .if4 .taken) _ (c .before .before .before .load-timer .ensures x) (c .set-reg4 .ensures x)
-
-kept-requires-2 : tie.Need-kept-requires-2
-kept-requires-2 c κs = search needs
-
-set-psc-requires : tie.Need-set-psc-requires
-set-psc-requires c κs =
-    (c .before .before .before .before .before .before .pre .0, P.psc-lt (c .before .before .before .before .before .before .args .v) _ (c .kept2 .ensures))
-
-returns-5 : tie.Need-returns-5
-returns-5 c =
-    let s = c .before .before .before .before .before .before .before in λ x. P.psc (view (s .args .words .now) x) _ (s .args .i) (s .args .off) (s .args .v) (c .before .before .before .before .before .before .if1 .left) (c .before .before .before .before .before .if2 .left) (c .before .before .before .before .if3 .left) (c .before .before .before .if4 .left) _ (c .before .kept2 .ensures) (c .set-psc .ensures x)
+returns-4 c = c .write-flags .ensures
 
 pub write-plain-spec : {M : Type 1} → statement M
 write-plain-spec =
@@ -59,11 +47,7 @@ write-plain-spec =
     set-reg-requires-2
     returns-2
     kept-requires
-    set-reg-requires-3
-    returns-3
-    load-timer-requires
-    set-reg-requires-4
-    returns-4
-    kept-requires-2
     set-psc-requires
-    returns-5)
+    returns-3
+    write-flags-requires
+    returns-4)
