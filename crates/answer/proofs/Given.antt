@@ -138,3 +138,29 @@ pub timer-passed : (b : Board) (index count size cycle : ℕ)
     → 0 ≡ first (noSuchIndex index count ∷ badSize size ∷ clockAstray b cycle ∷ []) → Passed index count size cycle 0 0
 unfolding first
 timer-passed b index count size cycle h = passed b index count size cycle 0 0 h
+
+-- ---- a timer's call with a book: the first three tests, then the book's
+module _ (b : Board) (index count size cycle places n : ℕ)
+    (h : n ≡ first (noSuchIndex index count ∷ badSize size ∷ clockAstray b cycle ∷ [])) where
+  abbrev four : ℕ
+  four = first (noSuchIndex index count ∷ badSize size ∷ clockAstray b cycle ∷ bookFull 4 places ∷ [])
+
+  pub refused-before : (n ≡ 0 → ⊥) → n ≡ four
+  unfolding first
+  refused-before z = go (leb count index) (oddSize size) (ltb 4611686018427387904 cycle || ltb cycle (b .counts .last)) h
+    where
+      go : (t u v : Bool) → n ≡ cond t 2 (cond u 3 (cond v 5 0)) → n ≡ cond t 2 (cond u 3 (cond v 5 (cond (ltb places 4) 6 0)))
+      go true u v e = e
+      go false true v e = e
+      go false false true e = e
+      go false false false e = absurd (z e)
+
+  pub left-to-book : n ≡ 0 → _≡_ {A = ℕ} (cond (ltb places 4) 6 0) four
+  unfolding first
+  left-to-book z = go (leb count index) (oddSize size) (ltb 4611686018427387904 cycle || ltb cycle (b .counts .last)) (sym z ∙ h)
+    where
+      go : (t u v : Bool) → _≡_ {A = ℕ} 0 (cond t 2 (cond u 3 (cond v 5 0))) → _≡_ {A = ℕ} (cond (ltb places 4) 6 0) (cond t 2 (cond u 3 (cond v 5 (cond (ltb places 4) 6 0))))
+      go true u v e = absurd (omega (arith, e))
+      go false true v e = absurd (omega (arith, e))
+      go false false true e = absurd (omega (arith, e))
+      go false false false e = refl

@@ -4,6 +4,7 @@ ghost use mathlib.Core.Path.{_≡_};
 ghost use mathlib.Core.List.{List, [], _∷_};
 ghost use lib.Ieee.{Float};
 ghost use Rattle.state.specs.View.{view};
+ghost use Rattle.book.specs.Book.{places};
 ghost use Rattle.machine.specs.Step.{astray, oddSize};
 ghost use Rattle.machine.specs.Refusals.{first, noSuchIndex, badSize, clockAstray, bookFull};
 ghost use Rattle.answer.specs.Promise.{answer};
@@ -102,6 +103,29 @@ pub fn timer_refusal(words: &[u64; WORDS], index: u32, size: u32, cycle: u64) ->
     }
     if is_astray(words, cycle) {
         return 5;
+    }
+    0
+}
+
+// The first of the numbers 2, 3, 5, 6 that applies to a timer's call with a book, 0 if none does. A call without a size passes 4.
+pub fn book_refusal(
+    words: &[u64; WORDS],
+    index: u32,
+    size: u32,
+    cycle: u64,
+    pins: &[u8],
+    levels: &[u8],
+    cycles: &[u64],
+) -> u8
+    ensures { λ r. ⌜ ((x : List Float) → r ≡ first (noSuchIndex index ((view (now (words .entry)) x) .counts .timers) ∷ badSize size ∷ clockAstray (view (now (words .entry)) x) cycle ∷ bookFull 4 (places (now (pins .entry)) (now (levels .entry)) (now (cycles .entry))) ∷ [])) ⌝ }
+{
+    let no = timer_refusal(words, index, size, cycle);
+    if no != 0 {
+        return no;
+    }
+    let room = book::room(pins, levels, cycles);
+    if room < 4 {
+        return 6;
     }
     0
 }

@@ -5,7 +5,6 @@ use Prim.Native.Nat.{ℕ, _+_, min}
 use lib.ListN.{set, length, drop}
 use Rattle.gpio.specs.declared.Change.{Change}
 use Rattle.gpio.specs.declared.Change.the-variants.{Same, Level}
-use Rattle.book.specs.declared.Changes.{Changes}
 
 -- an entry: a pin's new level, and the cycle of the change
 pub record Entry : Type 0 where
@@ -45,7 +44,14 @@ unfoldable pub entryOf : ℕ → Change → List Entry
 entryOf cycle Same = []
 entryOf cycle (Level p l) = record { pin = p; level = l; cycle = cycle } ∷ []
 
--- the entries of a timer's four channels, in order
+-- the level changes of a timer's four channels
+pub record Changes : Type 0 where
+  pub a : Change
+  pub b : Change
+  pub c : Change
+  pub d : Change
+
+-- their entries, in order
 unfoldable pub entriesOf : ℕ → Changes → List Entry
 entriesOf cycle c = entryOf cycle (c .a) ++ (entryOf cycle (c .b) ++ (entryOf cycle (c .c) ++ entryOf cycle (c .d)))
 

@@ -8,8 +8,7 @@ use native.Mathlib.Omega.{arith}
 use lib.ListN.{length, length-map, drop}
 use lib.Seq.{sets, sets-eq}
 use Rattle.gpio.specs.declared.Change.{Change}
-use Rattle.book.specs.declared.Changes.{Changes}
-use Rattle.book.specs.Book.{Entry, Book, book, put, puts, entryOf, entriesOf, over, Holds}
+use Rattle.book.specs.Book.{Changes, Entry, Book, book, put, puts, entryOf, entriesOf, over, Holds}
 
 pub puts-append : (b : Book) (xs ys : List Entry) → puts b (xs ++ ys) ≡ puts (puts b xs) ys
 unfolding puts

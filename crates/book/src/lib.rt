@@ -5,14 +5,6 @@ ghost use Prim.Native.Nat.{_+_, _≤_, _<_};
 ghost use lib.ListN.{length};
 ghost use Rattle.book.specs.Book.{book, puts, entryOf, places};
 
-// The level changes of a timer's four channels.
-pub struct Changes {
-    pub a: Change,
-    pub b: Change,
-    pub c: Change,
-    pub d: Change,
-}
-
 fn lesser(a: usize, b: usize) -> usize
     ensures { λ r. ⌜ r ≡ Prim.Native.Nat.min a b ⌝ }
 {

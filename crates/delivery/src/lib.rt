@@ -21,7 +21,7 @@ ghost use Rattle.state.specs.Board.{withInst};
 ghost use Rattle.machine.specs.Board.{timerAt, withTimer};
 ghost use Rattle.machine.specs.Sys.{driveOutputs};
 ghost use Rattle.machine.specs.Deliver.{applied, countAt, run, mostEvents, delivered};
-ghost use Rattle.outputs.specs.Outputs.{Driven, levelDriven, DrivenOne, DrivenTwo};
+ghost use Rattle.outputs.specs.Outputs.{Driven};
 ghost use Rattle.delivery.specs.Delivery.{OfFour, verdictOf, Ends, Delivers};
 
 // What a delivery answers: 0 or 8, the events handled, and the entries made.
@@ -113,76 +113,6 @@ fn count_at(t: Timer, e: Next) -> u32
     }
 }
 
-// Drives channel ch's signal s to a level, and writes the change at place k; the next place.
-fn drive_one(
-    words: &mut [u64; WORDS],
-    reals: &mut [f64; REALS],
-    pins: &mut [u8],
-    levels: &mut [u8],
-    cycles: &mut [u64],
-    k: usize,
-    channels: u32,
-    ch: u32,
-    s: usize,
-    level: bool,
-    at: u64,
-) -> usize
-    requires { ⌜ (s < 256) × (k < length (now pins)) × (k < length (now levels)) × (k < length (now cycles)) ⌝ }
-    ensures { λ r. ⌜ DrivenOne (levelDriven channels ch s level (view (now (words .entry)) (now (reals .entry)) .pads)) at (view (now (words .entry)) (now (reals .entry))) (view (now (words .exit)) (now (reals .exit))) (book (now (pins .entry)) (now (levels .entry)) (now (cycles .entry)) k) (book (now (pins .exit)) (now (levels .exit)) (now (cycles .exit)) r) ⌝ }
-    ensures { λ r. ⌜ r ≤ k + 1 ⌝ }
-{
-    let c = outputs::drive_channel(words, reals, channels, ch, s, level);
-    book::append(pins, levels, cycles, k, gpio::change_of(c), at)
-}
-
-// Drives two of a timer's channels, ch and the next, whose signals are s and s + 1.
-fn drive_two(
-    words: &mut [u64; WORDS],
-    reals: &mut [f64; REALS],
-    pins: &mut [u8],
-    levels: &mut [u8],
-    cycles: &mut [u64],
-    k: usize,
-    channels: u32,
-    ch: u32,
-    s: usize,
-    l: bool,
-    l1: bool,
-    at: u64,
-) -> usize
-    requires { ⌜ (s < 255) × (ch < 4) ⌝ }
-    requires { ⌜ (k + 2 ≤ length (now pins)) × (k + 2 ≤ length (now levels)) × (k + 2 ≤ length (now cycles)) ⌝ }
-    ensures { λ r. ⌜ DrivenTwo channels ch s l l1 at (view (now (words .entry)) (now (reals .entry))) (view (now (words .exit)) (now (reals .exit))) (book (now (pins .entry)) (now (levels .entry)) (now (cycles .entry)) k) (book (now (pins .exit)) (now (levels .exit)) (now (cycles .exit)) r) ⌝ }
-    ensures { λ r. ⌜ r ≤ k + 2 ⌝ }
-{
-    let a = drive_one(
-        words,
-        reals,
-        pins,
-        levels,
-        cycles,
-        k,
-        channels,
-        ch,
-        s,
-        l,
-        at,
-    );
-    drive_one(
-        words,
-        reals,
-        pins,
-        levels,
-        cycles,
-        a,
-        channels,
-        ch + 1,
-        s + 1,
-        l1,
-        at,
-    )
-}
-
 // Drives the four channels of a timer that drives, at a count.
 fn drive_four(
     words: &mut [u64; WORDS],
@@ -206,8 +136,8 @@ fn drive_four(
     let l1 = t.output(1, cnt);
     let l2 = t.output(2, cnt);
     let l3 = t.output(3, cnt);
-    let m = drive_two(words, reals, pins, levels, cycles, k, x, 0, s, l, l1, at);
-    drive_two(
+    let m = outputs::drive_two(words, reals, pins, levels, cycles, k, x, 0, s, l, l1, at);
+    outputs::drive_two(
         words,
         reals,
         pins,

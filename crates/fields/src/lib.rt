@@ -117,6 +117,14 @@ pub fn inst(words: &[u64; WORDS], i: usize) -> Inst
     }
 }
 
+// The number of timer i's enable word.
+pub fn en_reg(words: &[u64; WORDS], i: usize) -> usize
+    requires { ⌜ i < 8 ⌝ }
+    ensures { λ r. ⌜ ((x : List Float) → r ≡ timerAt (view (now (words .entry)) x) i .inst .«en_reg») ⌝ }
+{
+    (words[i * TIMER_WORDS + 5] % 4294967296) as usize
+}
+
 // ---- what starts and stops a timer
 
 // Which compares are done.

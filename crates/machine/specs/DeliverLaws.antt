@@ -15,8 +15,7 @@ use Rattle.tim.specs.declared.Due.the-variants.{At, Stopped}
 use Rattle.tim.specs.Next.{nextEvent}
 use Rattle.gpio.specs.declared.Change.{Change}
 use Rattle.gpio.specs.declared.Change.the-variants.{Same, Level}
-use Rattle.book.specs.declared.Changes.{Changes}
-use Rattle.book.specs.Book.{Entry, entryOf, entriesOf}
+use Rattle.book.specs.Book.{Changes, Entry, entryOf, entriesOf}
 use Rattle.machine.specs.Board.{Pads}
 use Rattle.machine.specs.Deliver.{Turn, turn, turnOf, Run, run, stop, after, dueBy}
 

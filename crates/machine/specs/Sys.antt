@@ -13,7 +13,7 @@ use Rattle.pins.specs.declared.ExtDrive.{ExtDrive}
 use Rattle.gpio.specs.declared.Change.{Change}
 use Rattle.gpio.specs.declared.Change.the-variants.{Same}
 use Rattle.gpio.specs.Gpio.{signalOf, updated, refreshed, configured, connected, bit, alternateMode}
-use Rattle.book.specs.declared.Changes.{Changes}
+use Rattle.book.specs.Book.{Changes}
 use Rattle.machine.specs.Board.{Pads, gpioAt, routeOf, levelOf, functionOf, withGpio, withRoute, withSigLevel, noPin, plainCfg, idleLevels}
 
 -- the pads after a pin was resolved, and its level change

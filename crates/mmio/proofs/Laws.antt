@@ -37,20 +37,15 @@ use Rattle.answer.specs.Promise.{answer, Answers}
 use Rattle.answer.proofs.Given.{Passed, passed, timer-passed, away, gives, turns-away, turns-away-book, serves, serves-book}
 use Rattle.mmio.specs.Leaves.{Leaves}
 
--- the numbers that `refusal` looks at, with the count of timers
-abbrev pub asked : ℕ → ℕ → ℕ → Board → ℕ → ℕ → ℕ → ℕ
-asked timer n size b cycle need room = first (noSuchIndex timer n ∷ badSize size ∷ clockAstray b cycle ∷ bookFull need room ∷ [])
-
-pub asked-count : (timer n size : ℕ) (b : Board) (cycle need room num : ℕ) → n ≡ b .counts .timers → num ≡ asked timer n size b cycle need room
-    → num ≡ asked timer (b .counts .timers) size b cycle need room
-asked-count timer n size b cycle need room num e h = h ∙ ap (λ (k : ℕ). asked timer k size b cycle need room) e
+-- the numbers that `book_refusal` looks at
+abbrev pub asked : ℕ → ℕ → Board → ℕ → ℕ → ℕ
+asked timer size b cycle room = first (noSuchIndex timer (b .counts .timers) ∷ badSize size ∷ clockAstray b cycle ∷ bookFull 4 room ∷ [])
 
 -- what holds of an admitted call: its timer is one of eight, and so on
-pub admitted : (w : List ℕ) (x : List Float) (timer n size cycle need room num : ℕ) → n ≡ view w x .counts .timers
-    → num ≡ asked timer n size (view w x) cycle need room → num ≡ 0 → Passed timer 8 size cycle need room
-admitted w x timer n size cycle need room num e h z =
-    let p = passed (view w x) timer n size cycle need room (sym z ∙ h) in
-    record { index-lt = omega (arith, p .index-lt, e, bounded w x .timers-le); size-le = p .size-le; cycle-le = p .cycle-le; places-le = p .places-le }
+pub admitted : (w : List ℕ) (x : List Float) (timer size cycle room num : ℕ) → num ≡ asked timer size (view w x) cycle room → num ≡ 0 → Passed timer 8 size cycle 4 room
+admitted w x timer size cycle room num h z =
+    let p = passed (view w x) timer (view w x .counts .timers) size cycle 4 room (sym z ∙ h) in
+    record { index-lt = omega (arith, p .index-lt, bounded w x .timers-le); size-le = p .size-le; cycle-le = p .cycle-le; places-le = p .places-le }
 
 -- a timer's place
 pub of-eight : (w : List ℕ) (x : List Float) (i : ℕ) → i < 8 → i < length (view w x .timers)
@@ -60,11 +55,11 @@ pub loaded-fit : (w : List ℕ) (x : List Float) (i : ℕ) (t : Timer) → t ≡
 loaded-fit w x i t load = rw load (bounded w x .timer-fit i)
 
 -- a book of so many places: each slice has them
-pub fits : (p l c : List ℕ) (room : ℕ) → room ≡ places p l c → 4 ≤ room → (4 ≤ length p) × (4 ≤ length l) × (4 ≤ length c)
-fits p l c room e h = (omega arith, omega arith, omega arith)
+pub fits : (p l c : List ℕ) → 4 ≤ places p l c → (4 ≤ length p) × (4 ≤ length l) × (4 ≤ length c)
+fits p l c h = (omega arith, omega arith, omega arith)
 
-pub within : (p l c : List ℕ) (room k : ℕ) → room ≡ places p l c → 4 ≤ room → k ≤ 4 → (k ≤ length p) × (k ≤ length l) × (k ≤ length c)
-within p l c room k e h j = (omega arith, omega arith, omega arith)
+pub within : (p l c : List ℕ) (k : ℕ) → 4 ≤ places p l c → k ≤ 4 → (k ≤ length p) × (k ≤ length l) × (k ≤ length c)
+within p l c k h j = (omega arith, omega arith, omega arith)
 
 -- ---- reads
 
@@ -146,11 +141,10 @@ resets b b₁ b₂ b₃ b₄ b₅ i cycle div t s k k₁ load steps new l e₁ d
     }
 
 -- ---- reset
-module _ (w : List ℕ) (x : List Float) (timer cycle room n num : ℕ) (e : n ≡ view w x .counts .timers)
-    (h : num ≡ asked timer n 4 (view w x) cycle 4 room) where
+module _ (w : List ℕ) (x : List Float) (timer cycle room num : ℕ) (h : num ≡ asked timer 4 (view w x) cycle room) where
   reset-first : num ≡ first (refusals (view w x) (resetTimer timer cycle room))
   unfolding first refusals
-  reset-first = asked-count timer n 4 (view w x) cycle 4 room num e h
+  reset-first = h
 
   pub reset-away : (num ≡ 0 → ⊥) → (r : Answer) → r ≡ answer num 0 0 → Answers (step (view w x) (resetTimer timer cycle room)) r w w x x
   reset-away z r a = turns-away w x (resetTimer timer cycle room) num r reset-first z a
@@ -169,11 +163,10 @@ module _ (w : List ℕ) (x : List Float) (timer cycle room n num : ℕ) (e : n �
       )
 
 -- ---- events
-module _ (w : List ℕ) (x : List Float) (timer cycle room n num : ℕ) (e : n ≡ view w x .counts .timers)
-    (h : num ≡ asked timer n 4 (view w x) cycle 4 room) where
+module _ (w : List ℕ) (x : List Float) (timer cycle room num : ℕ) (h : num ≡ asked timer 4 (view w x) cycle room) where
   deliver-first : num ≡ first (refusals (view w x) (deliver timer cycle room))
   unfolding first refusals
-  deliver-first = asked-count timer n 4 (view w x) cycle 4 room num e h
+  deliver-first = h
 
   pub deliver-away : (num ≡ 0 → ⊥) → (r : Answer) → r ≡ answer num 0 0 → Answers (step (view w x) (deliver timer cycle room)) r w w x x
   deliver-away z r a = turns-away w x (deliver timer cycle room) num r deliver-first z a

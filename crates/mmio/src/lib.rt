@@ -158,9 +158,7 @@ pub fn reset(
     ensures { λ r. ⌜ Answers (step (view (now (words .entry)) (now (reals .entry))) (Call.resetTimer timer cycle (places (now (pins .entry)) (now (levels .entry)) (now (cycles .entry))))) r (now (words .entry)) (now (words .exit)) (now (reals .entry)) (now (reals .exit)) ⌝ }
     ensures { λ r. ⌜ Holds (step (view (now (words .entry)) (now (reals .entry))) (Call.resetTimer timer cycle (places (now (pins .entry)) (now (levels .entry)) (now (cycles .entry)))) .entries) (now (pins .entry)) (now (pins .exit)) (now (levels .entry)) (now (levels .exit)) (now (cycles .entry)) (now (cycles .exit)) (r .count) ⌝ }
 {
-    let room = book::room(pins, levels, cycles);
-    let n = state::timer_count(words);
-    let no = answer::refusal(words, timer, n, 4, cycle, 4, room);
+    let no = answer::book_refusal(words, timer, 4, cycle, pins, levels, cycles);
     if no != 0 {
         return answer::refused(no);
     }
@@ -187,9 +185,7 @@ pub fn deliver(
     ensures { λ r. ⌜ Answers (step (view (now (words .entry)) (now (reals .entry))) (Call.deliver timer cycle (places (now (pins .entry)) (now (levels .entry)) (now (cycles .entry))))) r (now (words .entry)) (now (words .exit)) (now (reals .entry)) (now (reals .exit)) ⌝ }
     ensures { λ r. ⌜ Holds (step (view (now (words .entry)) (now (reals .entry))) (Call.deliver timer cycle (places (now (pins .entry)) (now (levels .entry)) (now (cycles .entry)))) .entries) (now (pins .entry)) (now (pins .exit)) (now (levels .entry)) (now (levels .exit)) (now (cycles .entry)) (now (cycles .exit)) (r .count) ⌝ }
 {
-    let room = book::room(pins, levels, cycles);
-    let n = state::timer_count(words);
-    let no = answer::refusal(words, timer, n, 4, cycle, 4, room);
+    let no = answer::book_refusal(words, timer, 4, cycle, pins, levels, cycles);
     if no != 0 {
         return answer::refused(no);
     }

@@ -1,6 +1,6 @@
 -- What driving leaves, over any board: each step's equation in, the definition's board out. Assumes nothing.
 use mathlib.Core.Path.{_≡_, refl, ap, subst, _∙_}
-use mathlib.Core.Bool.{Bool, false}
+use mathlib.Core.Bool.{Bool, false, cond}
 use Prim.Native.Nat.{ℕ, _+_, _≤_, _<_}
 use native.Mathlib.Omega.{arith}
 use borrow.Author.Tests.{lt-ltb, le-ltb, lt-leb, le-leb}
@@ -9,14 +9,30 @@ use Rattle.tim.specs.Change.{output}
 use Rattle.sig.specs.Signal.{timSignal}
 use Rattle.gpio.specs.declared.Change.{Change}
 use Rattle.gpio.specs.Gpio.{changeOf, bit}
-use Rattle.book.specs.declared.Changes.{Changes}
-use Rattle.book.specs.Book.{Book, puts, entryOf, entriesOf}
+use Rattle.book.specs.Book.{Changes, Book, puts, entryOf, entriesOf}
 use Rattle.book.specs.Laws.{puts-four}
-use Rattle.machine.specs.Board.{Board, Pads, levelOf}
+use Rattle.machine.specs.Board.{Board, Pads, levelOf, withPads}
 use Rattle.machine.specs.Sys.{Move, Drive, sigOut, driver, driveChannel, noChanges, driveOutputs}
 use Rattle.sys.specs.Moves.{Moves}
 use Rattle.sys.proofs.Laws.{sig-same, then-moves}
-use Rattle.outputs.specs.Outputs.{Drives, Driven, levelDriven, fourDriven, levelsDriven, DrivenOne, DrivenTwo}
+use Rattle.outputs.specs.Outputs.{Driven, levelDriven, DrivenOne, DrivenTwo}
+
+-- a timer's four channels driven, their changes not yet written
+record Drives (d : Drive) (b b₁ : Board) (r : Changes) : Type 0 where
+  board : b₁ ≡ withPads b (d .pads)
+  changes : r ≡ d .changes
+
+-- the four channels of timer n, one after the other
+abbrev fourDriven : ℕ → ℕ → Bool → Bool → Bool → Bool → Pads → Drive
+fourDriven n channels l l₁ l₂ l₃ p =
+    let a = levelDriven channels 0 (timSignal n 0) l p in
+    let b = levelDriven channels 1 (timSignal n 1) l₁ (a .pads) in
+    let c = levelDriven channels 2 (timSignal n 2) l₂ (b .pads) in
+    let d = levelDriven channels 3 (timSignal n 3) l₃ (c .pads) in
+    record { pads = d .pads; changes = record { a = a .change; b = b .change; c = c .change; d = d .change } }
+
+unfoldable levelsDriven : ℕ → ℕ → Bool → Bool → Bool → Bool → Pads → Drive
+levelsDriven n channels l l₁ l₂ l₃ p = cond (driver n) (fourDriven n channels l l₁ l₂ l₃ p) (record { pads = p; changes = noChanges })
 
 pub channel-drives : (b b₁ : Board) (channels ch s k : ℕ) (l : Bool) (r : Change) → ch < channels → k ≡ bit l
     → Moves (sigOut (b .pads) s k) b b₁ r → Moves (levelDriven channels ch s l (b .pads)) b b₁ r
@@ -34,11 +50,11 @@ unfolding changeOf
 channel-same b channels ch s k l h e q = channel-drives b b channels ch s k l _ h q (sig-same b s k e)
 
 -- a signal's number that a call gave
-pub at-signal : (b b₁ : Board) (channels ch s s₁ : ℕ) (l : Bool) (r : Change) → s ≡ s₁
+at-signal : (b b₁ : Board) (channels ch s s₁ : ℕ) (l : Bool) (r : Change) → s ≡ s₁
     → Moves (levelDriven channels ch s l (b .pads)) b b₁ r → Moves (levelDriven channels ch s₁ l (b .pads)) b b₁ r
 at-signal b b₁ channels ch s s₁ l r e m = subst (λ (n : ℕ). Moves (levelDriven channels ch n l (b .pads)) b b₁ r) e m
 
-pub four : (b b₁ b₂ b₃ b₄ : Board) (n k : ℕ) (l l₁ l₂ l₃ : Bool) (a₀ a₁ a₂ a₃ : Change)
+four : (b b₁ b₂ b₃ b₄ : Board) (n k : ℕ) (l l₁ l₂ l₃ : Bool) (a₀ a₁ a₂ a₃ : Change)
     → Moves (levelDriven k 0 (timSignal n 0) l (b .pads)) b b₁ a₀ → Moves (levelDriven k 1 (timSignal n 1) l₁ (b₁ .pads)) b₁ b₂ a₁
     → Moves (levelDriven k 2 (timSignal n 2) l₂ (b₂ .pads)) b₂ b₃ a₂ → Moves (levelDriven k 3 (timSignal n 3) l₃ (b₃ .pads)) b₃ b₄ a₃
     → Drives (fourDriven n k l l₁ l₂ l₃ (b .pads)) b b₄ (record { a = a₀; b = a₁; c = a₂; d = a₃ })
@@ -54,15 +70,10 @@ four b b₁ b₂ b₃ b₄ n k l l₁ l₂ l₃ a₀ a₁ a₂ a₃ m₀ m₁ m�
     let x₄ : Moves (f₃ p₃) b b₄ a₃ = then-moves b b₃ b₄ p₃ f₃ a₃ (x₃ .board) m₃ in
     record { board = x₄ .board; changes = rw (m₀ .change, x₂ .change, x₃ .change, x₄ .change) }
 
-pub levels-drive : (b b₁ : Board) (n k : ℕ) (l l₁ l₂ l₃ : Bool) (r : Changes) → 2 ≤ n → n ≤ 4
+levels-drive : (b b₁ : Board) (n k : ℕ) (l l₁ l₂ l₃ : Bool) (r : Changes) → 2 ≤ n → n ≤ 4
     → Drives (fourDriven n k l l₁ l₂ l₃ (b .pads)) b b₁ r → Drives (levelsDriven n k l l₁ l₂ l₃ (b .pads)) b b₁ r
 unfolding levelsDriven
 levels-drive b b₁ n k l l₁ l₂ l₃ r h j m = simp (le-leb 2 n h, le-leb n 4 j) m
-
-pub levels-still : (b : Board) (n k : ℕ) (l l₁ l₂ l₃ : Bool) (r : Changes) → driver n ≡ false → r ≡ noChanges
-    → Drives (levelsDriven n k l l₁ l₂ l₃ (b .pads)) b b r
-unfolding levelsDriven
-levels-still b n k l l₁ l₂ l₃ r h j = simp h (record { board = refl; changes = j })
 
 -- the levels that a timer's outputs have at a count
 same-outputs : (t : Timer) (cnt : ℕ) (p : Pads)
@@ -70,7 +81,7 @@ same-outputs : (t : Timer) (cnt : ℕ) (p : Pads)
 unfolding levelsDriven levelDriven driveOutputs driveChannel
 same-outputs t cnt p = refl
 
-pub outputs-driven : (b b₁ : Board) (t u : Timer) (cnt at : ℕ) (l l₁ l₂ l₃ : Bool) (k k₁ : Book) → t ≡ u
+outputs-driven : (b b₁ : Board) (t u : Timer) (cnt at : ℕ) (l l₁ l₂ l₃ : Bool) (k k₁ : Book) → t ≡ u
     → l ≡ output t 0 cnt → l₁ ≡ output t 1 cnt → l₂ ≡ output t 2 cnt → l₃ ≡ output t 3 cnt
     → Driven (levelsDriven (t .inst .n) (t .inst .channels) l l₁ l₂ l₃ (b .pads)) at b b₁ k k₁ → Driven (driveOutputs u cnt (b .pads)) at b b₁ k k₁
 outputs-driven b b₁ t u cnt at l l₁ l₂ l₃ k k₁ load e e₁ e₂ e₃ m =
@@ -83,7 +94,7 @@ outputs-driven b b₁ t u cnt at l l₁ l₂ l₃ k k₁ load e e₁ e₂ e₃ m
     subst (λ (d : Drive). Driven d at b b₁ k k₁) q m
 
 -- the changes put into a book
-pub drives-append : (d : Drive) (at : ℕ) (b b₁ : Board) (k k₁ : Book) (c : Changes) → Drives d b b₁ c → k₁ ≡ puts k (entriesOf at c) → Driven d at b b₁ k k₁
+drives-append : (d : Drive) (at : ℕ) (b b₁ : Board) (k k₁ : Book) (c : Changes) → Drives d b b₁ c → k₁ ≡ puts k (entriesOf at c) → Driven d at b b₁ k k₁
 drives-append d at b b₁ k k₁ c m w = record { board = m .board; entries = w ∙ ap (λ (x : Changes). puts k (entriesOf at x)) (m .changes) }
 
 pub below-two : (n : ℕ) → n < 2 → driver n ≡ false

@@ -41,8 +41,9 @@ pub fn drive_channel(
     sys::move_signal(words, reals, s, 0)
 }
 
-// Drives two of a timer's channels, ch and the next, whose signals are s and s + 1.
-fn drive_two(
+// Drives two of a timer's channels, ch and the next, whose signals are s and s + 1, and writes their level changes at a cycle from
+// place k on; the next place.
+pub fn drive_two(
     words: &mut [u64; WORDS],
     reals: &mut [f64; REALS],
     pins: &mut [u8],

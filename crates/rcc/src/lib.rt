@@ -21,16 +21,16 @@ pub fn clock_on(words: &[u64; WORDS], i: usize) -> bool
     requires { ⌜ i < 8 ⌝ }
     ensures { λ r. ⌜ ((x : List Float) → r ≡ clockOn (view (now (words .entry)) x) (timerAt (view (now (words .entry)) x) i)) ⌝ }
 {
-    let t = fields::inst(words, i);
-    let reg = t.en_reg;
-    let bit = t.en_bit;
+    let reg = fields::en_reg(words, i);
     if reg >= 9 {
         return false;
     }
+    let t = fields::inst(words, i);
+    let bit = t.en_bit;
     if bit >= 32 {
         return false;
     }
-    let e = state::enr(words, reg as usize);
+    let e = state::enr(words, reg);
     (e >> bit) % 2 == 1
 }
 

@@ -52,9 +52,13 @@ module _ (b b₁ : Board) (i off v : ℕ) where
         psc e₄ m k q =
             rw (ne-eqb _ _ e₁, ne-eqb _ _ e₂, ne-eqb _ _ e₃, ne-eqb _ _ e₄) (q ∙ ap (λ (y : ℕ). withTimer b i (withPsc t (bitAnd v y))) k)
 
--- a register of the line that is not DIER is SR
-pub not-dier : (off : ℕ) → lines off ≡ true → (off ≡ 0x0c → ⊥) → off ≡ 0x10
-not-dier off h n = eqb-true off 0x10 (ap (λ (b : Bool). b || eqb off 0x10) (sym (ne-eqb off 0x0c n)) ∙ h)
+-- a register of the line that is not SR is DIER
+pub not-sr : (off : ℕ) → lines off ≡ true → (off ≡ 0x10 → ⊥) → off ≡ 0x0c
+not-sr off h n = eqb-true off 0x0c (or-false (eqb off 0x0c) (ap (λ (b : Bool). eqb off 0x0c || b) (sym (ne-eqb off 0x10 n)) ∙ h))
+  where
+    or-false : (a : Bool) → (a || false) ≡ true → a ≡ true
+    or-false true e = e
+    or-false false e = e
 
 or-left : (a b : Bool) → (a || (b || false)) ≡ true → (a || b) ≡ true
 or-left true b h = h

@@ -26,12 +26,12 @@ pub fn write_flags(words: &mut [u64; WORDS], i: usize, off: u32, v: u32)
     requires { ⌜ (i < 8) × (lines off ≡ true) ⌝ }
     ensures { λ _. ⌜ ((x : List Float) → view (now (words .exit)) x ≡ withTimer (view (now (words .entry)) x) i (withRegs (timerAt (view (now (words .entry)) x) i) (plainRegs ((timerAt (view (now (words .entry)) x) i) .regs) off v))) ⌝ }
 {
-    if off == 0x0c {
-        fields::set_reg(words, i, 3, v & regs::kept(3));
+    if off == 0x10 {
+        let t = state::load_timer(words, i);
+        fields::set_reg(words, i, 4, t.regs.sr & (v | Timer::SR_STAYS));
         return;
     }
-    let t = state::load_timer(words, i);
-    fields::set_reg(words, i, 4, t.regs.sr & (v | Timer::SR_STAYS));
+    fields::set_reg(words, i, 3, v & regs::kept(3));
 }
 
 // One of CR2, SMCR, DIER, SR, PSC.

@@ -5,7 +5,7 @@ use mathlib.Core.List.{List, [], _∷_, map}
 use Prim.Native.Nat.{ℕ, zero, suc, _+_, _*_, _%_, _<_, _≤_, min}
 use native.Mathlib.Nat.{add-zero, add-assoc}
 use native.Mathlib.Omega.{arith}
-use borrow.Author.Tests.{lt-ltb, ltb-true, ltb-false, eq-eqb, ne-eqb, eqb-true, eqb-false}
+use borrow.Author.Tests.{lt-ltb, le-ltb, ltb-true, ltb-false, eq-eqb, ne-eqb, eqb-true, eqb-false}
 use lib.Dec.{ltb, eqb, lit≤}
 use lib.ListN.{length, getD, drop, List·getD-map}
 use lib.Seq.{getD-drop, getD-set-same}
@@ -179,13 +179,24 @@ module _ (w : List ℕ) (x : List Float) where
       word-at (getD (parts 0 sizes w) 8 []) (view w x .nvic .nirq) irq (lt-ltb _ _ h)
       ∙ ap lineOf (part-at 0 sizes 8 irq w (omega (arith, bounded w x .nirq-le)))
 
--- the test of a line, of the view's line count; and its word's place
-module _ (w : List ℕ) (count irq : ℕ) (r : Bool) (e : (x : List Float) → count ≡ view w x .nvic .nirq) (t : r ≡ ltb irq count) where
+-- the test of a line; and its word's place
+module _ (w : List ℕ) (irq : ℕ) (r : Bool) (e : (x : List Float) → r ≡ ltb irq (view w x .nvic .nirq)) where
   pub line-there : (x : List Float) → r ≡ true → irq < view w x .nvic .nirq
-  line-there x h = omega (arith, ltb-true irq count (sym t ∙ h), e x)
+  line-there x h = ltb-true irq (view w x .nvic .nirq) (sym (e x) ∙ h)
 
   pub line-absent : (x : List Float) → r ≡ false → view w x .nvic .nirq ≤ irq
-  line-absent x h = omega (arith, ltb-false irq count (sym t ∙ h), e x)
+  line-absent x h = ltb-false irq (view w x .nvic .nirq) (sym (e x) ∙ h)
 
   pub line-place : r ≡ true → 860 + irq < 5276
   line-place h = omega (arith, line-there [] h, bounded w [] .nirq-le)
+
+-- a number below a word's count, which the view takes as at most m: below both
+pub none-above : (i k m : ℕ) → m ≤ i → false ≡ ltb i (min k m)
+none-above i k m h = sym (le-ltb i (min k m) (omega (arith, h)))
+
+pub of-lesser : (i k m : ℕ) → i < m → ltb i k ≡ ltb i (min k m)
+of-lesser i k m h = go (ltb i k) refl
+  where
+    go : (b : Bool) → ltb i k ≡ b → ltb i k ≡ ltb i (min k m)
+    go true e = e ∙ sym (lt-ltb i (min k m) (omega (arith, h, ltb-true i k e)))
+    go false e = e ∙ sym (le-ltb i (min k m) (omega (arith, ltb-false i k e)))

@@ -4,7 +4,6 @@ ghost use mathlib.Core.List.{List, [], _∷_};
 ghost use Prim.Native.Nat.{ℕ, _+_, _*_, _%_, _<_, _≤_, min};
 ghost use lib.Dec.{ltb};
 ghost use lib.ListN.{length, drop};
-ghost use lib.Dec.{ltb};
 ghost use lib.Seq.{paste};
 ghost use lib.Ieee.{Float};
 ghost use Rattle.tim.specs.Timer.{Fit};
@@ -370,10 +369,14 @@ pub fn next_booked(words: &[u64; WORDS]) -> u64
 
 // ---- interrupt lines
 
-pub fn line_count(words: &[u64; WORDS]) -> u32
-    ensures { λ r. ⌜ ((x : List Float) → r ≡ (view (now (words .entry)) x) .nvic .nirq) ⌝ }
+// A line of that number.
+fn has_line(words: &[u64; WORDS], irq: usize) -> bool
+    ensures { λ r. ⌜ ((x : List Float) → r ≡ ltb irq ((view (now (words .entry)) x) .nvic .nirq)) ⌝ }
 {
-    lesser(words[LINE_COUNT], 256) as u32
+    if irq >= 256 {
+        return false;
+    }
+    (irq as u64) < words[LINE_COUNT]
 }
 
 // Drives line irq; without such a line nothing changes.
@@ -381,9 +384,9 @@ pub fn set_line(words: &mut [u64; WORDS], irq: u32, level: bool)
     ensures { λ _. ⌜ ((x : List Float) → view (now (words .exit)) x ≡ withNvic (view (now (words .entry)) x) (setLine ((view (now (words .entry)) x) .nvic) irq level)) ⌝ }
 {
     sized(words);
-    let count = line_count(words);
-    if nvic::has_line(count, irq) {
-        let at = LINES + irq as usize;
+    let n = irq as usize;
+    if has_line(words, n) {
+        let at = LINES + n;
         words[at] = nvic::driven(words[at], level);
     }
 }
@@ -393,9 +396,9 @@ pub fn clear_pending(words: &mut [u64; WORDS], irq: u32)
     ensures { λ _. ⌜ ((x : List Float) → view (now (words .exit)) x ≡ withNvic (view (now (words .entry)) x) (clearPending ((view (now (words .entry)) x) .nvic) irq)) ⌝ }
 {
     sized(words);
-    let count = line_count(words);
-    if nvic::has_line(count, irq) {
-        let at = LINES + irq as usize;
+    let n = irq as usize;
+    if has_line(words, n) {
+        let at = LINES + n;
         let was = nvic::line_of(words[at]);
         words[at] = nvic::word_of(was.clear_pending());
     }
@@ -405,9 +408,9 @@ pub fn clear_pending(words: &mut [u64; WORDS], irq: u32)
 pub fn line_state(words: &[u64; WORDS], irq: u32) -> u64
     ensures { λ r. ⌜ ((x : List Float) → r ≡ stateOf (lineAt ((view (now (words .entry)) x) .nvic) irq)) ⌝ }
 {
-    let count = line_count(words);
-    if nvic::has_line(count, irq) {
-        return nvic::line_of(words[LINES + irq as usize]).state();
+    let n = irq as usize;
+    if has_line(words, n) {
+        return nvic::line_of(words[LINES + n]).state();
     }
     0
 }

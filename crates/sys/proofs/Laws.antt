@@ -21,11 +21,10 @@ use Rattle.gpio.specs.declared.Change.the-variants.{Same}
 use Rattle.gpio.specs.declared.Moved.{Moved}
 use Rattle.gpio.specs.Gpio.{signalOf, drives, changed, updated, refreshed, isPushPull, pushPull, changeOf, configured, connected, bit}
 use Rattle.gpio.specs.Laws.{level-change, own-signal, signal-wins}
-use Rattle.book.specs.declared.Changes.{Changes}
 use Rattle.machine.specs.Board.{Board, Pads, gpioAt, routeOf, levelOf, withPads, withGpio, withSigLevel, noPin, noGpio}
 use Rattle.machine.specs.Sys.{Move, Drive, updatePin, refreshPin, leave, take, selected, selectAf, setPin, drivePin, sigOut, driver, driveChannel, fourChannels, noChanges, driveOutputs, unrouted, resetPin, Resets, resetFrom, resetPins}
 use Rattle.machine.specs.Step.{changesOf}
-use Rattle.book.specs.Book.{Book, puts, entryOf, entriesOf}
+use Rattle.book.specs.Book.{Changes, Book, puts, entryOf, entriesOf}
 use Rattle.book.specs.Laws.{puts-append}
 use Rattle.sys.specs.Moves.{Moves, Reset}
 

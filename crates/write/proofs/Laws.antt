@@ -36,7 +36,7 @@ use Rattle.answer.specs.declared.Answer.{Answer}
 use Rattle.answer.specs.Promise.{answer, Answers}
 use Rattle.answer.proofs.Given.{away, gives, turns-away, turns-away-book, unbooked}
 use Rattle.mmio.specs.Leaves.{Leaves}
-use Rattle.mmio.proofs.Laws.{asked, asked-count}
+use Rattle.mmio.proofs.Laws.{asked}
 use Rattle.regfile.specs.Plain.{plain, lines, plainRegs, plainly}
 use Rattle.fields.proofs.Words.{same-timer}
 use Rattle.write.specs.Writes.{Driven, writtenBy, writtenOn, compareWritten, answerOf}
@@ -153,12 +153,6 @@ pub whole : (old offset size value : ℕ) → size ≡ 4 → value ≡ laneWrite
 unfolding laneWrite
 whole old offset size value h = rw (eq-eqb size 4 h)
 
--- a write answers no value
-pub no-value : (b : Board) (i off v cycle : ℕ) → writtenBy b i off v cycle .value ≡ 0
-unfolding writtenBy followed
-no-value b i off v cycle =
-    either (λ (o : Outcome). o .value ≡ 0) (counterAstray off (R.regWritten (timerAt b i) off v cycle (dividerOf b (timerAt b i)) .timer)) refl refl
-
 -- the answer that a number stands for
 pub coded : (o : Outcome) (a r : Answer) (w w₁ : List ℕ) (x x₁ : List Float) → r ≡ a → Answers o a w w₁ x x₁ → Answers o r w w₁ x x₁
 coded o a r w w₁ x x₁ e m = subst (λ (y : Answer). Answers o y w w₁ x x₁) (sym e) m
@@ -166,11 +160,11 @@ coded o a r w w₁ x x₁ e m = subst (λ (y : Answer). Answers o y w w₁ x x�
 pub coded-book : (es : List Entry) (a r : Answer) (p p₁ l l₁ c c₁ : List ℕ) → r ≡ a → Holds es p p₁ l l₁ c c₁ (a .count) → Holds es p p₁ l l₁ c c₁ (r .count)
 coded-book es a r p p₁ l l₁ c c₁ e m = subst (λ (y : Answer). Holds es p p₁ l l₁ c c₁ (y .count)) (sym e) m
 
-pub coding : (a : Answer) → a .value ≡ 0 → a .number < 4294967296 → answerOf (a .number + 4294967296 * a .count) ≡ a
-coding a z h =
-    let n : (a .number + 4294967296 * a .count) % 4294967296 ≡ a .number = omega arith in
-    let k : (a .number + 4294967296 * a .count) / 4294967296 ≡ a .count = omega arith in
-    rw (n, k, ← z)
+pub coding : (k : ℕ) → answerOf (4294967296 * k) ≡ answer 0 0 k
+coding k =
+    let n : (4294967296 * k) % 4294967296 ≡ 0 = omega arith in
+    let c : (4294967296 * k) / 4294967296 ≡ k = omega arith in
+    rw (n, c)
 
 -- ---- the five plain registers
 
@@ -306,7 +300,7 @@ driven-at : (on : Bool) (t : Timer) (cnt cnt₁ cycle : ℕ) (b b₁ : Board) (k
 driven-at true t cnt cnt₁ cycle b b₁ k k₁ h d = subst (λ (n : ℕ). Driven true t n cycle b b₁ k k₁) (h refl) d
 driven-at false t cnt cnt₁ cycle b b₁ k k₁ h d = record { board = d .board; entries = d .entries }
 
-pub compares : (b b₁ b₂ b₃ b₄ : Board) (i ch v cycle cnt : ℕ) (on : Bool) (k k₁ : Book) → i < length (b .timers)
+compares : (b b₁ b₂ b₃ b₄ : Board) (i ch v cycle cnt : ℕ) (on : Bool) (k k₁ : Book) → i < length (b .timers)
     → b₁ ≡ withTimer b i (R.ccrWritten (timerAt b i) ch v cycle .timer) → on ≡ R.ccrWritten (timerAt b i) ch v cycle .drive → (R.ccrWritten (timerAt b i) ch v cycle .drive ≡ true → cnt ≡ cntAt (timerAt b₁ i) cycle)
     → Driven on (timerAt b₁ i) cnt cycle b₁ b₂ k k₁ → b₃ ≡ cond on (rebooked i (timerAt b₂ i) cycle b₂) b₂ → b₄ ≡ withLast b₃ cycle
     → Leaves (followed b i cycle (R.ccrWritten (timerAt b i) ch v cycle)) b₄ k k₁
@@ -320,6 +314,20 @@ compares b b₁ b₂ b₃ b₄ i ch v cycle cnt on k k₁ l e₁ o n d e₃ e₄
     (ap (λ (z : Bool). cond z (lineSettled (timerAt b₂ i) b₂) b₂) (sym (compare-line (timerAt b i) ch v cycle)))
     (e₃ ∙ ap (λ (z : Bool). cond z (rebooked i (timerAt b₂ i) cycle b₂) b₂) (o ∙ compare-booked (timerAt b i) ch v cycle))
     e₄
+
+-- it waits for the update, or it acts at once
+pub compare-waits : (b b₁ b₄ : Board) (i ch v cycle : ℕ) (on : Bool) (k : Book) → i < length (b .timers)
+    → b₁ ≡ withTimer b i (R.ccrWritten (timerAt b i) ch v cycle .timer) → on ≡ R.ccrWritten (timerAt b i) ch v cycle .drive → on ≡ false → b₄ ≡ withLast b₁ cycle
+    → Leaves (followed b i cycle (R.ccrWritten (timerAt b i) ch v cycle)) b₄ k k
+compare-waits b b₁ b₄ i ch v cycle on k l e₁ o z e₄ =
+    compares b b₁ b₁ b₁ b₄ i ch v cycle 0 on k k l e₁ o (λ h. absurd (false≢true (sym z ∙ o ∙ h))) (drives-off on (timerAt b₁ i) 0 cycle b₁ k z) (rw z refl) e₄
+
+pub compare-acts : (b b₁ b₂ b₃ b₄ : Board) (i ch v cycle cnt : ℕ) (on : Bool) (k k₁ : Book) → i < length (b .timers)
+    → b₁ ≡ withTimer b i (R.ccrWritten (timerAt b i) ch v cycle .timer) → on ≡ R.ccrWritten (timerAt b i) ch v cycle .drive → (R.ccrWritten (timerAt b i) ch v cycle .drive ≡ true → cnt ≡ cntAt (timerAt b₁ i) cycle)
+    → on ≡ true → O.Driven (driveOutputs (timerAt b₁ i) cnt (b₁ .pads)) cycle b₁ b₂ k k₁ → b₃ ≡ rebooked i (timerAt b₂ i) cycle b₂ → b₄ ≡ withLast b₃ cycle
+    → Leaves (followed b i cycle (R.ccrWritten (timerAt b i) ch v cycle)) b₄ k k₁
+compare-acts b b₁ b₂ b₃ b₄ i ch v cycle cnt on k k₁ l e₁ o n z d e₃ e₄ =
+    compares b b₁ b₂ b₃ b₄ i ch v cycle cnt on k k₁ l e₁ o n (drives-on on (timerAt b₁ i) cnt cycle b₁ b₂ k k₁ z d) (rw z e₃) e₄
 
 -- a timer with channels, and one without
 module _ (b b₁ : Board) (i ch v cycle : ℕ) (n : Inst) (k : Book) (load : n ≡ timerAt b i .inst) where
@@ -362,15 +370,14 @@ module _ (w : List ℕ) (x : List Float) (i off v cycle : ℕ) (h : R.isCcr off 
       rw compare-by (gives compared (answer 0 0 k) w w₁ x x₁ refl refl (q .count) (m .board) (λ y z. omega arith), q)
 
 -- ---- the call
-module _ (w : List ℕ) (x : List Float) (timer offset size value cycle room n num : ℕ) (e : n ≡ view w x .counts .timers)
-    (h : num ≡ asked timer n size (view w x) cycle 4 room) where
+module _ (w : List ℕ) (x : List Float) (timer offset size value cycle room num : ℕ) (h : num ≡ asked timer size (view w x) cycle room) where
   abbrev writing : Call
   writing = write timer offset size value cycle room
 
   -- the first four tests refuse
   refusing : (num ≡ 0 → ⊥) → num ≡ first (refusals (view w x) writing)
   unfolding first refusals
-  refusing z = go (leb (view w x .counts .timers) timer) (oddSize size) (astray (view w x) cycle) (ltb room 4) (asked-count timer n size (view w x) cycle 4 room num e h)
+  refusing z = go (leb (view w x .counts .timers) timer) (oddSize size) (astray (view w x) cycle) (ltb room 4) h
     where
       go : (t u v y : Bool) → num ≡ cond t 2 (cond u 3 (cond v 5 (cond y 6 0)))
           → num ≡ cond t 2 (cond u 3 (cond v 5 (cond y 6 (first (Refusals.counterAstray (view w x) timer offset size value cycle ∷ [])))))
@@ -392,7 +399,7 @@ module _ (w : List ℕ) (x : List Float) (timer offset size value cycle room n n
     unfolding step first written writtenBy
     write-gated =
         rw gate
-        (go (leb (view w x .counts .timers) timer) (oddSize size) (astray (view w x) cycle) (ltb room 4) _ (sym z ∙ asked-count timer n size (view w x) cycle 4 room num e h))
+        (go (leb (view w x .counts .timers) timer) (oddSize size) (astray (view w x) cycle) (ltb room 4) _ (sym z ∙ h))
       where
         go : (t u v y : Bool) (o : Outcome) → _≡_ {A = ℕ} 0 (cond t 2 (cond u 3 (cond v 5 (cond y 6 0))))
             → refuseIf t 2 (view w x) (refuseIf u 3 (view w x) (refuseIf v 5 (view w x) (refuseIf y 6 (view w x) o))) ≡ o

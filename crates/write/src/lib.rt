@@ -17,9 +17,11 @@ ghost use Rattle.state.specs.View.{view};
 ghost use Rattle.book.specs.Book.{book, places, Holds};
 ghost use Rattle.machine.specs.Board.{timerAt};
 ghost use Rattle.machine.specs.Call as Call;
+ghost use Rattle.machine.specs.Sys.{driveOutputs};
 ghost use Rattle.machine.specs.Deliver.{lineSettled, rebooked};
 ghost use Rattle.machine.specs.Step.{step, register, present, counterAstray, followed};
-ghost use Rattle.answer.specs.Promise.{Answers};
+ghost use Rattle.answer.specs.Promise.{answer, Answers};
+ghost use Rattle.outputs.specs.Outputs as O;
 ghost use Rattle.mmio.specs.Leaves.{Leaves};
 ghost use Rattle.regfile.specs.Plain.{plain, lines, plainly};
 ghost use Rattle.write.specs.Writes.{Driven, writtenBy, writtenOn, compareWritten, answerOf};
@@ -129,6 +131,27 @@ fn follow(
     k
 }
 
+// ---- a write's answer as a number: the number plus 2^32 times the count of entries. It has no value, and comes back in a register.
+
+// Served, with so many entries.
+fn made(count: usize) -> u64
+    requires { ⌜ count ≤ 4 ⌝ }
+    ensures { λ r. ⌜ answerOf r ≡ answer 0 0 count ⌝ }
+{
+    4294967296 * count as u64
+}
+
+// The answer of such a number.
+fn answer_of(code: u64) -> Answer
+    ensures { λ r. ⌜ r ≡ answerOf code ⌝ }
+{
+    Answer {
+        value: 0,
+        number: (code % 4294967296) as u32,
+        count: (code / 4294967296) as u32,
+    }
+}
+
 // A write of the value v to register off, not CR1.
 fn write_timer(
     words: &mut [u64; WORDS],
@@ -140,25 +163,21 @@ fn write_timer(
     off: u32,
     v: u32,
     cycle: u64,
-) -> Answer
+) -> u64
     requires { ⌜ (i < 8) × (cycle ≤ 4611686018427387904) × (off ≡ 0 → ⊥) ⌝ }
     requires { ⌜ (4 ≤ length (now pins)) × (4 ≤ length (now levels)) × (4 ≤ length (now cycles)) ⌝ }
-    ensures { λ r. ⌜ Answers (writtenBy (view (now (words .entry)) (now (reals .entry))) i off v cycle) r (now (words .entry)) (now (words .exit)) (now (reals .entry)) (now (reals .exit)) ⌝ }
-    ensures { λ r. ⌜ Holds (writtenBy (view (now (words .entry)) (now (reals .entry))) i off v cycle .entries) (now (pins .entry)) (now (pins .exit)) (now (levels .entry)) (now (levels .exit)) (now (cycles .entry)) (now (cycles .exit)) (r .count) ⌝ }
+    ensures { λ r. ⌜ Answers (writtenBy (view (now (words .entry)) (now (reals .entry))) i off v cycle) (answerOf r) (now (words .entry)) (now (words .exit)) (now (reals .entry)) (now (reals .exit)) ⌝ }
+    ensures { λ r. ⌜ Holds (writtenBy (view (now (words .entry)) (now (reals .entry))) i off v cycle .entries) (now (pins .entry)) (now (pins .exit)) (now (levels .entry)) (now (levels .exit)) (now (cycles .entry)) (now (cycles .exit)) (answerOf r .count) ⌝ }
 {
     let t = state::load_timer(words, i);
     let div = rcc::divider(words, reals, t);
     let w = regs::write_reg(t, off, v, cycle, div);
     let s = w.timer;
     if counter_astray(off, s) {
-        return answer::refused(7);
+        return 7;
     }
     let count = follow(words, reals, pins, levels, cycles, i, w, cycle);
-    Answer {
-        value: 0,
-        number: 0,
-        count: count as u32,
-    }
+    made(count)
 }
 
 // ---- registers that a write stores and no more: CR2, SMCR, DIER, SR, PSC
@@ -203,16 +222,16 @@ fn write_plain(words: &mut [u64; WORDS], i: usize, off: u32, v: u32, cycle: u64)
 // ---- CR1
 
 // Served, or refused with 7. The outputs and the line stay.
-fn write_cr1(words: &mut [u64; WORDS], reals: &[f64; REALS], i: usize, v: u32, cycle: u64) -> Answer
+fn write_cr1(words: &mut [u64; WORDS], reals: &[f64; REALS], i: usize, v: u32, cycle: u64) -> u64
     requires { ⌜ (i < 8) × (cycle ≤ 4611686018427387904) ⌝ }
-    ensures { λ r. ⌜ Answers (writtenBy (view (now (words .entry)) (now (reals .entry))) i 0 v cycle) r (now (words .entry)) (now (words .exit)) (now (reals .entry)) (now (reals .entry)) ⌝ }
+    ensures { λ r. ⌜ Answers (writtenBy (view (now (words .entry)) (now (reals .entry))) i 0 v cycle) (answerOf r) (now (words .entry)) (now (words .exit)) (now (reals .entry)) (now (reals .entry)) ⌝ }
 {
     if !regfile::write_cr1(words, reals, i, v, cycle) {
-        return answer::refused(7);
+        return 7;
     }
     rcc::rebook(words, i, cycle);
     state::set_last(words, cycle);
-    answer::served(0)
+    0
 }
 
 // ---- CCR1 to CCR4
@@ -224,6 +243,53 @@ fn is_compare(off: u32) -> bool
         return false;
     }
     off <= 0x43
+}
+
+// Drives the outputs of timer i at a count, and writes their changes to the book from place 0 on: outputs' `drive_outputs`, written out
+// once more for one caller. So it is compiled into a write of a compare, which changes a pilot's duty.
+fn drive_written(
+    words: &mut [u64; WORDS],
+    reals: &mut [f64; REALS],
+    pins: &mut [u8],
+    levels: &mut [u8],
+    cycles: &mut [u64],
+    i: usize,
+    cnt: u32,
+    at: u64,
+) -> usize
+    requires { ⌜ i < 8 ⌝ }
+    requires { ⌜ (4 ≤ length (now pins)) × (4 ≤ length (now levels)) × (4 ≤ length (now cycles)) ⌝ }
+    ensures { λ r. ⌜ O.Driven (driveOutputs (timerAt (view (now (words .entry)) (now (reals .entry))) i) cnt (view (now (words .entry)) (now (reals .entry)) .pads)) at (view (now (words .entry)) (now (reals .entry))) (view (now (words .exit)) (now (reals .exit))) (book (now (pins .entry)) (now (levels .entry)) (now (cycles .entry)) 0) (book (now (pins .exit)) (now (levels .exit)) (now (cycles .exit)) r) ⌝ }
+    ensures { λ r. ⌜ r ≤ 4 ⌝ }
+{
+    let t = state::load_timer(words, i);
+    if t.inst.n < 2 {
+        return 0;
+    }
+    if t.inst.n > 4 {
+        return 0;
+    }
+    let s = sig::tim(t.inst.n as u8, 0) as usize;
+    let x = t.inst.channels;
+    let l = t.output(0, cnt);
+    let l1 = t.output(1, cnt);
+    let l2 = t.output(2, cnt);
+    let l3 = t.output(3, cnt);
+    let m = outputs::drive_two(words, reals, pins, levels, cycles, 0, x, 0, s, l, l1, at);
+    outputs::drive_two(
+        words,
+        reals,
+        pins,
+        levels,
+        cycles,
+        m,
+        x,
+        2,
+        s + 2,
+        l2,
+        l3,
+        at,
+    )
 }
 
 // The compare of channel ch, of a timer that has channels. The number of entries.
@@ -244,28 +310,33 @@ fn write_ccr(
     ensures { λ r. ⌜ r ≤ 4 ⌝ }
 {
     let on = regfile::write_ccr(words, i, ch, v, cycle);
+    if !on {
+        state::set_last(words, cycle);
+        return 0;
+    }
     let cnt = fields::cnt0(words, i);
-    let k = drive(words, reals, pins, levels, cycles, on, i, cnt, cycle);
-    rebook_if(words, on, i, cycle);
+    let k = drive_written(words, reals, pins, levels, cycles, i, cnt, cycle);
+    rcc::rebook(words, i, cycle);
     state::set_last(words, cycle);
     k
 }
 
-// A compare of a timer with or without channels. The number of entries.
+// The compare at offset off, of a timer with or without channels. The number of entries. It has two callers, so it is not compiled into
+// them: a write of another register is spared what it keeps.
 fn write_compare(
     words: &mut [u64; WORDS],
     reals: &mut [f64; REALS],
+    i: usize,
+    off: u32,
+    v: u32,
+    cycle: u64,
     pins: &mut [u8],
     levels: &mut [u8],
     cycles: &mut [u64],
-    i: usize,
-    ch: usize,
-    v: u32,
-    cycle: u64,
 ) -> usize
-    requires { ⌜ (i < 8) × (ch < 4) × (cycle < 9223372036854775808) ⌝ }
+    requires { ⌜ (i < 8) × (R.isCcr off ≡ true) × (cycle < 9223372036854775808) ⌝ }
     requires { ⌜ (4 ≤ length (now pins)) × (4 ≤ length (now levels)) × (4 ≤ length (now cycles)) ⌝ }
-    ensures { λ r. ⌜ Leaves (followed (view (now (words .entry)) (now (reals .entry))) i cycle (compareWritten (timerAt (view (now (words .entry)) (now (reals .entry))) i) ch v cycle)) (view (now (words .exit)) (now (reals .exit))) (book (now (pins .entry)) (now (levels .entry)) (now (cycles .entry)) 0) (book (now (pins .exit)) (now (levels .exit)) (now (cycles .exit)) r) ⌝ }
+    ensures { λ r. ⌜ Leaves (followed (view (now (words .entry)) (now (reals .entry))) i cycle (compareWritten (timerAt (view (now (words .entry)) (now (reals .entry))) i) (R.ccrChannel off) v cycle)) (view (now (words .exit)) (now (reals .exit))) (book (now (pins .entry)) (now (levels .entry)) (now (cycles .entry)) 0) (book (now (pins .exit)) (now (levels .exit)) (now (cycles .exit)) r) ⌝ }
     ensures { λ r. ⌜ r ≤ 4 ⌝ }
 {
     let t = fields::inst(words, i);
@@ -273,6 +344,7 @@ fn write_compare(
         state::set_last(words, cycle);
         return 0;
     }
+    let ch = ((off - 0x34) / 4) as usize;
     write_ccr(words, reals, pins, levels, cycles, i, ch, v, cycle)
 }
 
@@ -287,106 +359,49 @@ fn write_other(
     off: u32,
     v: u32,
     cycle: u64,
-) -> Answer
+) -> u64
     requires { ⌜ (i < 8) × (cycle ≤ 4611686018427387904) × (off ≡ 0 → ⊥) ⌝ }
     requires { ⌜ (4 ≤ length (now pins)) × (4 ≤ length (now levels)) × (4 ≤ length (now cycles)) ⌝ }
-    ensures { λ r. ⌜ Answers (writtenBy (view (now (words .entry)) (now (reals .entry))) i off v cycle) r (now (words .entry)) (now (words .exit)) (now (reals .entry)) (now (reals .exit)) ⌝ }
-    ensures { λ r. ⌜ Holds (writtenBy (view (now (words .entry)) (now (reals .entry))) i off v cycle .entries) (now (pins .entry)) (now (pins .exit)) (now (levels .entry)) (now (levels .exit)) (now (cycles .entry)) (now (cycles .exit)) (r .count) ⌝ }
+    ensures { λ r. ⌜ Answers (writtenBy (view (now (words .entry)) (now (reals .entry))) i off v cycle) (answerOf r) (now (words .entry)) (now (words .exit)) (now (reals .entry)) (now (reals .exit)) ⌝ }
+    ensures { λ r. ⌜ Holds (writtenBy (view (now (words .entry)) (now (reals .entry))) i off v cycle .entries) (now (pins .entry)) (now (pins .exit)) (now (levels .entry)) (now (levels .exit)) (now (cycles .entry)) (now (cycles .exit)) (answerOf r .count) ⌝ }
 {
     if is_compare(off) {
-        let ch = ((off - 0x34) / 4) as usize;
-        let count = write_compare(words, reals, pins, levels, cycles, i, ch, v, cycle);
-        return Answer {
-            value: 0,
-            number: 0,
-            count: count as u32,
-        };
+        let count = write_compare(words, reals, i, off, v, cycle, pins, levels, cycles);
+        return made(count);
     }
     write_timer(words, reals, pins, levels, cycles, i, off, v, cycle)
 }
 
-// ---- any register
+// ---- any register, while the timer's clock is on
 
-// A write while the timer's clock is on.
+// A write of any size. It has two callers, so it is not compiled into the short ways below.
 fn write_any(
     words: &mut [u64; WORDS],
     reals: &mut [f64; REALS],
-    pins: &mut [u8],
-    levels: &mut [u8],
-    cycles: &mut [u64],
     i: usize,
     offset: u32,
     size: u32,
     value: u32,
     cycle: u64,
-) -> Answer
-    requires { ⌜ (i < 8) × (size ≤ 4) × (cycle ≤ 4611686018427387904) ⌝ }
-    requires { ⌜ (4 ≤ length (now pins)) × (4 ≤ length (now levels)) × (4 ≤ length (now cycles)) ⌝ }
-    ensures { λ r. ⌜ Answers (writtenOn (view (now (words .entry)) (now (reals .entry))) i offset size value cycle) r (now (words .entry)) (now (words .exit)) (now (reals .entry)) (now (reals .exit)) ⌝ }
-    ensures { λ r. ⌜ Holds (writtenOn (view (now (words .entry)) (now (reals .entry))) i offset size value cycle .entries) (now (pins .entry)) (now (pins .exit)) (now (levels .entry)) (now (levels .exit)) (now (cycles .entry)) (now (cycles .exit)) (r .count) ⌝ }
-{
-    let v = merged(words, i, offset, size, value, cycle);
-    let off = offset / 4 * 4;
-    if is_plain(off) {
-        write_plain(words, i, off, v, cycle);
-        return answer::served(0);
-    }
-    if off == 0 {
-        return write_cr1(words, reals, i, v, cycle);
-    }
-    write_other(words, reals, pins, levels, cycles, i, off, v, cycle)
-}
-
-// An answer without a value as a number: the number plus 2^32 times the count. It is handed back in a register.
-fn code_of(a: Answer) -> u64
-    requires { ⌜ a .value ≡ 0 ⌝ }
-    ensures { λ r. ⌜ answerOf r ≡ a ⌝ }
-{
-    a.number as u64 + 4294967296 * a.count as u64
-}
-
-// The answer of such a number.
-fn answer_of(code: u64) -> Answer
-    ensures { λ r. ⌜ r ≡ answerOf code ⌝ }
-{
-    Answer {
-        value: 0,
-        number: (code % 4294967296) as u32,
-        count: (code / 4294967296) as u32,
-    }
-}
-
-// The same, its answer as a number. It has two callers, so that it is not inlined into the short way.
-fn write_on(
-    words: &mut [u64; WORDS],
-    reals: &mut [f64; REALS],
     pins: &mut [u8],
     levels: &mut [u8],
     cycles: &mut [u64],
-    i: usize,
-    offset: u32,
-    size: u32,
-    value: u32,
-    cycle: u64,
 ) -> u64
     requires { ⌜ (i < 8) × (size ≤ 4) × (cycle ≤ 4611686018427387904) ⌝ }
     requires { ⌜ (4 ≤ length (now pins)) × (4 ≤ length (now levels)) × (4 ≤ length (now cycles)) ⌝ }
     ensures { λ r. ⌜ Answers (writtenOn (view (now (words .entry)) (now (reals .entry))) i offset size value cycle) (answerOf r) (now (words .entry)) (now (words .exit)) (now (reals .entry)) (now (reals .exit)) ⌝ }
     ensures { λ r. ⌜ Holds (writtenOn (view (now (words .entry)) (now (reals .entry))) i offset size value cycle .entries) (now (pins .entry)) (now (pins .exit)) (now (levels .entry)) (now (levels .exit)) (now (cycles .entry)) (now (cycles .exit)) (answerOf r .count) ⌝ }
 {
-    let a = write_any(
-        words,
-        reals,
-        pins,
-        levels,
-        cycles,
-        i,
-        offset,
-        size,
-        value,
-        cycle,
-    );
-    code_of(a)
+    let v = merged(words, i, offset, size, value, cycle);
+    let off = offset / 4 * 4;
+    if is_plain(off) {
+        write_plain(words, i, off, v, cycle);
+        return 0;
+    }
+    if off == 0 {
+        return write_cr1(words, reals, i, v, cycle);
+    }
+    write_other(words, reals, pins, levels, cycles, i, off, v, cycle)
 }
 
 // A whole write of DIER or SR.
@@ -397,6 +412,84 @@ fn write_flags(words: &mut [u64; WORDS], i: usize, off: u32, v: u32, cycle: u64)
     regfile::write_flags(words, i, off, v);
     rcc::settle_line_at(words, i);
     state::set_last(words, cycle);
+}
+
+// A write of 4 bytes, the most common one: DIER, SR, CR1 and the compares, which a running program writes, go directly.
+fn write_whole(
+    words: &mut [u64; WORDS],
+    reals: &mut [f64; REALS],
+    i: usize,
+    offset: u32,
+    value: u32,
+    cycle: u64,
+    pins: &mut [u8],
+    levels: &mut [u8],
+    cycles: &mut [u64],
+) -> u64
+    requires { ⌜ (i < 8) × (cycle ≤ 4611686018427387904) ⌝ }
+    requires { ⌜ (4 ≤ length (now pins)) × (4 ≤ length (now levels)) × (4 ≤ length (now cycles)) ⌝ }
+    ensures { λ r. ⌜ Answers (writtenOn (view (now (words .entry)) (now (reals .entry))) i offset 4 value cycle) (answerOf r) (now (words .entry)) (now (words .exit)) (now (reals .entry)) (now (reals .exit)) ⌝ }
+    ensures { λ r. ⌜ Holds (writtenOn (view (now (words .entry)) (now (reals .entry))) i offset 4 value cycle .entries) (now (pins .entry)) (now (pins .exit)) (now (levels .entry)) (now (levels .exit)) (now (cycles .entry)) (now (cycles .exit)) (answerOf r .count) ⌝ }
+{
+    let off = offset / 4 * 4;
+    if has_line(off) {
+        write_flags(words, i, off, value, cycle);
+        return 0;
+    }
+    if off == 0 {
+        return write_cr1(words, reals, i, value, cycle);
+    }
+    if is_compare(off) {
+        let count = write_compare(words, reals, i, off, value, cycle, pins, levels, cycles);
+        return made(count);
+    }
+    write_any(
+        words,
+        reals,
+        i,
+        offset,
+        4,
+        value,
+        cycle,
+        pins,
+        levels,
+        cycles,
+    )
+}
+
+// A write, by the shorter way.
+fn write_on(
+    words: &mut [u64; WORDS],
+    reals: &mut [f64; REALS],
+    i: usize,
+    offset: u32,
+    size: u32,
+    value: u32,
+    cycle: u64,
+    pins: &mut [u8],
+    levels: &mut [u8],
+    cycles: &mut [u64],
+) -> u64
+    requires { ⌜ (i < 8) × (size ≤ 4) × (cycle ≤ 4611686018427387904) ⌝ }
+    requires { ⌜ (4 ≤ length (now pins)) × (4 ≤ length (now levels)) × (4 ≤ length (now cycles)) ⌝ }
+    ensures { λ r. ⌜ Answers (writtenOn (view (now (words .entry)) (now (reals .entry))) i offset size value cycle) (answerOf r) (now (words .entry)) (now (words .exit)) (now (reals .entry)) (now (reals .exit)) ⌝ }
+    ensures { λ r. ⌜ Holds (writtenOn (view (now (words .entry)) (now (reals .entry))) i offset size value cycle .entries) (now (pins .entry)) (now (pins .exit)) (now (levels .entry)) (now (levels .exit)) (now (cycles .entry)) (now (cycles .exit)) (answerOf r .count) ⌝ }
+{
+    if size == 4 {
+        return write_whole(words, reals, i, offset, value, cycle, pins, levels, cycles);
+    }
+    write_any(
+        words,
+        reals,
+        i,
+        offset,
+        size,
+        value,
+        cycle,
+        pins,
+        levels,
+        cycles,
+    )
 }
 
 // A write: nothing but the cycle of the last changing call while the timer's clock is off.
@@ -415,9 +508,7 @@ pub fn write(
     ensures { λ r. ⌜ Answers (step (view (now (words .entry)) (now (reals .entry))) (Call.write timer offset size value cycle (places (now (pins .entry)) (now (levels .entry)) (now (cycles .entry))))) r (now (words .entry)) (now (words .exit)) (now (reals .entry)) (now (reals .exit)) ⌝ }
     ensures { λ r. ⌜ Holds (step (view (now (words .entry)) (now (reals .entry))) (Call.write timer offset size value cycle (places (now (pins .entry)) (now (levels .entry)) (now (cycles .entry)))) .entries) (now (pins .entry)) (now (pins .exit)) (now (levels .entry)) (now (levels .exit)) (now (cycles .entry)) (now (cycles .exit)) (r .count) ⌝ }
 {
-    let room = book::room(pins, levels, cycles);
-    let n = state::timer_count(words);
-    let no = answer::refusal(words, timer, n, size, cycle, 4, room);
+    let no = answer::book_refusal(words, timer, size, cycle, pins, levels, cycles);
     if no != 0 {
         return answer::refused(no);
     }
@@ -426,35 +517,17 @@ pub fn write(
         state::set_last(words, cycle);
         return answer::served(0);
     }
-    let off = offset / 4 * 4;
-    if !has_line(off) {
-        return answer_of(write_on(
-            words,
-            reals,
-            pins,
-            levels,
-            cycles,
-            i,
-            offset,
-            size,
-            value,
-            cycle,
-        ));
-    }
-    if size != 4 {
-        return answer_of(write_on(
-            words,
-            reals,
-            pins,
-            levels,
-            cycles,
-            i,
-            offset,
-            size,
-            value,
-            cycle,
-        ));
-    }
-    write_flags(words, i, off, value, cycle);
-    answer::served(0)
+    let code = write_on(
+        words,
+        reals,
+        i,
+        offset,
+        size,
+        value,
+        cycle,
+        pins,
+        levels,
+        cycles,
+    );
+    answer_of(code)
 }

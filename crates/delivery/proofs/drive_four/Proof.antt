@@ -5,7 +5,7 @@ use Rattle.delivery.proofs.drive_four.Statement.{statement}
 use Rattle.delivery.proofs.drive_four.Tie as tie
 use Rattle.delivery.proofs.drive_four.Reads as reads
 use Rattle.delivery.proofs.drive_four.Lts as lts
-use Rattle.delivery.proofs.drive_two.Reads as drive-two-reads
+use Rattle.outputs.proofs.drive_two.Reads as drive-two-reads
 use Rattle.sig.proofs.tim.Reads as tim-reads
 use Rattle.tim.proofs.Timer.output.Reads as output-reads
 

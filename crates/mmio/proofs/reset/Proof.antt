@@ -1,19 +1,13 @@
 -- Refused, or reset.
-use Rattle.mmio.proofs.Laws.{admitted, fits, within, reset-away, reset-away-book, reset-gives}
 use native.Mathlib.Omega.{arith}
-use mathlib.Core.Path.{sym}
+use Rattle.book.specs.Book.{places}
+use Rattle.mmio.proofs.Laws.{admitted, fits, within, reset-away, reset-away-book, reset-gives}
 use borrow.Author.Needs.{needs}
 use Rattle.mmio.proofs.reset.Statement.{statement}
 use Rattle.mmio.proofs.reset.Tie as tie
 
-room-requires : tie.Need-room-requires
-room-requires c κs = search needs
-
-timer-count-requires : tie.Need-timer-count-requires
-timer-count-requires c κs = search needs
-
-refusal-requires : tie.Need-refusal-requires
-refusal-requires c κs = search needs
+book-refusal-requires : tie.Need-book-refusal-requires
+book-refusal-requires c κs = search needs
 
 refused-requires : tie.Need-refused-requires
 refused-requires c κs = search needs
@@ -29,14 +23,19 @@ same-length-3 c = search needs
 
 returns : tie.Need-returns
 returns c =
-    (reset-away (c .before .before .before .before .before .before .before .before .before .before .before .before .before .args .words .now) (c .before .before .before .before .before .before .before .before .before .before .before .before .before .args .reals .now) (c .before .before .before .before .before .before .before .before .before .before .before .before .before .args .timer) (c .before .before .before .before .before .before .before .before .before .before .before .before .before .args .cycle) _ _ _ (c .before .before .before .before .timer-count .ensures (c .before .before .before .before .before .before .before .before .before .before .before .before .before .args .reals .now)) (rw (sym (c .before .before .before .before .before .before .room .ensures)) (c .before .before .refusal .ensures (c .before .before .before .before .before .before .before .before .before .before .before .before .before .args .reals .now))) (c .before .if1 .taken) _ (c .refused .ensures), reset-away-book (c .before .before .before .before .before .before .before .before .before .before .before .before .before .args .words .now) (c .before .before .before .before .before .before .before .before .before .before .before .before .before .args .reals .now) (c .before .before .before .before .before .before .before .before .before .before .before .before .before .args .timer) (c .before .before .before .before .before .before .before .before .before .before .before .before .before .args .cycle) _ _ _ (c .before .before .before .before .timer-count .ensures (c .before .before .before .before .before .before .before .before .before .before .before .before .before .args .reals .now)) (rw (sym (c .before .before .before .before .before .before .room .ensures)) (c .before .before .refusal .ensures (c .before .before .before .before .before .before .before .before .before .before .before .before .before .args .reals .now))) (c .before .if1 .taken) _ (c .refused .ensures) (c .before .before .before .before .before .before .before .before .before .before .before .before .before .args .pins .now) (c .before .before .before .before .before .before .before .before .before .before .before .before .before .args .levels .now) (c .before .before .before .before .before .before .before .before .before .before .before .before .before .args .cycles .now))
+    let s = c .before .before .before .before .before .before .before .before .before .before in (
+      reset-away (s .args .words .now) (s .args .reals .now) (s .args .timer) (s .args .cycle) (places (s .args .pins .now) (s .args .levels .now) (s .args .cycles .now)) _ (c .before .before .book-refusal .ensures (s .args .reals .now)) (c .before .if1 .taken) _ (c .refused .ensures),
+      reset-away-book (s .args .words .now) (s .args .reals .now) (s .args .timer) (s .args .cycle) (places (s .args .pins .now) (s .args .levels .now) (s .args .cycles .now)) _ (c .before .before .book-refusal .ensures (s .args .reals .now)) (c .before .if1 .taken) _ (c .refused .ensures) (s .args .pins .now) (s .args .levels .now) (s .args .cycles .now),
+    )
 
 reset-timer-requires : tie.Need-reset-timer-requires
 reset-timer-requires c κs =
-    let q = admitted (c .before .before .before .before .before .before .before .before .before .before .before .before .before .before .before .before .before .args .words .now) (c .before .before .before .before .before .before .before .before .before .before .before .before .before .before .before .before .before .args .reals .now) (c .before .before .before .before .before .before .before .before .before .before .before .before .before .before .before .before .before .args .timer) _ 4 (c .before .before .before .before .before .before .before .before .before .before .before .before .before .before .before .before .before .args .cycle) 4 (c .before .before .before .before .before .before .before .before .before .before .room .result) _ (c .before .before .before .before .before .before .before .before .timer-count .ensures (c .before .before .before .before .before .before .before .before .before .before .before .before .before .before .before .before .before .args .reals .now)) (c .before .before .before .before .before .before .refusal .ensures (c .before .before .before .before .before .before .before .before .before .before .before .before .before .before .before .before .before .args .reals .now)) (c .before .before .before .before .before .if1 .left) in (q .index-lt, fits (c .before .before .before .before .before .before .before .before .before .before .before .before .before .before .before .before .before .args .pins .now) (c .before .before .before .before .before .before .before .before .before .before .before .before .before .before .before .before .before .args .levels .now) (c .before .before .before .before .before .before .before .before .before .before .before .before .before .before .before .before .before .args .cycles .now) _ (c .before .before .before .before .before .before .before .before .before .before .room .ensures) (q .places-le))
+    let s = c .before .before .before .before .before .before .before .before .before .before .before .before .before .before in
+    let q = admitted (s .args .words .now) (s .args .reals .now) (s .args .timer) 4 (s .args .cycle) (places (s .args .pins .now) (s .args .levels .now) (s .args .cycles .now)) _ (c .before .before .before .before .before .before .book-refusal .ensures (s .args .reals .now)) (c .before .before .before .before .before .if1 .left) in
+    (q .index-lt, fits (s .args .pins .now) (s .args .levels .now) (s .args .cycles .now) (q .places-le))
 
-cast-t30 : tie.Need-cast-t30
-cast-t30 c = omega (arith, c .before .before .before .before .before .before .reset-timer .ensures .1)
+cast-t27 : tie.Need-cast-t27
+cast-t27 c = omega (arith, c .before .before .before .before .before .before .reset-timer .ensures .1)
 
 same-length-4 : tie.Need-same-length-4
 same-length-4 c = search needs
@@ -49,22 +48,22 @@ same-length-6 c = search needs
 
 returns-2 : tie.Need-returns-2
 returns-2 c =
-    reset-gives (c .before .before .before .before .before .before .before .before .before .before .before .before .before .before .before .before .before .before .before .before .before .before .before .before .args .words .now) (c .before .before .before .before .before .before .before .before .before .before .before .before .before .before .before .before .before .before .before .before .before .before .before .before .args .reals .now) (c .before .before .before .before .before .before .before .before .before .before .before .before .before .before .before .before .before .before .before .before .before .before .before .before .args .timer) (c .before .before .before .before .before .before .before .before .before .before .before .before .before .before .before .before .before .before .before .before .before .before .before .before .args .cycle) _ _ _ (c .before .before .before .before .before .before .before .before .before .before .before .before .before .before .before .timer-count .ensures (c .before .before .before .before .before .before .before .before .before .before .before .before .before .before .before .before .before .before .before .before .before .before .before .before .args .reals .now)) (rw (sym (c .before .before .before .before .before .before .before .before .before .before .before .before .before .before .before .before .before .room .ensures)) (c .before .before .before .before .before .before .before .before .before .before .before .before .before .refusal .ensures (c .before .before .before .before .before .before .before .before .before .before .before .before .before .before .before .before .before .before .before .before .before .before .before .before .args .reals .now))) (c .before .before .before .before .before .before .before .before .before .before .before .before .if1 .left) _ _ _ _ _ _ _ _ _ (c .before .before .before .before .before .before .reset-timer .ensures .0) (within (c .before .before .before .before .before .before .before .before .before .before .before .before .before .before .before .before .before .before .before .before .before .before .before .before .args .pins .now) (c .before .before .before .before .before .before .before .before .before .before .before .before .before .before .before .before .before .before .before .before .before .before .before .before .args .levels .now) (c .before .before .before .before .before .before .before .before .before .before .before .before .before .before .before .before .before .before .before .before .before .before .before .before .args .cycles .now) _ _ (c .before .before .before .before .before .before .before .before .before .before .before .before .before .before .before .before .before .room .ensures) (admitted (c .before .before .before .before .before .before .before .before .before .before .before .before .before .before .before .before .before .before .before .before .before .before .before .before .args .words .now) (c .before .before .before .before .before .before .before .before .before .before .before .before .before .before .before .before .before .before .before .before .before .before .before .before .args .reals .now) (c .before .before .before .before .before .before .before .before .before .before .before .before .before .before .before .before .before .before .before .before .before .before .before .before .args .timer) _ 4 (c .before .before .before .before .before .before .before .before .before .before .before .before .before .before .before .before .before .before .before .before .before .before .before .before .args .cycle) 4 (c .before .before .before .before .before .before .before .before .before .before .before .before .before .before .before .before .before .room .result) _ (c .before .before .before .before .before .before .before .before .before .before .before .before .before .before .before .timer-count .ensures (c .before .before .before .before .before .before .before .before .before .before .before .before .before .before .before .before .before .before .before .before .before .before .before .before .args .reals .now)) (c .before .before .before .before .before .before .before .before .before .before .before .before .before .refusal .ensures (c .before .before .before .before .before .before .before .before .before .before .before .before .before .before .before .before .before .before .before .before .before .before .before .before .args .reals .now)) (c .before .before .before .before .before .before .before .before .before .before .before .before .if1 .left) .places-le) (c .before .before .before .before .before .before .reset-timer .ensures .1))
+    let s = c .before .before .before .before .before .before .before .before .before .before .before .before .before .before .before .before .before .before .before .before .before in
+    let q = admitted (s .args .words .now) (s .args .reals .now) (s .args .timer) 4 (s .args .cycle) (places (s .args .pins .now) (s .args .levels .now) (s .args .cycles .now)) _ (c .before .before .before .before .before .before .before .before .before .before .before .before .before .book-refusal .ensures (s .args .reals .now)) (c .before .before .before .before .before .before .before .before .before .before .before .before .if1 .left) in
+    reset-gives (s .args .words .now) (s .args .reals .now) (s .args .timer) (s .args .cycle) (places (s .args .pins .now) (s .args .levels .now) (s .args .cycles .now)) _ (c .before .before .before .before .before .before .before .before .before .before .before .before .before .book-refusal .ensures (s .args .reals .now)) (c .before .before .before .before .before .before .before .before .before .before .before .before .if1 .left) _ _ _ _ _ _ _ _ _ (c .before .before .before .before .before .before .reset-timer .ensures .0) (within (s .args .pins .now) (s .args .levels .now) (s .args .cycles .now) _ (q .places-le) (c .before .before .before .before .before .before .reset-timer .ensures .1))
 
 pub reset-spec : {M : Type 1} → statement M
 reset-spec =
     tie.close
     (tie.spec
-    room-requires
-    timer-count-requires
-    refusal-requires
+    book-refusal-requires
     refused-requires
     same-length
     same-length-2
     same-length-3
     returns
     reset-timer-requires
-    cast-t30
+    cast-t27
     same-length-4
     same-length-5
     same-length-6

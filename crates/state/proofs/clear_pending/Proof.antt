@@ -9,9 +9,6 @@ use Rattle.state.proofs.clear_pending.Tie as tie
 sized-requires : tie.Need-sized-requires
 sized-requires c κs = search needs
 
-line-count-requires : tie.Need-line-count-requires
-line-count-requires c κs = search needs
-
 has-line-requires : tie.Need-has-line-requires
 has-line-requires c κs = search needs
 
@@ -22,7 +19,7 @@ mul-line-of : tie.Need-mul-line-of
 mul-line-of c = search needs
 
 element-copy-out-line-of : tie.Need-element-copy-out-line-of
-element-copy-out-line-of c = let s = c .before .before .before .before .before .before in line-place (s .args .words .now) (c .before .before .line-count .result) (s .args .irq) (c .before .has-line .result) (c .before .before .line-count .ensures) (c .before .has-line .ensures) (c .if1 .taken)
+element-copy-out-line-of c = let s = c .before .before .before .before .before in line-place (s .args .words .now) (s .args .irq) (c .before .has-line .result) (c .before .has-line .ensures) (c .if1 .taken)
 
 line-of-requires : tie.Need-line-of-requires
 line-of-requires c κs = search needs
@@ -37,13 +34,13 @@ mul-words : tie.Need-mul-words
 mul-words c = search needs
 
 element-write-words : tie.Need-element-write-words
-element-write-words c = let s = c .before .before .before .before .before .before .before .before .before .before in line-place (s .args .words .now) (c .before .before .before .before .before .before .line-count .result) (s .args .irq) (c .before .before .before .before .before .has-line .result) (c .before .before .before .before .before .before .line-count .ensures) (c .before .before .before .before .before .has-line .ensures) (c .before .before .before .before .if1 .taken)
+element-write-words c = let s = c .before .before .before .before .before .before .before .before .before in line-place (s .args .words .now) (s .args .irq) (c .before .before .before .before .before .has-line .result) (c .before .before .before .before .before .has-line .ensures) (c .before .before .before .before .if1 .taken)
 
 returns : tie.Need-returns
-returns c = let s = c .before .before .before .before .before .before .before .before .before .before in λ x. line-set (s .args .words .now) x (c .before .before .before .before .before .before .before .before .sized .ensures) lineCleared (s .args .irq) (c .word-of .result) (line-there (s .args .words .now) (c .before .before .before .before .before .before .line-count .result) (s .args .irq) (c .before .before .before .before .before .has-line .result) (c .before .before .before .before .before .before .line-count .ensures) (c .before .before .before .before .before .has-line .ensures) x (c .before .before .before .before .if1 .taken)) (cc)
+returns c = let s = c .before .before .before .before .before .before .before .before .before in λ x. line-set (s .args .words .now) x (c .before .before .before .before .before .before .before .sized .ensures) lineCleared (s .args .irq) (c .word-of .result) (line-there (s .args .words .now) (s .args .irq) (c .before .before .before .before .before .has-line .result) (c .before .before .before .before .before .has-line .ensures) x (c .before .before .before .before .if1 .taken)) (cc)
 
 returns-2 : tie.Need-returns-2
-returns-2 c = let s = c .before .before .before .before .before .before in λ x. line-none (s .args .words .now) x (c .before .before .before .before .sized .ensures) lineCleared (s .args .irq) (line-absent (s .args .words .now) (c .before .before .line-count .result) (s .args .irq) (c .before .has-line .result) (c .before .before .line-count .ensures) (c .before .has-line .ensures) x (c .if1 .left))
+returns-2 c = let s = c .before .before .before .before .before in λ x. line-none (s .args .words .now) x (c .before .before .before .sized .ensures) lineCleared (s .args .irq) (line-absent (s .args .words .now) (s .args .irq) (c .before .has-line .result) (c .before .has-line .ensures) x (c .if1 .left))
 
 pub clear-pending-spec : {M : Type 1} → statement M
-clear-pending-spec = tie.close (tie.spec sized-requires line-count-requires has-line-requires add-at mul-line-of element-copy-out-line-of line-of-requires clear-pending-requires word-of-requires mul-words element-write-words returns returns-2)
+clear-pending-spec = tie.close (tie.spec sized-requires has-line-requires add-at mul-line-of element-copy-out-line-of line-of-requires clear-pending-requires word-of-requires mul-words element-write-words returns returns-2)

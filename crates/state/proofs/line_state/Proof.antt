@@ -7,9 +7,6 @@ use mathlib.Core.Path.{sym}
 use Rattle.state.proofs.line_state.Statement.{statement}
 use Rattle.state.proofs.line_state.Tie as tie
 
-line-count-requires : tie.Need-line-count-requires
-line-count-requires c κs = search needs
-
 has-line-requires : tie.Need-has-line-requires
 has-line-requires c κs = search needs
 
@@ -20,7 +17,7 @@ mul-line-of : tie.Need-mul-line-of
 mul-line-of c = search needs
 
 element-copy-out-line-of : tie.Need-element-copy-out-line-of
-element-copy-out-line-of c = let s = c .before .before .before in line-place (s .args .words .now) (c .before .before .line-count .result) (s .args .irq) (c .before .has-line .result) (c .before .before .line-count .ensures) (c .before .has-line .ensures) (c .if1 .taken)
+element-copy-out-line-of c = let s = c .before .before in line-place (s .args .words .now) (s .args .irq) (c .before .has-line .result) (c .before .has-line .ensures) (c .if1 .taken)
 
 line-of-requires : tie.Need-line-of-requires
 line-of-requires c κs = search needs
@@ -29,10 +26,10 @@ state-requires : tie.Need-state-requires
 state-requires c κs = search needs
 
 returns : tie.Need-returns
-returns c = let s = c .before .before .before .before .before .before in λ x. rw (line-read (s .args .words .now) x (s .args .irq) (line-there (s .args .words .now) (c .before .before .before .before .before .line-count .result) (s .args .irq) (c .before .before .before .before .has-line .result) (c .before .before .before .before .before .line-count .ensures) (c .before .before .before .before .has-line .ensures) x (c .before .before .before .if1 .taken))) (cc)
+returns c = let s = c .before .before .before .before .before in λ x. rw (line-read (s .args .words .now) x (s .args .irq) (line-there (s .args .words .now) (s .args .irq) (c .before .before .before .before .has-line .result) (c .before .before .before .before .has-line .ensures) x (c .before .before .before .if1 .taken))) (cc)
 
 returns-2 : tie.Need-returns-2
-returns-2 c = let s = c .before .before .before in λ x. sym (absent (view (s .args .words .now) x .nvic) (s .args .irq) (line-absent (s .args .words .now) (c .before .before .line-count .result) (s .args .irq) (c .before .has-line .result) (c .before .before .line-count .ensures) (c .before .has-line .ensures) x (c .if1 .left)))
+returns-2 c = let s = c .before .before in λ x. sym (absent (view (s .args .words .now) x .nvic) (s .args .irq) (line-absent (s .args .words .now) (s .args .irq) (c .before .has-line .result) (c .before .has-line .ensures) x (c .if1 .left)))
 
 pub line-state-spec : {M : Type 1} → statement M
-line-state-spec = tie.close (tie.spec line-count-requires has-line-requires add-line-of mul-line-of element-copy-out-line-of line-of-requires state-requires returns returns-2)
+line-state-spec = tie.close (tie.spec has-line-requires add-line-of mul-line-of element-copy-out-line-of line-of-requires state-requires returns returns-2)

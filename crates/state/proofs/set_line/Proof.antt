@@ -7,17 +7,12 @@ use Rattle.state.proofs.set_line.Tie as tie
 use Rattle.state.proofs.set_line.Reads as reads
 use Rattle.state.proofs.set_line.Lts as lts
 use Rattle.nvic.proofs.driven.Reads as driven-reads
-use Rattle.nvic.proofs.has_line.Reads as has-line-reads
-use Rattle.state.proofs.line_count.Reads as line-count-reads
+use Rattle.state.proofs.has_line.Reads as has-line-reads
 use Rattle.state.proofs.sized.Reads as sized-reads
 
 -- src/lib.rt:383:5
 sized-requires : tie.Need-sized-requires
 sized-requires c κs = search needs
-
--- src/lib.rt:384:9
-line-count-requires : tie.Need-line-count-requires
-line-count-requires c κs = search needs
 
 -- src/lib.rt:385:8
 has-line-requires : tie.Need-has-line-requires
@@ -34,7 +29,7 @@ mul-driven c = search needs
 -- src/lib.rt:387:34
 element-copy-out-driven : tie.Need-element-copy-out-driven
 element-copy-out-driven c =
-    line-place (c .before .before .before .before .before .before .args .words .now) (c .before .before .line-count .result) (c .before .before .before .before .before .before .args .irq) (c .before .has-line .result) (c .before .before .line-count .ensures) (c .before .has-line .ensures) (c .if1 .taken)
+    line-place (c .before .before .before .before .before .args .words .now) (c .before .before .before .before .before .args .irq) (c .before .has-line .result) (c .before .has-line .ensures) (c .if1 .taken)
 
 -- src/lib.rt:387:21
 driven-requires : tie.Need-driven-requires
@@ -47,24 +42,23 @@ mul-words c = search needs
 -- src/lib.rt:387:9
 element-write-words : tie.Need-element-write-words
 element-write-words c =
-    line-place (c .before .before .before .before .before .before .before .before .args .words .now) (c .before .before .before .before .line-count .result) (c .before .before .before .before .before .before .before .before .args .irq) (c .before .before .before .has-line .result) (c .before .before .before .before .line-count .ensures) (c .before .before .before .has-line .ensures) (c .before .before .if1 .taken)
+    line-place (c .before .before .before .before .before .before .before .args .words .now) (c .before .before .before .before .before .before .before .args .irq) (c .before .before .before .has-line .result) (c .before .before .before .has-line .ensures) (c .before .before .if1 .taken)
 
 -- src/lib.rt:380:1
 returns : tie.Need-returns
 returns c =
-    λ x. line-set (c .before .before .before .before .before .before .before .before .args .words .now) x (c .before .before .before .before .before .before .sized .ensures) (λ l. lineSet l (c .before .before .before .before .before .before .before .before .args .level)) (c .before .before .before .before .before .before .before .before .args .irq) (c .driven .result) (line-there (c .before .before .before .before .before .before .before .before .args .words .now) (c .before .before .before .before .line-count .result) (c .before .before .before .before .before .before .before .before .args .irq) (c .before .before .before .has-line .result) (c .before .before .before .before .line-count .ensures) (c .before .before .before .has-line .ensures) x (c .before .before .if1 .taken)) (c .driven .ensures)
+    λ x. line-set (c .before .before .before .before .before .before .before .args .words .now) x (c .before .before .before .before .before .sized .ensures) (λ l. lineSet l (c .before .before .before .before .before .before .before .args .level)) (c .before .before .before .before .before .before .before .args .irq) (c .driven .result) (line-there (c .before .before .before .before .before .before .before .args .words .now) (c .before .before .before .before .before .before .before .args .irq) (c .before .before .before .has-line .result) (c .before .before .before .has-line .ensures) x (c .before .before .if1 .taken)) (c .driven .ensures)
 
 -- src/lib.rt:380:1
 returns-2 : tie.Need-returns-2
 returns-2 c =
-    λ x. line-none (c .before .before .before .before .before .before .args .words .now) x (c .before .before .before .before .sized .ensures) (λ l. lineSet l (c .before .before .before .before .before .before .args .level)) (c .before .before .before .before .before .before .args .irq) (line-absent (c .before .before .before .before .before .before .args .words .now) (c .before .before .line-count .result) (c .before .before .before .before .before .before .args .irq) (c .before .has-line .result) (c .before .before .line-count .ensures) (c .before .has-line .ensures) x (c .if1 .left))
+    λ x. line-none (c .before .before .before .before .before .args .words .now) x (c .before .before .before .sized .ensures) (λ l. lineSet l (c .before .before .before .before .before .args .level)) (c .before .before .before .before .before .args .irq) (line-absent (c .before .before .before .before .before .args .words .now) (c .before .before .before .before .before .args .irq) (c .before .has-line .result) (c .before .has-line .ensures) x (c .if1 .left))
 
 pub set-line-spec : {M : Type 1} → statement M
 set-line-spec =
     tie.close
     (tie.spec
     sized-requires
-    line-count-requires
     has-line-requires
     add-at
     mul-driven

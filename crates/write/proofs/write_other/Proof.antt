@@ -1,7 +1,7 @@
 -- A compare, or any other register.
-use mathlib.Core.Path.{sym, _∙_}
 use native.Mathlib.Omega.{arith}
-use Rattle.write.proofs.Laws.{channel-lt, compare-gives}
+use mathlib.Core.Path.{sym, _∙_}
+use Rattle.write.proofs.Laws.{coded, coded-book, compare-gives}
 use borrow.Author.Needs.{needs}
 use Rattle.write.proofs.write_other.Statement.{statement}
 use Rattle.write.proofs.write_other.Tie as tie
@@ -9,19 +9,12 @@ use Rattle.write.proofs.write_other.Tie as tie
 is-compare-requires : tie.Need-is-compare-requires
 is-compare-requires c κs = search needs
 
-sub-ch : tie.Need-sub-ch
-sub-ch c =
-    let s = c .before .before .before .before .before in omega (arith, channel-lt (s .args .off) (sym (c .before .is-compare .ensures) ∙ c .if1 .taken) .0)
-
-cast-ch : tie.Need-cast-ch
-cast-ch c = search needs
-
 write-compare-requires : tie.Need-write-compare-requires
 write-compare-requires c κs =
-    let s = c .before .before .before .before .before .before .before .before .before .before in ((s .pre .0 .0, channel-lt (s .args .off) (sym (c .before .before .before .before .before .before .is-compare .ensures) ∙ c .before .before .before .before .before .if1 .taken) .1, omega (arith, s .pre .0 .1)), s .pre .1)
+    let s = c .before .before .before .before .before .before .before .before .before .before in ((s .pre .0 .0, (sym (c .before .before .before .before .before .before .is-compare .ensures) ∙ c .before .before .before .before .before .if1 .taken), omega (arith, s .pre .0 .1)), s .pre .1)
 
-cast-t13 : tie.Need-cast-t13
-cast-t13 c = omega (arith, c .before .before .before .before .before .before .write-compare .ensures .1)
+made-requires : tie.Need-made-requires
+made-requires c κs = c .before .before .before .before .before .before .write-compare .ensures .1
 
 same-length : tie.Need-same-length
 same-length c = search needs
@@ -34,7 +27,9 @@ same-length-3 c = search needs
 
 returns : tie.Need-returns
 returns c =
-    let s = c .before .before .before .before .before .before .before .before .before .before .before .before .before .before .before .before .before in compare-gives (s .args .words .now) (s .args .reals .now) (s .args .i) (s .args .off) (s .args .v) (s .args .cycle) (sym (c .before .before .before .before .before .before .before .before .before .before .before .before .before .is-compare .ensures) ∙ c .before .before .before .before .before .before .before .before .before .before .before .before .if1 .taken) _ _ _ _ _ _ _ _ _ (c .before .before .before .before .before .before .write-compare .ensures .0) (omega (arith, c .before .before .before .before .before .before .write-compare .ensures .1, s .pre .1 .0)) (omega (arith, c .before .before .before .before .before .before .write-compare .ensures .1, s .pre .1 .1)) (omega (arith, c .before .before .before .before .before .before .write-compare .ensures .1, s .pre .1 .2))
+    let s = c .before .before .before .before .before .before .before .before .before .before .before .before .before .before .before .before .before .before in
+    let m = compare-gives (s .args .words .now) (s .args .reals .now) (s .args .i) (s .args .off) (s .args .v) (s .args .cycle) (sym (c .before .before .before .before .before .before .before .before .before .before .before .before .before .before .is-compare .ensures) ∙ c .before .before .before .before .before .before .before .before .before .before .before .before .before .if1 .taken) _ _ _ _ _ _ _ _ _ (c .before .before .before .before .before .before .before .write-compare .ensures .0) (omega (arith, c .before .before .before .before .before .before .before .write-compare .ensures .1, s .pre .1 .0)) (omega (arith, c .before .before .before .before .before .before .before .write-compare .ensures .1, s .pre .1 .1)) (omega (arith, c .before .before .before .before .before .before .before .write-compare .ensures .1, s .pre .1 .2)) in
+    (coded _ _ _ _ _ _ _ (c .made .ensures) (m .0), coded-book _ _ _ _ _ _ _ _ _ (c .made .ensures) (m .1))
 
 write-timer-requires : tie.Need-write-timer-requires
 write-timer-requires c κs = search needs
@@ -56,10 +51,8 @@ write-other-spec =
     tie.close
     (tie.spec
     is-compare-requires
-    sub-ch
-    cast-ch
     write-compare-requires
-    cast-t13
+    made-requires
     same-length
     same-length-2
     same-length-3

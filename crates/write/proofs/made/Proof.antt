@@ -1,0 +1,19 @@
+-- The count stands in the high half.
+use native.Mathlib.Omega.{arith}
+use Rattle.write.proofs.Laws.{coding}
+use borrow.Author.Needs.{needs}
+use Rattle.write.proofs.made.Statement.{statement}
+use Rattle.write.proofs.made.Tie as tie
+
+mul-result : tie.Need-mul-result
+mul-result c = search needs
+
+returns : tie.Need-returns
+returns c = coding _
+
+pub made-spec : {M : Type 1} → statement M
+made-spec =
+    tie.close
+    (tie.spec
+    mul-result
+    returns)
