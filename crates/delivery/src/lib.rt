@@ -113,7 +113,8 @@ fn count_at(t: Timer, e: Next) -> u32
     }
 }
 
-// Drives the four channels of a timer that drives, at a count.
+// Drives the four channels of a timer that drives, at a count: outputs' `drive_outputs` over a timer by value. The second pair's levels
+// are looked at after the first pair is driven, so that they need not be kept.
 fn drive_four(
     words: &mut [u64; WORDS],
     reals: &mut [f64; REALS],
@@ -134,9 +135,9 @@ fn drive_four(
     let x = t.inst.channels;
     let l = t.output(0, cnt);
     let l1 = t.output(1, cnt);
+    let m = outputs::drive_two(words, reals, pins, levels, cycles, k, x, 0, s, l, l1, at);
     let l2 = t.output(2, cnt);
     let l3 = t.output(3, cnt);
-    let m = outputs::drive_two(words, reals, pins, levels, cycles, k, x, 0, s, l, l1, at);
     outputs::drive_two(
         words,
         reals,
