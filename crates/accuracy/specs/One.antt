@@ -17,7 +17,7 @@ use Rattle.tim.specs.declared.Timer.{Timer}
 use Rattle.tim.specs.declared.Next.{Next}
 use Rattle.tim.specs.declared.Next.the-variants.{Update, Compare}
 use Rattle.tim.specs.Timer.{isOutput, ccrAct}
-use Rattle.tim.specs.Next.{compareSteps, compares, ahead, nextSteps}
+use Rattle.tim.specs.Next.{compareSteps, compares, waiting, ahead, nextSteps}
 use Rattle.tim.specs.Change as C
 use Rattle.stepping.specs.Agrees.{next-best}
 use Rattle.gpio.specs.Gpio.{bit}
@@ -70,8 +70,7 @@ module _ (a : Aim) (t : Timer) (f : Fixed a t) where
   picked-at : (j : ℕ) → compares t j ≡ true → (t .count .cnt0 ≤ ccrAct t j) × (ccrAct t j ≤ a .reload)
   unfolding compares
   picked-at j e =
-      let d : Bool = getD (t .chan .«cc_done») j false in
-      let g : ahead t j ≡ true = both-right (isOutput t j) (ahead t j) (both-right (not d) (isOutput t j && ahead t j) e) in
+      let g : ahead t j ≡ true = both-right (waiting t j) (ahead t j) e in
       let lo : Bool = leb (t .count .cnt0) (ccrAct t j) in
       let hi : Bool = leb (ccrAct t j) (t .count .«arr_act») in
       let h : lo && hi ≡ true = rw (f .upward) at g in
@@ -94,8 +93,9 @@ module _ (t : Timer) (j : ℕ) where
   unfolding compares C.compared C.matched
   still-compares i e =
       let d : Bool = getD (set (t .chan .«cc_done») j true) i false in
-      let u = undone-before (t .chan .«cc_done») j i (not-true d (both-left (not d) (isOutput t i && ahead t i) e)) in
-      rw u (both-right (not d) (isOutput t i && ahead t i) e)
+      let w : not d && isOutput t i ≡ true = both-left (not d && isOutput t i) (ahead t i) e in
+      let u = undone-before (t .chan .«cc_done») j i (not-true d (both-left (not d) (isOutput t i) w)) in
+      rw (u, both-right (not d) (isOutput t i) w) (both-right (not d && isOutput t i) (ahead t i) e)
 
   compared-later : nextSteps t .steps ≤ nextSteps (C.compared t j) .steps
   unfolding C.compared C.matched

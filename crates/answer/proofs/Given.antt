@@ -9,12 +9,12 @@ use lib.ListN.{length}
 use lib.Dec.{eqb, ltb, leb}
 use borrow.Author.Tests.{eqb-true, ltb-true, ltb-false, leb-false, le-leb, lt-leb, not-true, not-false}
 use lib.Ieee.{Float}
-use Rattle.book.specs.Book.{Entry, Holds}
+use Rattle.book.specs.Book.{Holds}
 use Rattle.machine.specs.Board.{Board}
 use Rattle.machine.specs.Call.{Call, Outcome, refused}
 use Rattle.machine.specs.Step.{step, oddSize}
 use Rattle.machine.specs.Refusals.{refusals, ending, isDelivery, first, noSuchIndex, badSize, clockAstray, bookFull}
-use Rattle.machine.specs.NumberLaws.{Verdict, refuses, passes, performed, given, step-given, answered, performed-number, ending-cases}
+use Rattle.machine.specs.NumberLaws.{Verdict, refuses, passes, performed, step-given, answered, performed-number, ending-cases}
 use Rattle.state.specs.View.{view}
 use Rattle.answer.specs.declared.Answer.{Answer}
 use Rattle.answer.specs.Promise.{answer, Answers}

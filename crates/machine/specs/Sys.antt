@@ -1,12 +1,11 @@
 -- Pins, routing and outputs (sys.rs; document 01, "Output, signal, pin").
-use mathlib.Core.Bool.{Bool, true, false, cond, _&&_}
+use mathlib.Core.Bool.{Bool, cond, _&&_}
 use mathlib.Core.List.{List, [], _∷_}
 use Prim.Native.Nat.{ℕ, zero, suc, _+_}
 use lib.Dec.{eqb, ltb, leb}
 use lib.ListN.{replicate}
 use Rattle.tim.specs.declared.Timer.{Timer}
 use Rattle.tim.specs.Change.{output}
-use Rattle.words.specs.declared.Gpio.{Gpio}
 use Rattle.words.specs.declared.PinCfg.{PinCfg}
 use Rattle.sig.specs.Signal.{timSignal}
 use Rattle.pins.specs.declared.ExtDrive.{ExtDrive}

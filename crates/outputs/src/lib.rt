@@ -1,7 +1,6 @@
 // A timer's outputs over the lent state (tim.rs, drive_outputs): its channels' signals at their levels, and the changes into a book.
 use state::REALS;
 use state::WORDS;
-ghost use mathlib.Core.Path.{_≡_};
 ghost use Prim.Native.Nat.{_+_, _<_, _≤_};
 ghost use lib.ListN.{length};
 ghost use Rattle.gpio.specs.Gpio.{changeOf};

@@ -1,13 +1,13 @@
 -- What the view has at a place, of the words and the reals there. Assumes nothing.
 use mathlib.Core.Path.{_≡_, refl, ap, sym, _∙_}
-use mathlib.Core.Bool.{Bool, true, false, not, _&&_}
+use mathlib.Core.Bool.{Bool, true, false, not}
 use mathlib.Core.List.{List, [], _∷_, map}
 use Prim.Native.Nat.{ℕ, zero, suc, _+_, _*_, _%_, _<_, _≤_, min}
 use native.Mathlib.Nat.{add-zero, add-assoc}
 use native.Mathlib.Omega.{arith}
 use borrow.Author.Tests.{lt-ltb, le-ltb, ltb-true, ltb-false, eq-eqb, ne-eqb, eqb-true, eqb-false}
 use lib.Dec.{ltb, eqb, lit≤}
-use lib.ListN.{length, getD, drop, List·getD-map}
+use lib.ListN.{length, getD, drop}
 use lib.Seq.{getD-drop, getD-set-same}
 use lib.Ieee.{Float, nan}
 use Rattle.nvic.specs.Nvic.{lineOf, lineAt}

@@ -86,10 +86,10 @@ module _ (t : Timer) (now : ℕ) where
       ∙ go (not (getD (t .chan .«cc_done») ch false)) (isOutput t ch) h
     where
       go : (p q : Bool)
-          → (p && (q && isAhead (down t) (t .count .«arr_act») (t .count .cnt0) (ccrAct t ch)) ≡ true → ticksAt t now ≤ compareSteps t ch)
-          → nearer (p && (q && isAhead (down t) (t .count .«arr_act») (cntAt t now) (ccrAct t ch)))
+          → (p && q && isAhead (down t) (t .count .«arr_act») (t .count .cnt0) (ccrAct t ch) ≡ true → ticksAt t now ≤ compareSteps t ch)
+          → nearer (p && q && isAhead (down t) (t .count .«arr_act») (cntAt t now) (ccrAct t ch))
           (ticksAt t now + compareSteps (moved t now) ch) ch (later (ticksAt t now) b)
-          ≡ nearer (p && (q && isAhead (down t) (t .count .«arr_act») (t .count .cnt0) (ccrAct t ch))) (compareSteps t ch) ch (later (ticksAt t now) b)
+          ≡ nearer (p && q && isAhead (down t) (t .count .«arr_act») (t .count .cnt0) (ccrAct t ch)) (compareSteps t ch) ch (later (ticksAt t now) b)
       go false q h = refl
       go true false h = refl
       go true true h =

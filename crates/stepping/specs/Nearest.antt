@@ -1,32 +1,26 @@
 -- nextSteps as a list of channels considered, and so as RM0440's search; and what is true of the event it picks. Assumes nothing.
 use Prim.Native.Nat.{ℕ, suc, _+_, _-_, _*_, _≤_, _<_}
 use mathlib.Core.Path.{_≡_, refl, sym, _∙_}
-use mathlib.Core.Bool.{Bool, true, false, cond, not, _&&_}
+use mathlib.Core.Bool.{Bool, true, false, cond}
 use mathlib.Core.Logic.{_⊎_, inl, inr}
 use native.Mathlib.Omega.{arith}
 use native.Mathlib.Nat.{zero-add, eq-or-lt-of-le, le-refl, le-of-suc-le-suc}
 use lib.Dec.{ltb}
-use lib.ListN.{getD}
 use borrow.Author.Tests.{ltb-true, ltb-false}
 use Rattle.rm0440.specs.Event.{firstEvent}
 use Rattle.tim.specs.declared.Timer.{Timer}
 use Rattle.tim.specs.declared.Ahead.{Ahead}
 use Rattle.tim.specs.declared.Next.the-variants.{Update, Compare}
 use Rattle.tim.specs.declared.Due.the-variants.{At, Stopped}
-use Rattle.tim.specs.Timer.{down, isOutput}
-use Rattle.tim.specs.Next as N
+use Rattle.tim.specs.Timer.{down}
 use Rattle.tim.specs.Next.{updateSteps, compares, compareSteps, consider, nextSteps, nextEvent}
 use Rattle.stepping.specs.Reading.{channel, channels, ahead, Best}
 use Rattle.stepping.specs.Considered.{nearer, considerOne, considered, kept, updateIn, first-up, first-down}
 
-and-assoc : (a b c : Bool) → a && (b && c) ≡ a && b && c
-and-assoc true b c = refl
-and-assoc false b c = refl
-
 consider-one : (t : Timer) (ch : ℕ) (best : Ahead)
     → consider t ch best ≡ considerOne (down t) (t .count .«arr_act») (t .count .cnt0) 0 (channel t ch) ch best
 unfolding consider compares nearer
-consider-one t ch best = rw (and-assoc (not (getD (t .chan .«cc_done») ch false)) (isOutput t ch) (N.ahead t ch), zero-add (compareSteps t ch))
+consider-one t ch best = rw (zero-add (compareSteps t ch))
 
 -- the four channels, from the update on
 next-considered : (t : Timer)

@@ -1,30 +1,25 @@
 -- What the functions leave, over any board: each step's equation in, the definition's board out. Assumes nothing.
-use mathlib.Core.Path.{_≡_, refl, ap, sym, subst, _∙_}
-use mathlib.Core.Bool.{Bool, true, false, cond, _&&_}
+use mathlib.Core.Path.{_≡_, refl, ap, sym, _∙_}
+use mathlib.Core.Bool.{Bool, true, false, _&&_}
 use Prim.Native.Nat.{ℕ, suc, _+_, _-_, _≤_, _<_}
 use native.Mathlib.Nat.{sub-zero}
 use native.Mathlib.Omega.{arith}
 use mathlib.Core.List.{_++_}
-use lib.Dec.{eqb}
 use lib.Ieee.{Float}
 use lib.ListN.{length}
 use lib.Seq.{getD-set-same}
-use borrow.Author.Tests.{eq-eqb, ne-eqb, lt-ltb, le-ltb, lt-leb, le-leb}
-use Rattle.tim.specs.declared.Timer.{Timer}
-use Rattle.tim.specs.Change.{output}
-use Rattle.sig.specs.Signal.{timSignal}
-use Rattle.pins.specs.declared.ExtDrive.{ExtDrive}
+use borrow.Author.Tests.{eq-eqb, ne-eqb}
 use Rattle.words.specs.declared.Gpio.{Gpio}
 use Rattle.words.specs.declared.PinCfg.{PinCfg}
 use Rattle.gpio.specs.declared.Change.{Change}
 use Rattle.gpio.specs.declared.Change.the-variants.{Same}
 use Rattle.gpio.specs.declared.Moved.{Moved}
-use Rattle.gpio.specs.Gpio.{signalOf, drives, changed, updated, refreshed, isPushPull, pushPull, changeOf, configured, connected, bit}
+use Rattle.gpio.specs.Gpio.{signalOf, drives, changed, updated, refreshed, isPushPull, pushPull, configured}
 use Rattle.gpio.specs.Laws.{level-change, own-signal, signal-wins}
-use Rattle.machine.specs.Board.{Board, Pads, gpioAt, routeOf, levelOf, withPads, withGpio, withSigLevel, noPin, noGpio}
-use Rattle.machine.specs.Sys.{Move, Drive, updatePin, refreshPin, leave, take, selected, selectAf, setPin, drivePin, sigOut, driver, driveChannel, fourChannels, noChanges, driveOutputs, unrouted, resetPin, Resets, resetFrom, resetPins}
+use Rattle.machine.specs.Board.{Board, Pads, gpioAt, routeOf, levelOf, withPads, withGpio, withSigLevel, noGpio}
+use Rattle.machine.specs.Sys.{Move, updatePin, refreshPin, leave, take, selected, selectAf, sigOut, unrouted, resetPin, Resets, resetFrom, resetPins}
 use Rattle.machine.specs.Step.{changesOf}
-use Rattle.book.specs.Book.{Changes, Book, puts, entryOf, entriesOf}
+use Rattle.book.specs.Book.{Book, puts, entryOf}
 use Rattle.book.specs.Laws.{puts-append}
 use Rattle.sys.specs.Moves.{Moves, Reset}
 

@@ -1,10 +1,9 @@
 -- Bounds of what the timer's definitions give. Assumes nothing.
-use mathlib.Core.Path.{_≡_, refl, ap, sym, subst}
-use mathlib.Core.Bool.{Bool, true, false, cond, not, _&&_}
-use mathlib.Core.List.{List, [], _∷_}
+use mathlib.Core.Path.{_≡_, refl, ap, sym}
+use mathlib.Core.Bool.{Bool, true, false, cond, not}
+use mathlib.Core.List.{[], _∷_}
 use Prim.Native.Nat.{ℕ, _+_, _-_, _*_, _%_, _^_, _≤_, _<_}
 use lib.Dec.{ltb, leb, eqb}
-use lib.ListN.{getD}
 use native.Mathlib.Omega.{arith}
 use native.Mathlib.Nat.{add-zero, le-refl, le-trans, mul-le-mul, mod-lt}
 use borrow.Author.Tests.{eq-eqb, ne-eqb, lt-ltb, le-ltb, ltb-true, leb-true, leb-false, eqb-true, eqb-false}
@@ -16,7 +15,7 @@ use Rattle.tim.specs.declared.Due.the-variants.{At, Stopped}
 use Rattle.rm0440.specs.Bits.{UDIS}
 use Rattle.rm0440.specs.Update.{shadow}
 use Rattle.rm0440.specs.Output as Out
-use Rattle.tim.specs.Timer.{down, isOutput, Fit}
+use Rattle.tim.specs.Timer.{down, Fit}
 use Rattle.tim.specs.Change.{reloaded, loaded, withFlag, UIF}
 use Rattle.tim.specs.Next.{updateSteps, ahead, waiting, compares, compareSteps, nearer, consider, nextSteps, nextEvent}
 
@@ -77,31 +76,18 @@ odd x h = go (eqb (x % 2) 1) refl
 pub four : {a b c d a′ b′ c′ d′ : Bool} → a ≡ a′ → b ≡ b′ → c ≡ c′ → d ≡ d′ → (a ∷ b ∷ c ∷ d ∷ []) ≡ (a′ ∷ b′ ∷ c′ ∷ d′ ∷ [])
 four p q r s = rw (p, q, r, s)
 
-never : false ≡ true → ⊥
-never h = subst (λ (b : Bool). cond b ⊥ (Unit {0})) h tt
-
 -- ---- the compares that can be next
 
 -- a channel that is done, or no output, changes nothing
 pub shut : (t : Timer) (ch : ℕ) (best : Ahead) → waiting t ch ≡ false → consider t ch best ≡ best
 unfolding consider compares
-shut t ch best h = rw (closed (getD (t .chan .«cc_done») ch false) (isOutput t ch) (ahead t ch) h)
-  where
-    closed : (d o a : Bool) → (not d && o) ≡ false → (not d && (o && a)) ≡ false
-    closed true o a h = refl
-    closed false false a h = refl
-    closed false true a h = absurd (never (sym h))
+shut t ch best h = rw h
 
 -- any other counts if its compare lies ahead
 pub opened : (t : Timer) (ch : ℕ) (best : Ahead) → waiting t ch ≡ true
     → consider t ch best ≡ cond (ahead t ch) (nearer (compareSteps t ch) ch best) best
 unfolding consider compares
-opened t ch best h = rw (clear (getD (t .chan .«cc_done») ch false) (isOutput t ch) (ahead t ch) h)
-  where
-    clear : (d o a : Bool) → (not d && o) ≡ true → (not d && (o && a)) ≡ a
-    clear false true a h = refl
-    clear false false a h = absurd (never h)
-    clear true o a h = absurd (never h)
+opened t ch best h = rw h
 
 -- ---- the output reference
 

@@ -1,11 +1,10 @@
 -- The next event (document 01, "Events due"; the Rust's next_event).
-use mathlib.Core.Bool.{Bool, true, false, cond, not, _&&_}
+use mathlib.Core.Bool.{Bool, false, cond, not, _&&_}
 use Prim.Native.Nat.{ℕ, _+_, _-_, _*_}
 use lib.Dec.{ltb, leb}
 use lib.ListN.{getD}
 use Rattle.tim.specs.declared.Timer.{Timer}
 use Rattle.tim.specs.declared.Ahead.{Ahead}
-use Rattle.tim.specs.declared.Next.{Next}
 use Rattle.tim.specs.declared.Next.the-variants.{Update, Compare}
 use Rattle.tim.specs.declared.Due.{Due}
 use Rattle.tim.specs.declared.Due.the-variants.{At, Stopped}
@@ -15,17 +14,18 @@ use Rattle.tim.specs.Timer.{down, isOutput, ccrAct}
 abbrev pub updateSteps : Timer → ℕ
 updateSteps t = cond (down t) (t .count .cnt0 + 1) (t .count .«arr_act» + 1 - t .count .cnt0)
 
--- channel ch still compares in this period: an output, not done, and its compare ahead of the counter
+-- channel ch's compare is ahead of the counter: downward at or below it, upward from it to the reload
 abbrev pub ahead : Timer → ℕ → Bool
 ahead t ch =
     cond (down t) (leb (ccrAct t ch) (t .count .cnt0)) (leb (t .count .cnt0) (ccrAct t ch) && leb (ccrAct t ch) (t .count .«arr_act»))
 
--- an output that is not done
+-- an output that is not done in this period
 abbrev pub waiting : Timer → ℕ → Bool
 waiting t ch = not (getD (t .chan .«cc_done») ch false) && isOutput t ch
 
+-- channel ch still compares in this period: such an output, and its compare ahead of the counter
 unfoldable pub compares : Timer → ℕ → Bool
-compares t ch = not (getD (t .chan .«cc_done») ch false) && (isOutput t ch && ahead t ch)
+compares t ch = waiting t ch && ahead t ch
 
 -- steps to channel ch's compare
 abbrev pub compareSteps : Timer → ℕ → ℕ

@@ -65,7 +65,7 @@ fn counter_astray(off: u32, t: Timer) -> bool
     false
 }
 
-// Drives timer i's outputs at a count, and writes their changes to the book from place 0 on.
+// If `on`, drives timer i's outputs at a count, and writes their changes to the book from place 0 on.
 fn drive(
     words: &mut [u64; WORDS],
     reals: &mut [f64; REALS],
@@ -152,7 +152,9 @@ fn answer_of(code: u64) -> Answer
     }
 }
 
-// A write of the value v to register off, not CR1.
+// ---- a register by way of the whole timer
+
+// A write of the value v to register off, not CR1: refused with 7, or served.
 fn write_timer(
     words: &mut [u64; WORDS],
     reals: &mut [f64; REALS],

@@ -4,11 +4,6 @@ use Rattle.state.proofs.Stores.{line-none, line-set}
 use borrow.Author.Needs.{needs}
 use Rattle.state.proofs.set_line.Statement.{statement}
 use Rattle.state.proofs.set_line.Tie as tie
-use Rattle.state.proofs.set_line.Reads as reads
-use Rattle.state.proofs.set_line.Lts as lts
-use Rattle.nvic.proofs.driven.Reads as driven-reads
-use Rattle.state.proofs.has_line.Reads as has-line-reads
-use Rattle.state.proofs.sized.Reads as sized-reads
 
 -- src/lib.rt:383:5
 sized-requires : tie.Need-sized-requires

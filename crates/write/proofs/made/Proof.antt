@@ -1,5 +1,4 @@
 -- The count stands in the high half.
-use native.Mathlib.Omega.{arith}
 use Rattle.write.proofs.Laws.{coding}
 use borrow.Author.Needs.{needs}
 use Rattle.write.proofs.made.Statement.{statement}
