@@ -1,20 +1,20 @@
 -- A call's answer, from the first number that applies. Assumes nothing.
 use mathlib.Core.Path.{_≡_, refl, ap, sym, _∙_}
 use mathlib.Core.Bool.{Bool, true, false, cond, not, _||_, false≢true}
-use mathlib.Core.List.{List, [], _∷_}
+use mathlib.Core.List.{List, [], _∷_, _++_}
 use mathlib.Core.Logic.{_⊎_, inl, inr}
 use Prim.Native.Nat.{ℕ, _≤_, _<_}
 use native.Mathlib.Omega.{arith}
 use lib.ListN.{length}
 use lib.Dec.{eqb, ltb, leb}
-use borrow.Author.Tests.{eqb-true, ltb-true, ltb-false, leb-false, le-leb, lt-leb, not-true, not-false}
+use borrow.Author.Tests.{eqb-true, lt-ltb, le-ltb, ltb-true, ltb-false, leb-false, le-leb, lt-leb, not-true, not-false}
 use lib.Ieee.{Float}
 use Rattle.book.specs.Book.{Holds}
 use Rattle.machine.specs.Board.{Board}
 use Rattle.machine.specs.Call.{Call, Outcome, refused}
 use Rattle.machine.specs.Step.{step, oddSize}
-use Rattle.machine.specs.Refusals.{refusals, ending, isDelivery, first, noSuchIndex, badSize, clockAstray, bookFull}
-use Rattle.machine.specs.NumberLaws.{Verdict, refuses, passes, performed, step-given, answered, performed-number, ending-cases}
+use Rattle.machine.specs.Refusals.{Refusal, _when_, refusals, ending, isDelivery, first, rises, noSuchIndex, badSize, clockAstray, bookFull}
+use Rattle.machine.specs.NumberLaws.{both, Verdict, refuses, passes, performed, step-given, answered, performed-number, ending-cases}
 use Rattle.state.specs.View.{view}
 use Rattle.answer.specs.declared.Answer.{Answer}
 use Rattle.answer.specs.Promise.{answer, Answers}
@@ -139,28 +139,27 @@ pub timer-passed : (b : Board) (index count size cycle : ℕ)
 unfolding first
 timer-passed b index count size cycle h = passed b index count size cycle 0 0 h
 
--- ---- a timer's call with a book: the first three tests, then the book's
-module _ (b : Board) (index count size cycle places n : ℕ)
-    (h : n ≡ first (noSuchIndex index count ∷ badSize size ∷ clockAstray b cycle ∷ [])) where
-  abbrev four : ℕ
-  four = first (noSuchIndex index count ∷ badSize size ∷ clockAstray b cycle ∷ bookFull 4 places ∷ [])
+-- ---- a list of tests made longer
 
-  pub refused-before : (n ≡ 0 → ⊥) → n ≡ four
-  unfolding first
-  refused-before z = go (leb count index) (oddSize size) (ltb 4611686018427387904 cycle || ltb cycle (b .counts .last)) h
-    where
-      go : (t u v : Bool) → n ≡ cond t 2 (cond u 3 (cond v 5 0)) → n ≡ cond t 2 (cond u 3 (cond v 5 (cond (ltb places 4) 6 0)))
-      go true u v e = e
-      go false true v e = e
-      go false false true e = e
-      go false false false e = absurd (z e)
+-- one of the front applies: it is the first of all
+pub first-front : (rs more : List Refusal) → (first rs ≡ 0 → ⊥) → first rs ≡ first (rs ++ more)
+unfolding first
+first-front [] more z = absurd (z refl)
+first-front ((n when true) ∷ rs) more z = refl
+first-front ((n when false) ∷ rs) more z = first-front rs more z
 
-  pub left-to-book : n ≡ 0 → _≡_ {A = ℕ} (cond (ltb places 4) 6 0) four
-  unfolding first
-  left-to-book z = go (leb count index) (oddSize size) (ltb 4611686018427387904 cycle || ltb cycle (b .counts .last)) (sym z ∙ h)
-    where
-      go : (t u v : Bool) → _≡_ {A = ℕ} 0 (cond t 2 (cond u 3 (cond v 5 0))) → _≡_ {A = ℕ} (cond (ltb places 4) 6 0) (cond t 2 (cond u 3 (cond v 5 (cond (ltb places 4) 6 0))))
-      go true u v e = absurd (omega (arith, e))
-      go false true v e = absurd (omega (arith, e))
-      go false false true e = absurd (omega (arith, e))
-      go false false false e = refl
+-- none does: the rest decides
+pub first-rest : (low : ℕ) (rs more : List Refusal) → rises low rs ≡ true → first rs ≡ 0 → first more ≡ first (rs ++ more)
+unfolding first rises
+first-rest low [] more r h = refl
+first-rest low ((n when true) ∷ rs) more r h = absurd (omega (arith, ltb-true low n (both (ltb low n) _ r .0), h))
+first-rest low ((n when false) ∷ rs) more r h = first-rest n rs more (both (leb n 7) _ (both (ltb low n) _ r .1) .1) h
+
+-- the book's own test
+pub book-full : (places : ℕ) → places < 4 → 6 ≡ first (bookFull 4 places ∷ [])
+unfolding first
+book-full places h = rw (lt-ltb places 4 h)
+
+pub book-fits : (places : ℕ) → 4 ≤ places → 0 ≡ first (bookFull 4 places ∷ [])
+unfolding first
+book-fits places h = rw (le-ltb places 4 h)

@@ -117,7 +117,7 @@ pub fn inst(words: &[u64; WORDS], i: usize) -> Inst
     }
 }
 
-// The number of timer i's enable word.
+// The number of timer i's enable word, as an index: the gate looks at it in every call.
 pub fn en_reg(words: &[u64; WORDS], i: usize) -> usize
     requires { ⌜ i < 8 ⌝ }
     ensures { λ r. ⌜ ((x : List Float) → r ≡ timerAt (view (now (words .entry)) x) i .inst .«en_reg») ⌝ }

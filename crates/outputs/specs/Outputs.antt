@@ -13,7 +13,7 @@ pub record Driven (d : Drive) (at : ℕ) (b b₁ : Board) (k k₁ : Book) : Type
   pub board : b₁ ≡ withPads b (d .pads)
   pub entries : k₁ ≡ puts k (entriesOf at (d .changes))
 
--- machine's driveChannel with the level as a number: signal s of channel ch at a level, if the timer has the channel
+-- machine's driveChannel where the level is known: signal s of channel ch at it, if the timer has the channel
 unfoldable pub levelDriven : ℕ → ℕ → ℕ → Bool → Pads → Move
 levelDriven channels ch s l p = cond (ltb ch channels) (sigOut p s (bit l)) (still p)
 

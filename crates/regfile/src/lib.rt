@@ -21,7 +21,7 @@ ghost use Rattle.regfile.specs.Steady.{steady};
 
 // ---- registers that a write stores and no more
 
-// DIER or SR: the interrupt line follows them.
+// DIER or SR: the interrupt line follows them. SR is asked for first: DIER then goes straight through.
 pub fn write_flags(words: &mut [u64; WORDS], i: usize, off: u32, v: u32)
     requires { ⌜ (i < 8) × (lines off ≡ true) ⌝ }
     ensures { λ _. ⌜ ((x : List Float) → view (now (words .exit)) x ≡ withTimer (view (now (words .entry)) x) i (withRegs (timerAt (view (now (words .entry)) x) i) (plainRegs ((timerAt (view (now (words .entry)) x) i) .regs) off v))) ⌝ }

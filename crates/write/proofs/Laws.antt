@@ -4,7 +4,7 @@ use mathlib.Core.Bool.{Bool, true, false, cond, not, _&&_, _||_, false≢true}
 use mathlib.Core.List.{List, [], _∷_}
 use Prim.Native.Nat.{ℕ, _*_, _/_, _%_, _≤_, _<_}
 use native.Mathlib.Omega.{arith}
-use lib.Dec.{leb, ltb, eqb}
+use lib.Dec.{leb, eqb}
 use borrow.Author.Tests.{eq-eqb, ne-eqb, eqb-true, leb-true, not-true, not-false}
 use lib.Ieee.{Float}
 use lib.ListN.{length}
@@ -24,8 +24,8 @@ use Rattle.machine.specs.Board.{Board, timerAt, withTimer, withPads, withLast}
 use Rattle.machine.specs.Sys.{driveOutputs}
 use Rattle.machine.specs.Deliver.{dividerOf, lineSettled, rebooked}
 use Rattle.machine.specs.Call.{Call, Outcome, write, served}
-use Rattle.machine.specs.Step.{step, refuseIf, oddSize, astray, clockOn, register, present, written, counterAstray, followed}
-use Rattle.machine.specs.Refusals.{refusals, first}
+use Rattle.machine.specs.Step.{step, refuseIf, astray, clockOn, register, present, written, counterAstray, followed}
+use Rattle.machine.specs.Refusals.{Refusal, refusals, first, rises}
 use Rattle.machine.specs.Refusals as Refusals
 use Rattle.state.specs.Board.{withInst}
 use Rattle.state.specs.View.{view}
@@ -34,7 +34,8 @@ use Rattle.rcc.proofs.Laws.{stored-there}
 use Rattle.outputs.specs.Outputs as O
 use Rattle.answer.specs.declared.Answer.{Answer}
 use Rattle.answer.specs.Promise.{answer, Answers}
-use Rattle.answer.proofs.Given.{away, gives, turns-away, turns-away-book, unbooked}
+use Rattle.machine.specs.NumberLaws.{Verdict, refuses, passes, given, verdict}
+use Rattle.answer.proofs.Given.{first-front, away, gives, turns-away, turns-away-book, unbooked}
 use Rattle.mmio.specs.Leaves.{Leaves}
 use Rattle.mmio.proofs.Laws.{asked}
 use Rattle.regfile.specs.Plain.{plain, lines, plainRegs, plainly}
@@ -374,18 +375,13 @@ module _ (w : List ℕ) (x : List Float) (timer offset size value cycle room num
   abbrev writing : Call
   writing = write timer offset size value cycle room
 
+  abbrev tests : List Refusal
+  tests = Refusals.noSuchIndex timer (view w x .counts .timers) ∷ Refusals.badSize size ∷ Refusals.clockAstray (view w x) cycle ∷ Refusals.bookFull 4 room ∷ []
+
   -- the first four tests refuse
   refusing : (num ≡ 0 → ⊥) → num ≡ first (refusals (view w x) writing)
-  unfolding first refusals
-  refusing z = go (leb (view w x .counts .timers) timer) (oddSize size) (astray (view w x) cycle) (ltb room 4) h
-    where
-      go : (t u v y : Bool) → num ≡ cond t 2 (cond u 3 (cond v 5 (cond y 6 0)))
-          → num ≡ cond t 2 (cond u 3 (cond v 5 (cond y 6 (first (Refusals.counterAstray (view w x) timer offset size value cycle ∷ [])))))
-      go true u v y p = p
-      go false true v y p = p
-      go false false true y p = p
-      go false false false true p = p
-      go false false false false p = absurd (z p)
+  unfolding refusals
+  refusing z = h ∙ first-front tests (Refusals.counterAstray (view w x) timer offset size value cycle ∷ []) (λ e. z (h ∙ e))
 
   pub write-away : (num ≡ 0 → ⊥) → (r : Answer) → r ≡ answer num 0 0 → Answers (step (view w x) writing) r w w x x
   write-away z r a = turns-away w x writing num r (refusing z) z a
@@ -396,18 +392,12 @@ module _ (w : List ℕ) (x : List Float) (timer offset size value cycle room num
   module _ (z : num ≡ 0) (on : Bool) (gate : on ≡ clockOn (view w x) (timerAt (view w x) timer)) where
     -- the four tests pass: the gate, and what is below it
     pub write-gated : step (view w x) writing ≡ cond on (writtenOn (view w x) timer offset size value cycle) (served 0 (withLast (view w x) cycle))
-    unfolding step first written writtenBy
-    write-gated =
-        rw gate
-        (go (leb (view w x .counts .timers) timer) (oddSize size) (astray (view w x) cycle) (ltb room 4) _ (sym z ∙ h))
+    unfolding step given rises written writtenBy
+    write-gated = rw gate (go _ (verdict 0 tests (view w x) _ refl))
       where
-        go : (t u v y : Bool) (o : Outcome) → _≡_ {A = ℕ} 0 (cond t 2 (cond u 3 (cond v 5 (cond y 6 0))))
-            → refuseIf t 2 (view w x) (refuseIf u 3 (view w x) (refuseIf v 5 (view w x) (refuseIf y 6 (view w x) o))) ≡ o
-        go true u v y o p = absurd (omega (arith, p))
-        go false true v y o p = absurd (omega (arith, p))
-        go false false true y o p = absurd (omega (arith, p))
-        go false false false true o p = absurd (omega (arith, p))
-        go false false false false o p = refl
+        go : (o : Outcome) → Verdict tests (view w x) o → given tests (view w x) o ≡ o
+        go o (refuses n l u f a g) = absurd (omega (arith, sym f ∙ sym h ∙ z))
+        go o (passes f a g) = g
 
     pub write-below : on ≡ true → (r : Answer) (w₁ : List ℕ) (x₁ : List Float) → Answers (writtenOn (view w x) timer offset size value cycle) r w w₁ x x₁
         → Answers (step (view w x) writing) r w w₁ x x₁

@@ -1,12 +1,11 @@
 -- The first three tests, then the book's.
-use mathlib.Core.Path.{sym, ap, _∙_}
-use mathlib.Core.Bool.{Bool, cond}
-use Prim.Native.Nat.{ℕ}
-use lib.Dec.{ltb}
-use borrow.Author.Tests.{lt-ltb, le-ltb}
+use mathlib.Core.Path.{refl, sym, _∙_}
+use mathlib.Core.List.{[], _∷_}
+use native.Mathlib.Omega.{arith}
 use Rattle.book.specs.Book.{places}
+use Rattle.machine.specs.Refusals.{noSuchIndex, badSize, clockAstray, bookFull, rises}
 use Rattle.state.specs.View.{view}
-use Rattle.answer.proofs.Given.{refused-before, left-to-book}
+use Rattle.answer.proofs.Given.{first-front, first-rest, book-full, book-fits}
 use borrow.Author.Needs.{needs}
 use Rattle.answer.proofs.book_refusal.Statement.{statement}
 use Rattle.answer.proofs.book_refusal.Tie as tie
@@ -17,22 +16,25 @@ timer-refusal-requires c κs = search needs
 returns : tie.Need-returns
 returns c =
     let s = c .before .before .before .before .before in
-    λ x. refused-before (view (s .args .words .now) x) (s .args .index) (view (s .args .words .now) x .counts .timers) (s .args .size) (s .args .cycle) (places (s .args .pins .now) (s .args .levels .now) (s .args .cycles .now)) _ (c .before .timer-refusal .ensures x) (c .if1 .taken)
+    λ x. let h = c .before .timer-refusal .ensures x in
+    h ∙ first-front (noSuchIndex (s .args .index) (view (s .args .words .now) x .counts .timers) ∷ badSize (s .args .size) ∷ clockAstray (view (s .args .words .now) x) (s .args .cycle) ∷ []) (bookFull 4 (places (s .args .pins .now) (s .args .levels .now) (s .args .cycles .now)) ∷ []) (λ e. c .if1 .taken (h ∙ e))
 
 room-requires : tie.Need-room-requires
 room-requires c κs = search needs
 
 returns-2 : tie.Need-returns-2
+unfolding rises
 returns-2 c =
     let s = c .before .before .before .before .before .before .before in
-    λ x. ap (λ (b : Bool). cond {A = ℕ} b 6 0) (sym (ap (λ (k : ℕ). ltb k 4) (sym (c .before .room .ensures)) ∙ lt-ltb _ _ (c .if2 .taken)))
-    ∙ left-to-book (view (s .args .words .now) x) (s .args .index) (view (s .args .words .now) x .counts .timers) (s .args .size) (s .args .cycle) (places (s .args .pins .now) (s .args .levels .now) (s .args .cycles .now)) _ (c .before .before .before .timer-refusal .ensures x) (c .before .before .if1 .left)
+    λ x. book-full (places (s .args .pins .now) (s .args .levels .now) (s .args .cycles .now)) (omega (arith, c .before .room .ensures, c .if2 .taken))
+    ∙ first-rest 0 (noSuchIndex (s .args .index) (view (s .args .words .now) x .counts .timers) ∷ badSize (s .args .size) ∷ clockAstray (view (s .args .words .now) x) (s .args .cycle) ∷ []) (bookFull 4 (places (s .args .pins .now) (s .args .levels .now) (s .args .cycles .now)) ∷ []) refl (sym (c .before .before .before .timer-refusal .ensures x) ∙ c .before .before .if1 .left)
 
 returns-3 : tie.Need-returns-3
+unfolding rises
 returns-3 c =
     let s = c .before .before .before .before .before .before .before in
-    λ x. ap (λ (b : Bool). cond {A = ℕ} b 6 0) (sym (ap (λ (k : ℕ). ltb k 4) (sym (c .before .room .ensures)) ∙ le-ltb _ _ (c .if2 .left)))
-    ∙ left-to-book (view (s .args .words .now) x) (s .args .index) (view (s .args .words .now) x .counts .timers) (s .args .size) (s .args .cycle) (places (s .args .pins .now) (s .args .levels .now) (s .args .cycles .now)) _ (c .before .before .before .timer-refusal .ensures x) (c .before .before .if1 .left)
+    λ x. book-fits (places (s .args .pins .now) (s .args .levels .now) (s .args .cycles .now)) (omega (arith, c .before .room .ensures, c .if2 .left))
+    ∙ first-rest 0 (noSuchIndex (s .args .index) (view (s .args .words .now) x .counts .timers) ∷ badSize (s .args .size) ∷ clockAstray (view (s .args .words .now) x) (s .args .cycle) ∷ []) (bookFull 4 (places (s .args .pins .now) (s .args .levels .now) (s .args .cycles .now)) ∷ []) refl (sym (c .before .before .before .timer-refusal .ensures x) ∙ c .before .before .if1 .left)
 
 pub book-refusal-spec : {M : Type 1} → statement M
 book-refusal-spec = tie.close (tie.spec timer-refusal-requires returns room-requires returns-2 returns-3)
