@@ -14,7 +14,7 @@ use Rattle.machine.specs.Board.{Board}
 use Rattle.machine.specs.Call.{Call, Outcome, refused}
 use Rattle.machine.specs.Step.{step, oddSize}
 use Rattle.machine.specs.Refusals.{Refusal, _when_, refusals, ending, isDelivery, first, rises, noSuchIndex, badSize, clockAstray, bookFull}
-use Rattle.machine.specs.NumberLaws.{both, Verdict, refuses, passes, performed, step-given, answered, performed-number, ending-cases}
+use Rattle.machine.proofs.NumberLaws.{both, Verdict, refuses, passes, performed, step-given, answered, performed-number, ending-cases}
 use Rattle.state.specs.View.{view}
 use Rattle.answer.specs.declared.Answer.{Answer}
 use Rattle.answer.specs.Promise.{answer, Answers}

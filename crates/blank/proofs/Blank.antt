@@ -19,10 +19,11 @@ use Rattle.sig.specs.Signal.{isUart, idleLevel}
 use Rattle.codec.specs.Codec.{decodeTimer}
 use Rattle.words.specs.Codec.{decodeGpio, extOf}
 use Rattle.state.specs.Board.{Divided, withVcc, withTree, withClock}
-use Rattle.state.specs.Parts.{start, parts, blocks, listed, repeated, length-listed, listed-at, repeated-at, listed-ext, all-one, map-listed, map-at, front-at, front-filler, parts-whole, parts-filler, paste-all, block-front, length-blocks, part-at, length-part}
+use Rattle.state.specs.Parts.{start, parts, blocks, listed, repeated}
+use Rattle.state.proofs.Cut.{length-listed, listed-at, repeated-at, listed-ext, all-one, map-listed, map-at, front-at, front-filler, parts-whole, parts-filler, paste-all, block-front, length-blocks, part-at, length-part}
 use Rattle.state.specs.View.{sizes, realSizes, view, gpiosOf, signalOf, pinOf, levelOf, enableOf}
 use Rattle.blank.specs.Fresh.{blankGpio, freshBoard, blankParts}
-use Rattle.state.specs.Bounded.{length-gpios}
+use Rattle.state.proofs.InRange.{length-gpios}
 use Rattle.state.proofs.Places.{gpios-at}
 
 -- one step of a loop that stores f 0, f 1, ..

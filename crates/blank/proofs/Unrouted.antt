@@ -12,7 +12,8 @@ use native.Mathlib.Numerals.{add-one}
 use Rattle.sig.specs.Signal.{isUart, idleLevel}
 use Rattle.machine.specs.Board.{withPads, idleLevels}
 use Rattle.machine.specs.Sys.{unrouted}
-use Rattle.state.specs.Parts.{start, parts, listed, repeated, length-listed, map-listed, parts-whole}
+use Rattle.state.specs.Parts.{start, parts, listed, repeated}
+use Rattle.state.proofs.Cut.{length-listed, map-listed, parts-whole}
 use Rattle.state.specs.View.{sizes, realSizes, view, boardOf, pinOf, levelOf}
 
 pub alike : {A : Type 0} (a : A) (k n : ℕ) → listed (λ j. a) k n ≡ replicate n a

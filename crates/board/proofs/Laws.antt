@@ -10,7 +10,7 @@ use Rattle.real.specs.Real.{positive}
 use Rattle.machine.specs.Board.{Board}
 use Rattle.machine.specs.Call.{Setup, Outcome, setUp}
 use Rattle.machine.specs.Step.{step, withinLimits}
-use Rattle.machine.specs.NumberLaws.{either}
+use Rattle.machine.proofs.NumberLaws.{either}
 use Rattle.state.specs.View.{view}
 use Rattle.setup.specs.Setup.{Answered}
 use Rattle.answer.specs.declared.Answer.{Answer}

@@ -16,8 +16,8 @@ use Rattle.machine.specs.Board.{Board}
 use Rattle.machine.specs.Call.{Call, Outcome, Setup, setUp, clockTree, enable, setPin, drivePin, resetPins, read, write, peek, resetTimer, deliver, queryBooked, queryNext, queryLevel, queryVolts, queryLine, queryTime, clearPending}
 use Rattle.machine.specs.Step.{step, withinLimits}
 use Rattle.machine.specs.Refusals.{lent}
-use Rattle.machine.specs.NumberLaws.{either}
-use Rattle.machine.specs.Numbers.{entries-fit}
+use Rattle.machine.proofs.NumberLaws.{either}
+use Rattle.machine.proofs.Numbers.{entries-fit}
 use Rattle.state.specs.View.{view}
 use Rattle.pads.specs.Ext.{extOf}
 use Rattle.setup.specs.Setup.{setupOf, Answered}

@@ -11,13 +11,13 @@ use lib.ListN.{length, take, drop, set, length-map, length-append, length-drop, 
 use lib.Seq.{sets, sets-eq, drop-drop, drop-append-le, length-take-le, take-all}
 use borrow.Author.Tests.{ltb-false, leb-true, eqb-false}
 use Rattle.book.specs.Book.{Entry, Book, book, puts, put, places, over, Holds}
-use Rattle.book.specs.Laws.{puts-append, holds}
+use Rattle.book.proofs.Laws.{puts-append, holds}
 use Rattle.machine.specs.Board.{Board}
 use Rattle.machine.specs.Call.{Call, Outcome}
 use Rattle.machine.specs.Step.{step, run, boardAfter}
 use Rattle.machine.specs.Refusals.{lent}
-use Rattle.machine.specs.NumberLaws.{either}
-use Rattle.machine.specs.Numbers.{entries-fit}
+use Rattle.machine.proofs.NumberLaws.{either}
+use Rattle.machine.proofs.Numbers.{entries-fit}
 use Rattle.state.specs.View.{view}
 use Rattle.accuracy.specs.Claim.{joined}
 use Rattle.answer.specs.declared.Answer.{Answer}

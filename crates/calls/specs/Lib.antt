@@ -1,4 +1,2 @@
 pub mod Taken
-pub mod TakenLaws
 pub mod Recorded
-pub mod Figures

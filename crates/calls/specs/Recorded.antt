@@ -12,10 +12,10 @@ use Rattle.machine.specs.Call.{Call, write}
 use Rattle.machine.specs.Step.{step, run, boardAfter}
 use Rattle.state.specs.View.{view}
 use Rattle.accuracy.specs.Claim.{Pilot, Steady, Window, Within, board₁, joined, levelAt, highs, periodOf, highOf}
-use Rattle.accuracy.specs.Accurate.{accurate}
+use Rattle.accuracy.proofs.Accurate.{accurate}
 use Rattle.calls.specs.declared.Ran.{Ran}
 use Rattle.calls.specs.Taken.{callsOf, taken, Runs}
-use Rattle.calls.specs.TakenLaws.{taken-first, lentAll, taken-all}
+use Rattle.calls.proofs.TakenLaws.{taken-first, lentAll, taken-all}
 
 -- ---- a run of run_calls: what it was lent, what it left there (₁), what it returned
 

@@ -1,2 +1,1 @@
 pub mod Clk
-pub mod Laws

@@ -22,9 +22,9 @@ use Rattle.tim.specs.Next.{nextEvent, nextSteps, consider, compares, compareSte
 use Rattle.tim.proofs.Fit.{either, fit-updated, fit-compared}
 use Rattle.tim.proofs.Fixed.{inst-updated, inst-compared}
 use Rattle.book.specs.Book.{Entry, Book, book, put, puts, entriesOf}
-use Rattle.book.specs.Laws.{puts-append, holds}
+use Rattle.book.proofs.Laws.{puts-append, holds}
 use Rattle.state.specs.View.{view}
-use Rattle.state.specs.Bounded.{bounded}
+use Rattle.state.proofs.InRange.{bounded}
 use Rattle.state.specs.Board.{withBooking, withInst}
 use Rattle.machine.specs.Board.{Board, Pads, noTimer, timerAt, withPads, withTimer}
 use Rattle.machine.specs.Sys.{driveOutputs}

@@ -11,7 +11,8 @@ use Rattle.tim.specs.declared.Timer.{Timer}
 use Rattle.codec.specs.Codec.{decodeTimer}
 use Rattle.machine.specs.Board.{Board, noTimer}
 use Rattle.state.specs.Board.{timerAt, withTimer}
-use Rattle.state.specs.Parts.{start, front, parts, blocks, map-set, parts-set, block-set, part-block, length-part}
+use Rattle.state.specs.Parts.{start, front, parts, blocks}
+use Rattle.state.proofs.Cut.{map-set, parts-set, block-set, part-block, length-part}
 use Rattle.state.specs.View.{sizes, realSizes, view, boardOf}
 use Rattle.state.proofs.Places.{timer-read}
 

@@ -1,2 +1,1 @@
 pub mod Gpio
-pub mod Laws

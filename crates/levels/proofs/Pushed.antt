@@ -16,7 +16,8 @@ use Rattle.pins.specs.Pins.{supplyAt}
 use Rattle.gpio.specs.Gpio.{bit, pushPull}
 use Rattle.machine.specs.Board.{noGpio}
 use Rattle.state.specs.Board.{gpioAt, withGpios, withGpio}
-use Rattle.state.specs.Parts.{start, front, parts, blocks, front-at, parts-set, block-set, part-block, length-parts, length-part, length-blocks, length-block}
+use Rattle.state.specs.Parts.{start, front, parts, blocks}
+use Rattle.state.proofs.Cut.{front-at, parts-set, block-set, part-block, length-parts, length-part, length-blocks, length-block}
 use Rattle.state.specs.View.{sizes, realSizes, view, boardOf, gpiosOf}
 use Rattle.state.proofs.Places.{gpios-at}
 use Rattle.state.proofs.Stores.{gpios-set}

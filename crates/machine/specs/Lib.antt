@@ -4,13 +4,4 @@ pub mod Deliver
 pub mod Call
 pub mod Step
 pub mod Refusals
-pub mod Numbers
-pub mod NumberLaws
-pub mod DeliverLaws
-pub mod PinLaws
-pub mod Placed
-pub mod Traces
-pub mod TraceLaws
 pub mod Sound
-pub mod Routing
-pub mod Reach

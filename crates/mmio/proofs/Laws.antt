@@ -18,16 +18,16 @@ use Rattle.clk.specs.declared.ClockTree.{ClockTree}
 use Rattle.clk.specs.Clk.{good}
 use Rattle.scheduler.specs.Booking as S
 use Rattle.book.specs.Book.{Book, book, puts, entriesOf, places, Holds}
-use Rattle.book.specs.Laws.{holds}
+use Rattle.book.proofs.Laws.{holds}
 use Rattle.machine.specs.Board.{Board, timerAt, withTimer, withPads, withBooking, withLast}
 use Rattle.machine.specs.Sys.{driveOutputs}
 use Rattle.machine.specs.Deliver.{dividerOf, lineSettled, delivered}
 use Rattle.machine.specs.Call.{read, peek, resetTimer, deliver, clockTree, served}
 use Rattle.machine.specs.Step.{step, astray, clockOn, register, timerReset, deliveredTo, treeSet}
 use Rattle.machine.specs.Refusals.{refusals, first, noSuchIndex, badSize, clockAstray, bookFull}
-use Rattle.machine.specs.NumberLaws.{performed}
+use Rattle.machine.proofs.NumberLaws.{performed}
 use Rattle.state.specs.View.{view}
-use Rattle.state.specs.Bounded.{bounded}
+use Rattle.state.proofs.InRange.{bounded}
 use Rattle.rcc.proofs.Laws.{stored-there}
 use Rattle.outputs.specs.Outputs.{Driven}
 use Rattle.delivery.specs.declared.Delivered.{Delivered}

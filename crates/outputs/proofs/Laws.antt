@@ -10,7 +10,7 @@ use Rattle.sig.specs.Signal.{timSignal}
 use Rattle.gpio.specs.declared.Change.{Change}
 use Rattle.gpio.specs.Gpio.{changeOf, bit}
 use Rattle.book.specs.Book.{Changes, Book, puts, entryOf, entriesOf}
-use Rattle.book.specs.Laws.{puts-four}
+use Rattle.book.proofs.Laws.{puts-four}
 use Rattle.machine.specs.Board.{Board, Pads, levelOf, withPads}
 use Rattle.machine.specs.Sys.{Move, Drive, sigOut, driver, driveChannel, noChanges, driveOutputs}
 use Rattle.sys.specs.Moves.{Moves}

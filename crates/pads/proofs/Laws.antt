@@ -11,13 +11,13 @@ use Rattle.words.specs.declared.PinCfg.{PinCfg}
 use Rattle.pins.specs.declared.ExtDrive.{ExtDrive}
 use Rattle.gpio.specs.declared.Change.{Change}
 use Rattle.book.specs.Book.{Entry, book, puts, entryOf, places, Holds}
-use Rattle.book.specs.Laws.{holds}
+use Rattle.book.proofs.Laws.{holds}
 use Rattle.machine.specs.Board.{Board, withPads, withLast}
 use Rattle.machine.specs.Sys as S
 use Rattle.machine.specs.Call.{Call, Outcome, setPin, drivePin, resetPins}
 use Rattle.machine.specs.Step.{step, cfgOf, moved, changesOf, astray}
 use Rattle.machine.specs.Refusals.{refusals, first, noSuchIndex, badSize, clockAstray, bookFull}
-use Rattle.machine.specs.NumberLaws.{performed}
+use Rattle.machine.proofs.NumberLaws.{performed}
 use Rattle.state.specs.View.{view}
 use Rattle.sys.specs.Moves.{Moves, Reset}
 use Rattle.answer.specs.declared.Answer.{Answer}

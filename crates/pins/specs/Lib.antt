@@ -1,4 +1,2 @@
 pub mod Pins
 pub mod Clock
-pub mod Figures
-pub mod Laws

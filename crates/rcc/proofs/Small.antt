@@ -21,7 +21,7 @@ use Rattle.clk.specs.declared.ClockTree.{ClockTree}
 use Rattle.clk.specs.Clk.{good, inRange, timerDiv}
 use Rattle.state.specs.Board.{Divider, Divided}
 use Rattle.state.specs.View.{view}
-use Rattle.state.specs.Bounded.{bounded}
+use Rattle.state.proofs.InRange.{bounded}
 use Rattle.machine.specs.Board.{timerAt}
 use Rattle.machine.specs.Step.{clockOn}
 

@@ -22,7 +22,7 @@ use Rattle.codec.specs.Codec.{decodeTimer}
 use Rattle.machine.specs.Board.{Board}
 use Rattle.state.specs.Board.{timerAt, withTimer}
 use Rattle.state.specs.View.{view}
-use Rattle.state.specs.Bounded.{bounded}
+use Rattle.state.proofs.InRange.{bounded}
 use Rattle.fields.proofs.Words.{same-timer, changed-twice, held}
 use Rattle.regfile.specs.Behind.{behindOf}
 

@@ -1,2 +1,1 @@
 pub mod Regs
-pub mod Laws

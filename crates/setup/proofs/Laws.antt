@@ -20,7 +20,7 @@ use Rattle.machine.specs.Board.{Board, noInst, noTimer, filled, freshBoard}
 use Rattle.machine.specs.Call.{Setup}
 use Rattle.machine.specs.Step.{step, withinLimits}
 use Rattle.state.specs.Board.{withTimer, withAfAt, withSizes}
-use Rattle.state.specs.Bounded.{bounded}
+use Rattle.state.proofs.InRange.{bounded}
 use Rattle.state.specs.View.{view}
 use Rattle.setup.specs.Setup.{countOf, instAt, instsFrom, instsOf, timersOf, withTimers, withTable, Answered}
 use Rattle.setup.proofs.Limits.{length-insts}

@@ -7,7 +7,8 @@ use native.Mathlib.Numerals.{add-one}
 use native.Mathlib.Omega.{arith}
 use lib.ListN.{length, getD, set, take, drop, length-drop, drop-of-length-le}
 use lib.Seq.{getD-drop, paste, paste-suc}
-use Rattle.state.specs.Parts.{front, front-take}
+use Rattle.state.specs.Parts.{front}
+use Rattle.state.proofs.Cut.{front-take}
 
 pub get-step : (w b₀ b : List ℕ) (at j : ℕ) → length w ≡ 5276 → at + length b₀ ≤ 5276 → j < length b₀ → b ≡ paste b₀ 0 (drop at w) j
     → set b j (getD w (at + j) 0) ≡ paste b₀ 0 (drop at w) (j + 1)

@@ -14,7 +14,8 @@ use Rattle.tim.specs.declared.Timer.{Timer}
 use Rattle.codec.specs.Codec.{instAt, regsAt, chanAt, countAt, decodeTimer}
 use Rattle.machine.specs.Board.{noTimer}
 use Rattle.state.specs.Board.{timerAt, withTimer, withInst}
-use Rattle.state.specs.Parts.{start, parts, blocks, map-set, map-at, parts-paste, piece-paste, length-part, length-blocks, length-block}
+use Rattle.state.specs.Parts.{start, parts, blocks}
+use Rattle.state.proofs.Cut.{map-set, map-at, parts-paste, piece-paste, length-part, length-blocks, length-block}
 use Rattle.state.specs.View.{sizes, realSizes, view, boardOf}
 
 -- ---- the elements of a list with a piece pasted into it

@@ -17,8 +17,9 @@ use Rattle.words.specs.declared.Gpio.{Gpio}
 use Rattle.codec.specs.Codec.{decodeTimer}
 use Rattle.words.specs.Codec.{decodeGpio}
 use Rattle.state.specs.Board.{timerAt, gpioAt, routeAt, sigLevelAt, enrAt, bookedAt}
-use Rattle.state.specs.Parts.{getD-any, start, front, parts, blocks, map-at, front-at, length-front, part-at, part-front, part-block, length-part, length-blocks}
-use Rattle.state.specs.Bounded.{bounded}
+use Rattle.state.specs.Parts.{start, front, parts, blocks}
+use Rattle.state.proofs.Cut.{getD-any, map-at, front-at, length-front, part-at, part-front, part-block, length-part, length-blocks}
+use Rattle.state.proofs.InRange.{bounded}
 use Rattle.gpio.specs.Gpio.{isPushPull}
 use Rattle.machine.specs.Board.{noTimer, noGpio}
 use Rattle.state.specs.View.{sizes, realSizes, view, gpiosOf, pinOf, levelOf, signalOf, enableOf, dividerOf}

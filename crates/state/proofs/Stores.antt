@@ -18,8 +18,9 @@ use Rattle.words.specs.declared.Gpio.{Gpio}
 use Rattle.codec.specs.Codec.{decodeTimer}
 use Rattle.words.specs.Codec.{decodeGpio}
 use Rattle.state.specs.Board.{Divider, Divided, withTimer, withRoute, withSigLevel, withAfAt, withEnr, withBooking, withNvic, withLast, withSizes, withVcc, withTree, withClock, withGpios, withGpio}
-use Rattle.state.specs.Parts.{start, parts, blocks, set-pair, map-set, parts-set, parts-pair, parts-paste, paste-all, block-paste, block-pair, length-part, length-blocks, part-at}
-use Rattle.state.specs.Bounded.{bounded}
+use Rattle.state.specs.Parts.{start, parts, blocks}
+use Rattle.state.proofs.Cut.{set-pair, map-set, parts-set, parts-pair, parts-paste, paste-all, block-paste, block-pair, length-part, length-blocks, part-at}
+use Rattle.state.proofs.InRange.{bounded}
 use Rattle.state.specs.View.{sizes, realSizes, view, boardOf, gpiosOf, treeOf, dividerOf}
 
 pub gpios-set : (bs : List (List ℕ)) (rs : List (List Float)) (p : ℕ) (b : List ℕ) (r : List Float) → p < length bs → p < length rs

@@ -1,8 +1,1 @@
-pub mod Counting
-pub mod Synced
 pub mod Reading
-pub mod Considered
-pub mod Nearest
-pub mod Kept
-pub mod Agrees
-pub mod Figures

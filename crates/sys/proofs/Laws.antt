@@ -15,12 +15,12 @@ use Rattle.gpio.specs.declared.Change.{Change}
 use Rattle.gpio.specs.declared.Change.the-variants.{Same}
 use Rattle.gpio.specs.declared.Moved.{Moved}
 use Rattle.gpio.specs.Gpio.{signalOf, drives, changed, updated, refreshed, isPushPull, pushPull, configured}
-use Rattle.gpio.specs.Laws.{level-change, own-signal, signal-wins}
+use Rattle.gpio.proofs.Laws.{level-change, own-signal, signal-wins}
 use Rattle.machine.specs.Board.{Board, Pads, gpioAt, routeOf, levelOf, withPads, withGpio, withSigLevel, noGpio}
 use Rattle.machine.specs.Sys.{Move, updatePin, refreshPin, leave, take, selected, selectAf, sigOut, unrouted, resetPin, Resets, resetFrom, resetPins}
 use Rattle.machine.specs.Step.{changesOf}
 use Rattle.book.specs.Book.{Book, puts, entryOf}
-use Rattle.book.specs.Laws.{puts-append}
+use Rattle.book.proofs.Laws.{puts-append}
 use Rattle.sys.specs.Moves.{Moves, Reset}
 
 module _ (b b₁ : Board) (i : ℕ) (g : Gpio) (v : Float) (m : Moved) (load : g ≡ gpioAt (b .pads) i) (supply : v ≡ b .pads .vcc)

@@ -12,7 +12,7 @@ use Rattle.words.specs.declared.Gpio.{Gpio}
 use Rattle.gpio.specs.Gpio.{signalOf}
 use Rattle.machine.specs.Board.{gpioAt, routeOf, levelOf}
 use Rattle.state.specs.View.{view}
-use Rattle.state.specs.Bounded.{bounded}
+use Rattle.state.proofs.InRange.{bounded}
 
 signal-small : (w : List ℕ) (x : List Float) (i : ℕ) → signalOf (gpioAt (view w x .pads) i) < 256
 signal-small w x i = go (eqb (gpioAt (view w x .pads) i .cfg .mode) 2)

@@ -10,7 +10,7 @@ use mathlib.Core.Bool.{true, false}
 use borrow.Author.Tests.{lt-leb, le-leb}
 use Rattle.text.specs.declared.Written.the-variants.{To, NoRoom}
 use Rattle.text.specs.Digits.{placesOf, lastDigits, over, fits, Wrote}
-use Rattle.text.specs.ReadsBack.{places-more, places-enough, length-digits}
+use Rattle.text.proofs.ReadsBack.{places-more, places-enough, length-digits}
 
 -- one place counted
 pub count-step : (n : ℕ) → n < 2 ^ 64 → 10 ≤ n → placesOf n ≡ placesOf (n / 10) + 1

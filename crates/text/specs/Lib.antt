@@ -1,5 +1,3 @@
 pub mod Numbers
 pub mod Words
 pub mod Digits
-pub mod ReadsBack
-pub mod Figures

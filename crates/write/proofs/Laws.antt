@@ -19,7 +19,7 @@ use Rattle.tim.proofs.Fit.{either}
 use Rattle.regs.proofs.Fixed.{inst-written}
 use Rattle.periph.specs.Lane.{laneWrite}
 use Rattle.book.specs.Book.{Entry, Book, book, puts, entriesOf, Holds}
-use Rattle.book.specs.Laws.{holds}
+use Rattle.book.proofs.Laws.{holds}
 use Rattle.machine.specs.Board.{Board, timerAt, withTimer, withPads, withLast}
 use Rattle.machine.specs.Sys.{driveOutputs}
 use Rattle.machine.specs.Deliver.{dividerOf, lineSettled, rebooked}
@@ -29,12 +29,12 @@ use Rattle.machine.specs.Refusals.{Refusal, refusals, first, rises}
 use Rattle.machine.specs.Refusals as Refusals
 use Rattle.state.specs.Board.{withInst}
 use Rattle.state.specs.View.{view}
-use Rattle.state.specs.Bounded.{bounded}
+use Rattle.state.proofs.InRange.{bounded}
 use Rattle.rcc.proofs.Laws.{stored-there}
 use Rattle.outputs.specs.Outputs as O
 use Rattle.answer.specs.declared.Answer.{Answer}
 use Rattle.answer.specs.Promise.{answer, Answers}
-use Rattle.machine.specs.NumberLaws.{Verdict, refuses, passes, given, verdict}
+use Rattle.machine.proofs.NumberLaws.{Verdict, refuses, passes, given, verdict}
 use Rattle.answer.proofs.Given.{first-front, away, gives, turns-away, turns-away-book, unbooked}
 use Rattle.mmio.specs.Leaves.{Leaves}
 use Rattle.mmio.proofs.Laws.{asked}

@@ -2,7 +2,7 @@
 use mathlib.Core.Path.{_∙_, sym}
 use native.Mathlib.Omega.{arith}
 use Rattle.gpio.specs.Gpio.{changeOf}
-use Rattle.gpio.specs.Laws.{change-back}
+use Rattle.gpio.proofs.Laws.{change-back}
 use borrow.Author.Needs.{needs}
 use Rattle.gpio.proofs.code_of.Statement.{statement}
 use Rattle.gpio.proofs.code_of.Tie as tie

@@ -2,7 +2,7 @@
 use Rattle.book.specs.Book.{places}
 use Rattle.machine.specs.Refusals.{refusals}
 use Rattle.pads.proofs.Laws.{refuses, pin-there, pin-driven}
-use Rattle.state.specs.Bounded.{bounded}
+use Rattle.state.proofs.InRange.{bounded}
 use Rattle.state.specs.View.{view}
 use borrow.Author.Needs.{needs}
 use native.Mathlib.Omega.{arith}

@@ -1,7 +1,7 @@
 -- Refused, or every pin reset and the cycle kept.
 use Rattle.book.specs.Book.{places}
 use Rattle.pads.proofs.Laws.{refuses, reset-number, reset-room, pins-reset}
-use Rattle.state.specs.Bounded.{bounded}
+use Rattle.state.proofs.InRange.{bounded}
 use Rattle.state.specs.View.{view}
 use borrow.Author.Needs.{needs}
 use mathlib.Core.Path.{refl}

@@ -1,6 +1,6 @@
 -- A loaded timer is fit to be stored.
 use mathlib.Core.Path.{ap, _∙_}
-use Rattle.state.specs.Bounded.{bounded}
+use Rattle.state.proofs.InRange.{bounded}
 use Rattle.state.specs.View.{view}
 use lib.Ieee.{Float}
 use mathlib.Core.List.{List, []}

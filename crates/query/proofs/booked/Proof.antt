@@ -1,6 +1,6 @@
 -- By the number of timers.
 use Rattle.query.proofs.Laws.{no-timer, booked-told}
-use Rattle.state.specs.Bounded.{bounded}
+use Rattle.state.proofs.InRange.{bounded}
 use borrow.Author.Needs.{needs}
 use native.Mathlib.Omega.{arith}
 use Rattle.query.proofs.booked.Statement.{statement}

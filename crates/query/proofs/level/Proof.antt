@@ -1,6 +1,6 @@
 -- By the number of pins.
 use Rattle.query.proofs.Laws.{no-level, level-told}
-use Rattle.state.specs.Bounded.{bounded}
+use Rattle.state.proofs.InRange.{bounded}
 use borrow.Author.Needs.{needs}
 use native.Mathlib.Omega.{arith}
 use Rattle.query.proofs.level.Statement.{statement}

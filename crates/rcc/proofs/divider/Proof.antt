@@ -1,6 +1,6 @@
 -- The tree loaded, and its divider.
 use Rattle.rcc.proofs.Small.{timer-divider}
-use Rattle.state.specs.Bounded.{bounded}
+use Rattle.state.proofs.InRange.{bounded}
 use borrow.Author.Needs.{needs}
 use Rattle.rcc.proofs.divider.Statement.{statement}
 use Rattle.rcc.proofs.divider.Tie as tie

@@ -2,7 +2,7 @@
 use Prim.Native.Nat.{_-_, _≤_, ℕ}
 use Rattle.machine.specs.Step.{allRetimed}
 use Rattle.rcc.proofs.Laws.{all-done, all-start, all-step}
-use Rattle.state.specs.Bounded.{bounded}
+use Rattle.state.proofs.InRange.{bounded}
 use Rattle.state.specs.View.{view}
 use borrow.Author.Needs.{needs}
 use mathlib.Core.Path.{_∙_, _≡_, ap}

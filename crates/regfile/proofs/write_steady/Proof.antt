@@ -1,5 +1,5 @@
 use Rattle.state.specs.View.{view}
-use Rattle.state.specs.Bounded.{bounded}
+use Rattle.state.proofs.InRange.{bounded}
 use Rattle.regfile.proofs.Unmoved.{moved}
 use native.Mathlib.Omega.{arith}
 use borrow.Author.Needs.{needs}

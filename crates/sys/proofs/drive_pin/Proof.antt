@@ -1,7 +1,7 @@
 -- Connected, then resolved.
 use Rattle.machine.specs.Board.{Pads}
 use Rattle.machine.specs.Sys.{drivePin, updatePin}
-use Rattle.state.specs.Bounded.{bounded}
+use Rattle.state.proofs.InRange.{bounded}
 use Rattle.sys.proofs.Laws.{then-moves}
 use borrow.Author.Needs.{needs}
 use mathlib.Core.Path.{_∙_}

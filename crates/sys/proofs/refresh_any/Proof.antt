@@ -1,6 +1,6 @@
 -- The pin loaded, its side made anew, resolved and stored.
 use Rattle.gpio.specs.Gpio.{refreshed, updated}
-use Rattle.state.specs.Bounded.{bounded}
+use Rattle.state.proofs.InRange.{bounded}
 use Rattle.sys.proofs.Laws.{refresh-sets}
 use Rattle.sys.proofs.Small.{loaded-small}
 use borrow.Author.Needs.{needs}

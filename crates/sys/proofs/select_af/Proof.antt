@@ -1,5 +1,5 @@
 -- The pin configured, the old route left, the new one taken.
-use Rattle.state.specs.Bounded.{bounded}
+use Rattle.state.proofs.InRange.{bounded}
 use Rattle.sys.proofs.Laws.{select-sets}
 use borrow.Author.Needs.{needs}
 use Rattle.sys.proofs.select_af.Statement.{statement}

@@ -1,6 +1,6 @@
 -- By the mode; a table entry is below 256.
 use Prim.Native.Nat.{_%_, _*_, _+_}
-use Rattle.state.specs.Bounded.{bounded}
+use Rattle.state.proofs.InRange.{bounded}
 use borrow.Author.Needs.{needs}
 use borrow.Author.Tests.{eq-eqb, ne-eqb}
 use mathlib.Core.List.{[]}

@@ -1,6 +1,6 @@
 -- The pin loaded, resolved and stored.
 use Rattle.gpio.specs.Gpio.{updated}
-use Rattle.state.specs.Bounded.{bounded}
+use Rattle.state.proofs.InRange.{bounded}
 use Rattle.sys.proofs.Laws.{update-moves}
 use borrow.Author.Needs.{needs}
 use Rattle.sys.proofs.update_pin.Statement.{statement}

@@ -2,7 +2,7 @@
 use Prim.Native.Nat.{_+_, _≤_}
 use Rattle.text.proofs.Spelled.{count-step}
 use Rattle.text.specs.Digits.{placesOf}
-use Rattle.text.specs.ReadsBack.{places-most, places-one, places-pos}
+use Rattle.text.proofs.ReadsBack.{places-most, places-one, places-pos}
 use mathlib.Core.Path.{_≡_}
 use native.Mathlib.Omega.{arith}
 use Rattle.text.proofs.places.Statement.{statement}

@@ -2,7 +2,7 @@
 use native.Mathlib.Omega.{arith}
 use borrow.Author.Tests.{not-true, not-false}
 use Rattle.state.specs.View.{view}
-use Rattle.state.specs.Bounded.{bounded}
+use Rattle.state.proofs.InRange.{bounded}
 use Rattle.mmio.proofs.Laws.{of-eight}
 use Rattle.write.proofs.Laws.{compare-waits, compare-acts}
 use Rattle.write.proofs.Synced.{rests}

@@ -1,6 +1,6 @@
 -- `pins::Pin::resolve` meets its contract: an output, and an input. Assumes nothing.
 use mathlib.Core.Path.{sym, _∙_}
-use Rattle.pins.specs.Laws.{input, output}
+use Rattle.pins.proofs.Resolved.{input, output}
 use borrow.Author.Needs.{needs}
 use Rattle.pins.proofs.Pin.resolve.Statement.{statement}
 use Rattle.pins.proofs.Pin.resolve.Tie as tie

@@ -17,9 +17,9 @@ use Rattle.gpio.specs.Gpio.{alternateMode}
 use Rattle.machine.specs.Deliver.{dividerOf}
 use Rattle.machine.specs.Sound.{Sound}
 use Rattle.accuracy.specs.Claim.{Settings, firstUpdate, cyclesOf, levelAt}
-use Rattle.accuracy.specs.Aim.{Aim, Fixed, due, coming}
-use Rattle.accuracy.specs.One.{steps-upto}
-use Rattle.accuracy.specs.Record.{Told}
+use Rattle.accuracy.proofs.Aim.{Aim, Fixed, due, coming}
+use Rattle.accuracy.proofs.One.{steps-upto}
+use Rattle.accuracy.proofs.Record.{Told}
 
 -- what the board that the start left programs
 abbrev pub aimOf : Board → ℕ → ℕ → ℕ → Aim

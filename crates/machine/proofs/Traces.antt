@@ -26,9 +26,9 @@ use Rattle.machine.specs.Board.{Pads, gpioAt, routeOf, levelOf, withGpio
 use Rattle.machine.specs.Sys.{Move, still, updatePin, refreshPin, selectAf, selected, sigOut, Drive, driveChannel, driver, driveOutputs, setPin, drivePin, resetPin, resetFrom}
 use Rattle.machine.specs.Deliver.{Turn, turn, turnOf, applied, countAt}
 use Rattle.machine.specs.Step.{changesOf}
-use Rattle.machine.specs.DeliverLaws.{turned}
-use Rattle.machine.specs.NumberLaws.{either}
-use Rattle.machine.specs.PinLaws.{edgeOf, levelAt, update-edge, refresh-edge, select-gpio}
+use Rattle.machine.proofs.DeliverLaws.{turned}
+use Rattle.machine.proofs.NumberLaws.{either}
+use Rattle.machine.proofs.PinLaws.{edgeOf, levelAt, update-edge, refresh-edge, select-gpio}
 
 -- a pin's level after entries, from a level: that of its last entry
 unfoldable pub seen : List Entry → ℕ → ℕ → ℕ

@@ -24,11 +24,11 @@ use Rattle.machine.specs.Deliver.{dividerOf, lineSettled, rebooked}
 use Rattle.machine.specs.Call.{write, Outcome}
 use Rattle.machine.specs.Step.{step, absent, oddSize, astray, bookFull, clockOn, written, register, counterAstray, followed}
 use Rattle.machine.specs.Sound.{Sound}
-use Rattle.machine.specs.Routing.{either, by-test}
-use Rattle.machine.specs.Reach.{inst-written}
-use Rattle.accuracy.specs.Tests.{never}
+use Rattle.machine.proofs.Routing.{either, by-test}
+use Rattle.machine.proofs.Reach.{inst-written}
+use Rattle.accuracy.proofs.Tests.{never}
 use Rattle.accuracy.specs.Claim.{Started}
-use Rattle.accuracy.specs.Start.{Began}
+use Rattle.accuracy.proofs.Start.{Began}
 
 -- ---- only a write to CR1 changes CR1
 

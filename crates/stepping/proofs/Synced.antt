@@ -7,7 +7,7 @@ use native.Mathlib.Omega.{arith}
 use Rattle.tim.specs.declared.Timer.{Timer}
 use Rattle.tim.specs.Timer.{withCount, down}
 use Rattle.tim.specs.Count.{ticksAt, cntAt, synced, atCount}
-use Rattle.stepping.specs.Counting.{counted, counted-again}
+use Rattle.stepping.proofs.Counting.{counted, counted-again}
 
 -- ---- the cycles from a reference moved by whole steps
 

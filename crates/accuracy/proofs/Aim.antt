@@ -12,7 +12,7 @@ use Rattle.tim.specs.Timer.{down, isOutput, ocMode, ccrAct}
 use Rattle.tim.specs.Next.{nextSteps}
 use Rattle.sig.specs.Signal.{timSignal}
 use Rattle.gpio.specs.Gpio.{bit}
-use Rattle.accuracy.specs.Wave.{wave}
+use Rattle.accuracy.proofs.Wave.{wave}
 
 -- what is programmed: timer number, bus and channel, prescaler and divider, cycles of a step, reload, compare, and the first update's cycle
 pub record Aim : Type 0 where

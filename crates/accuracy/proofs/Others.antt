@@ -14,13 +14,13 @@ use Rattle.book.specs.Book.{Entry}
 use Rattle.machine.specs.Board.{Board, Pads, timerAt}
 use Rattle.machine.specs.Call.{Outcome}
 use Rattle.machine.specs.Sound.{Sound, SoundPads, Held}
-use Rattle.machine.specs.Reach.{Spared, Calm, Rest}
+use Rattle.machine.proofs.Reach.{Spared, Calm, Rest}
 use Rattle.accuracy.specs.Claim.{levelAt}
-use Rattle.accuracy.specs.Levels.{Silent, level-append}
-use Rattle.accuracy.specs.Aim.{Aim, signalOf, due, Fixed, Phase, coming, inPeriod}
-use Rattle.accuracy.specs.Drive.{wired-held, shown}
-use Rattle.accuracy.specs.Record.{Told}
-use Rattle.accuracy.specs.Own.{Kept}
+use Rattle.accuracy.proofs.Levels.{Silent, level-append}
+use Rattle.accuracy.proofs.Aim.{Aim, signalOf, due, Fixed, Phase, coming, inPeriod}
+use Rattle.accuracy.proofs.Drive.{wired-held, shown}
+use Rattle.accuracy.proofs.Record.{Told}
+use Rattle.accuracy.proofs.Own.{Kept}
 
 -- ---- entries of other pins
 

@@ -15,16 +15,16 @@ use Rattle.machine.specs.Sys.{driver, selected}
 use Rattle.machine.specs.Call.{Call, setUp, clockTree, enable, setPin, drivePin, resetPins, read, write, peek, resetTimer, deliver, queryBooked, queryNext, queryLevel, queryVolts, queryLine, queryTime, clearPending}
 use Rattle.machine.specs.Step.{cfgOf, step, run, boardAfter}
 use Rattle.machine.specs.Sound.{Sound}
-use Rattle.machine.specs.Routing.{by-test}
-use Rattle.machine.specs.Reach.{Wired, Rest, Leaves, frame-step, frame-refused, sound-step, sound-after}
-use Rattle.accuracy.specs.Tests.{never, both-left, both-right, one-of, apart}
+use Rattle.machine.proofs.Routing.{by-test}
+use Rattle.machine.proofs.Reach.{Wired, Rest, Leaves, frame-step, frame-refused, sound-step, sound-after}
+use Rattle.accuracy.proofs.Tests.{never, both-left, both-right, one-of, apart}
 use Rattle.accuracy.specs.Claim.{steadyCall, isRefusal, steady, deliveredAt, covered, joined, board₀, board₁, signal, recorded, Claim}
-use Rattle.accuracy.specs.Wave.{duty}
-use Rattle.accuracy.specs.Aim.{Aim, period, high, signalOf, due}
-use Rattle.accuracy.specs.Start.{aimOf, told-start}
-use Rattle.accuracy.specs.Began.{began}
-use Rattle.accuracy.specs.Own.{Kept, deliver-own}
-use Rattle.accuracy.specs.Others.{kept-rest}
+use Rattle.accuracy.proofs.Wave.{duty}
+use Rattle.accuracy.proofs.Aim.{Aim, period, high, signalOf, due}
+use Rattle.accuracy.proofs.Start.{aimOf, told-start}
+use Rattle.accuracy.proofs.Began.{began}
+use Rattle.accuracy.proofs.Own.{Kept, deliver-own}
+use Rattle.accuracy.proofs.Others.{kept-rest}
 
 -- ---- one call
 

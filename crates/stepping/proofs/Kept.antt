@@ -14,10 +14,10 @@ use Rattle.tim.specs.declared.Due.the-variants.{At}
 use Rattle.tim.specs.Timer.{down, isOutput, ccrAct}
 use Rattle.tim.specs.Count.{upFrom, ticksAt, cntAt}
 use Rattle.tim.specs.Next.{updateSteps, compares, compareSteps, consider, nextSteps, nextEvent}
-use Rattle.stepping.specs.Counting.{counted, down-within}
-use Rattle.stepping.specs.Synced.{cnt-runs, moved}
-use Rattle.stepping.specs.Considered.{isAhead, steps, nearer, nearer-same, never}
-use Rattle.stepping.specs.Nearest.{best-next, event-runs}
+use Rattle.stepping.proofs.Counting.{counted, down-within}
+use Rattle.stepping.proofs.Synced.{cnt-runs, moved}
+use Rattle.stepping.proofs.Considered.{isAhead, steps, nearer, nearer-same, never}
+use Rattle.stepping.proofs.Nearest.{best-next, event-runs}
 
 and-false : (a : Bool) → a && false ≡ false
 and-false true = refl

@@ -18,10 +18,10 @@ use Rattle.machine.specs.Deliver.{dividerOf, delivered, settled, rebooke
 use Rattle.machine.specs.Call.{Call, setUp, clockTree, enable, setPin, drivePin, resetPins, read, write, peek, resetTimer, deliver, queryBooked, queryNext, queryLevel, queryVolts, queryLine, queryTime, clearPending, Outcome}
 use Rattle.machine.specs.Step.{timerRetimed, allRetimed, treeSet, cfgOf, changesOf, clockOn, written, followed, timerReset, deliveredTo}
 use Rattle.machine.specs.Refusals.{refusals, applies, isSetUp}
-use Rattle.machine.specs.DeliverLaws.{turnPart}
-use Rattle.machine.specs.NumberLaws.{either, performed, delivered-law, head-free}
-use Rattle.machine.specs.PinLaws.{levelAt}
-use Rattle.machine.specs.Traces.{Traced, traced-none, Wired, drive-moves, Turns, turned-turns, set-traced, drive-traced, resets-traced}
+use Rattle.machine.proofs.DeliverLaws.{turnPart}
+use Rattle.machine.proofs.NumberLaws.{either, performed, delivered-law, head-free}
+use Rattle.machine.proofs.PinLaws.{levelAt}
+use Rattle.machine.proofs.Traces.{Traced, traced-none, Wired, drive-moves, Turns, turned-turns, set-traced, drive-traced, resets-traced}
 
 -- a clock change leaves the pins
 retimed-pads : (i cycle : ℕ) (b : Board) → timerRetimed i cycle b .pads ≡ b .pads

@@ -44,7 +44,7 @@ use Rattle.machine.specs.Deliver as D
 use Rattle.machine.specs.Call.{Setup, Call, setUp, clockTree, enable, setPin, drivePin, resetPins, read, write, peek, resetTimer, deliver, queryBooked, queryNext, queryLevel, queryVolts, queryLine, queryTime, clearPending, Outcome}
 use Rattle.machine.specs.Step.{absent, oddSize, astray, bookFull, fresh, instGood, instsGood, withinLimits, clockOn, register, written, counterAstray, followed, timerReset, deliveredTo, timerRetimed, allRetimed, treeSet, cfgOf, step, boardAfter}
 use Rattle.machine.specs.Sound.{SoundPads, Sound, Held, Elsewhere}
-use Rattle.machine.specs.Routing.{either, by-test, unwired, unwired-pins, all-alike, idle-length, sound-outputs, sound-set, sound-drive, SparesAll, held-refl, held-trans, held-set, held-drive, held-outputs}
+use Rattle.machine.proofs.Routing.{either, by-test, unwired, unwired-pins, all-alike, idle-length, sound-outputs, sound-set, sound-drive, SparesAll, held-refl, held-trans, held-set, held-drive, held-outputs}
 
 -- ---- a timer keeps its place in the chip
 

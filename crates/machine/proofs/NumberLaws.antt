@@ -25,7 +25,7 @@ use Rattle.machine.specs.Deliver.{dividerOf, delivered, mostEvents, dueB
 use Rattle.machine.specs.Call.{Call, setUp, clockTree, enable, setPin, drivePin, resetPins, read, write, peek, resetTimer, deliver, queryBooked, queryNext, queryLevel, queryVolts, queryLine, queryTime, clearPending, Outcome, refused, served}
 use Rattle.machine.specs.Step.{step, treeSet, moved, cfgOf, pinsReset, changesOf, clockOn, register, written, followed, timerReset, deliveredTo}
 use Rattle.machine.specs.Refusals.{Refusal, _when_, refusals, applies, holds, first, rises, ending, isDelivery, lent, bookCycle, most, lastAfter}
-use Rattle.machine.specs.DeliverLaws.{Delivery, run-law, Every, every-none, every-append, StampedAt, entry-stamped, entries-stamped, entry-few, entries-few}
+use Rattle.machine.proofs.DeliverLaws.{Delivery, run-law, Every, every-none, every-append, StampedAt, entry-stamped, entries-stamped, entry-few, entries-few}
 
 -- ---- refusals in order, then what follows
 

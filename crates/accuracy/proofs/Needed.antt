@@ -29,9 +29,9 @@ use Rattle.machine.specs.Deliver as D
 use Rattle.machine.specs.Call.{Call, setPin, write}
 use Rattle.machine.specs.Step.{fresh, instsGood, entriesBelow, withinLimits, written, followed, step, run, boardAfter}
 use Rattle.accuracy.specs.Claim.{Within, steadyCall, steady, joined, levelAt, highs, board₁, signal}
-use Rattle.accuracy.specs.Tests.{never}
-use Rattle.accuracy.specs.Quick.{suffice}
-use Rattle.accuracy.specs.Bench.{wire, prepared, plain, usual, Trial, pilot, testsBy, tests, passed, Seen, seenBy, seen, board₂, entries, trial-tests, trial-seen}
+use Rattle.accuracy.proofs.Tests.{never}
+use Rattle.accuracy.proofs.Quick.{suffice}
+use Rattle.accuracy.proofs.Bench.{wire, prepared, plain, usual, Trial, pilot, testsBy, tests, passed, Seen, seenBy, seen, board₂, entries, trial-tests, trial-seen}
 
 -- the failing test by its number, the calls, a window in the span, and the window's highs
 pub record Case : Type 0 where

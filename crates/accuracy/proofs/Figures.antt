@@ -18,9 +18,9 @@ use Rattle.sig.specs.Signal.{timSignal}
 use Rattle.real.specs.Real.{nearestTo}
 use Rattle.pins.specs.Pins.{blank, withExt, withLevel, sensedFrom, resolved}
 use Rattle.pins.specs.declared.ExtDrive.the-variants as ext
-use Rattle.pins.specs.Figures.{v5·0, v3·0, v2·0, v1·5}
-use Rattle.stepping.specs.Figures.{inst, run, up, dn}
-use Rattle.accuracy.specs.Bench.{Bench, bench-holds}
+use Rattle.pins.proofs.Figures.{v5·0, v3·0, v2·0, v1·5}
+use Rattle.stepping.proofs.Figures.{inst, run, up, dn}
+use Rattle.accuracy.proofs.Bench.{Bench, bench-holds}
 
 -- CNT of a timer at cycles
 abbrev counts : Timer → List ℕ → List ℕ

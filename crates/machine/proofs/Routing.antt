@@ -13,7 +13,7 @@ use Rattle.pins.specs.declared.Mcu.{Mcu}
 use Rattle.pins.specs.declared.ExtDrive.{ExtDrive}
 use Rattle.pins.specs.declared.ExtDrive.the-variants as ext
 use Rattle.pins.specs.Pins.{effectiveDir, drivenLevel, sensedFrom, resolved}
-use Rattle.pins.specs.Laws.{output}
+use Rattle.pins.proofs.Resolved.{output}
 use Rattle.words.specs.declared.Gpio.{Gpio}
 use Rattle.words.specs.declared.PinCfg.{PinCfg}
 use Rattle.tim.specs.declared.Timer.{Timer}

@@ -18,13 +18,13 @@ use Rattle.machine.specs.Call.{Setup, Call, setUp, setPin, drivePin, del
 use Rattle.real.specs.Real.{positive}
 use Rattle.machine.specs.Step.{step, withinLimits, deliveredTo, cfgOf}
 use Rattle.machine.specs.Refusals.{refusals, applies, holds, first, rises, ending, isDelivery, isSetUp, lent, bookCycle, most, lastAfter}
-use Rattle.machine.specs.DeliverLaws.{Every, every-none, StampedAt, StampedBy, turned, AllDue, cyclesOf, dueCycles, turned-cycles}
-use Rattle.machine.specs.NumberLaws.{Verdict, refuses, passes, answered, performed, step-given, performed-number, performed-last, performed-few, most-fits, delivered-law}
-use Rattle.machine.specs.NumberLaws as N
-use Rattle.machine.specs.Traces.{Traced, traced-none}
-use Rattle.machine.specs.Placed.{Placed}
-use Rattle.machine.specs.TraceLaws.{performed-traced}
-use Rattle.machine.specs.PinLaws.{edgeOf, levelAt, set-edge, drive-edge}
+use Rattle.machine.proofs.DeliverLaws.{Every, every-none, StampedAt, StampedBy, turned, AllDue, cyclesOf, dueCycles, turned-cycles}
+use Rattle.machine.proofs.NumberLaws.{Verdict, refuses, passes, answered, performed, step-given, performed-number, performed-last, performed-few, most-fits, delivered-law}
+use Rattle.machine.proofs.NumberLaws as N
+use Rattle.machine.proofs.Traces.{Traced, traced-none}
+use Rattle.machine.proofs.Placed.{Placed}
+use Rattle.machine.proofs.TraceLaws.{performed-traced}
+use Rattle.machine.proofs.PinLaws.{edgeOf, levelAt, set-edge, drive-edge}
 
 -- ---- the number
 

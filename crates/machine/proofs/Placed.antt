@@ -28,10 +28,10 @@ use Rattle.machine.specs.Deliver.{dividerOf, delivered, settled, rebooke
 use Rattle.machine.specs.Call.{Setup, Call, setUp, clockTree, enable, setPin, drivePin, resetPins, read, write, peek, resetTimer, deliver, queryBooked, queryNext, queryLevel, queryVolts, queryLine, queryTime, clearPending, Outcome}
 use Rattle.machine.specs.Step.{step, boardAfter, withinLimits, instsGood, entriesBelow, timerRetimed, allRetimed, treeSet, cfgOf, clockOn, written, followed, timerReset, deliveredTo}
 use Rattle.machine.specs.Refusals.{refusals, applies}
-use Rattle.machine.specs.DeliverLaws.{turnPart}
-use Rattle.machine.specs.NumberLaws.{Verdict, refuses, passes, answered, step-given, either, both, performed, delivered-law, head-free}
-use Rattle.machine.specs.PinLaws.{select-gpio}
-use Rattle.machine.specs.Traces.{Wired, Kept, kept-trans, wired-kept, refresh-keeps, drive-moves, Turns, turned-turns}
+use Rattle.machine.proofs.DeliverLaws.{turnPart}
+use Rattle.machine.proofs.NumberLaws.{Verdict, refuses, passes, answered, step-given, either, both, performed, delivered-law, head-free}
+use Rattle.machine.proofs.PinLaws.{select-gpio}
+use Rattle.machine.proofs.Traces.{Wired, Kept, kept-trans, wired-kept, refresh-keeps, drive-moves, Turns, turned-turns}
 
 -- a place for each timer and each pin; each signal's route is a pin of the board, or none
 pub record Placed (b : Board) : Type 0 where

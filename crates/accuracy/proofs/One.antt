@@ -19,12 +19,12 @@ use Rattle.tim.specs.declared.Next.the-variants.{Update, Compare}
 use Rattle.tim.specs.Timer.{isOutput, ccrAct}
 use Rattle.tim.specs.Next.{compareSteps, compares, waiting, ahead, nextSteps}
 use Rattle.tim.specs.Change as C
-use Rattle.stepping.specs.Agrees.{next-best}
+use Rattle.stepping.proofs.Agrees.{next-best}
 use Rattle.gpio.specs.Gpio.{bit}
 use Rattle.machine.specs.Deliver.{applied, countAt}
-use Rattle.accuracy.specs.Tests.{never, both-left, both-right}
-use Rattle.accuracy.specs.Wave.{wave, wave-in}
-use Rattle.accuracy.specs.Aim.{Aim, period, high, Fixed, due, Coming, InPeriod, Phase, coming, inPeriod, Goes}
+use Rattle.accuracy.proofs.Tests.{never, both-left, both-right}
+use Rattle.accuracy.proofs.Wave.{wave, wave-in}
+use Rattle.accuracy.proofs.Aim.{Aim, period, high, Fixed, due, Coming, InPeriod, Phase, coming, inPeriod, Goes}
 
 -- ---- which channels are done
 

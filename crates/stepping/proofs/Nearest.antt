@@ -15,7 +15,7 @@ use Rattle.tim.specs.declared.Due.the-variants.{At, Stopped}
 use Rattle.tim.specs.Timer.{down}
 use Rattle.tim.specs.Next.{updateSteps, compares, compareSteps, consider, nextSteps, nextEvent}
 use Rattle.stepping.specs.Reading.{channel, channels, ahead, Best}
-use Rattle.stepping.specs.Considered.{nearer, considerOne, considered, kept, updateIn, first-up, first-down}
+use Rattle.stepping.proofs.Considered.{nearer, considerOne, considered, kept, updateIn, first-up, first-down}
 
 consider-one : (t : Timer) (ch : ℕ) (best : Ahead)
     → consider t ch best ≡ considerOne (down t) (t .count .«arr_act») (t .count .cnt0) 0 (channel t ch) ch best

@@ -16,7 +16,7 @@ use Rattle.machine.specs.Deliver.{dividerOf, Run, stop, after, dueBy, turnOf, d
 use Rattle.machine.specs.Deliver as D
 use Rattle.machine.specs.Call.{Call, deliver, Outcome}
 use Rattle.machine.specs.Step.{absent, astray, deliveredTo, step, run, boardAfter}
-use Rattle.accuracy.specs.Tests.{both-left, both-right}
+use Rattle.accuracy.proofs.Tests.{both-left, both-right}
 use Rattle.accuracy.specs.Claim.{steadyCall, isRefusal, steady, deliveredAt, covered, joined}
 
 -- with more events than it has, a delivery that was answered 0 goes as far

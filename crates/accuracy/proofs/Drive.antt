@@ -16,9 +16,9 @@ use Rattle.book.specs.Book.{Entry, entryOf, entriesOf}
 use Rattle.machine.specs.Board.{Pads, gpioAt, routeOf}
 use Rattle.machine.specs.Sys.{driveChannel, driveOutputs, driver, sigOut}
 use Rattle.machine.specs.Sound.{SoundPads, Held}
-use Rattle.machine.specs.Routing.{sound-sig, sound-channel, held-channel, own-sig, Follows}
-use Rattle.accuracy.specs.Tests.{both-right}
-use Rattle.accuracy.specs.Levels.{Moves, moves-silent, moves-then, moves-own, silent-elsewhere}
+use Rattle.machine.proofs.Routing.{sound-sig, sound-channel, held-channel, own-sig, Follows}
+use Rattle.accuracy.proofs.Tests.{both-right}
+use Rattle.accuracy.proofs.Levels.{Moves, moves-silent, moves-then, moves-own, silent-elsewhere}
 
 abbrev pub shown : Pads → ℕ → ℕ
 shown p pin = gpioAt p pin .pin .level

@@ -10,7 +10,7 @@ use Rattle.machine.specs.Board.{Board}
 use Rattle.machine.specs.Call.{Call}
 use Rattle.machine.specs.Step.{step}
 use Rattle.machine.specs.Refusals.{lent}
-use Rattle.machine.specs.Numbers.{entries-fit}
+use Rattle.machine.proofs.Numbers.{entries-fit}
 use Rattle.calls.specs.Taken.{noRoom, taken}
 
 -- no call is left out or changed before the last that is performed

@@ -13,20 +13,20 @@ use Rattle.tim.specs.declared.Next.{Next}
 use Rattle.tim.specs.declared.Due.{Due}
 use Rattle.tim.specs.Change.{output}
 use Rattle.tim.specs.Next.{nextSteps, nextEvent}
-use Rattle.stepping.specs.Nearest.{event-runs}
+use Rattle.stepping.proofs.Nearest.{event-runs}
 use Rattle.sig.specs.Signal.{timSignal}
 use Rattle.gpio.specs.Gpio.{bit}
 use Rattle.book.specs.Book.{Entry, entriesOf}
 use Rattle.machine.specs.Board.{Pads}
 use Rattle.machine.specs.Sys.{driver, driveOutputs}
 use Rattle.machine.specs.Deliver.{applied, countAt, turn, turnOf, Run, run, stop, dueBy}
-use Rattle.machine.specs.Routing.{by-test}
+use Rattle.machine.proofs.Routing.{by-test}
 use Rattle.accuracy.specs.Claim.{levelAt}
-use Rattle.accuracy.specs.Wave.{wave}
-use Rattle.accuracy.specs.Levels.{level-append}
-use Rattle.accuracy.specs.Aim.{Aim, period, high, signalOf, Fixed, due, Phase, Goes}
-use Rattle.accuracy.specs.One.{goes, output-is}
-use Rattle.accuracy.specs.Drive.{Wired, Driven, shown, outputs-driven}
+use Rattle.accuracy.proofs.Wave.{wave}
+use Rattle.accuracy.proofs.Levels.{level-append}
+use Rattle.accuracy.proofs.Aim.{Aim, period, high, signalOf, Fixed, due, Phase, Goes}
+use Rattle.accuracy.proofs.One.{goes, output-is}
+use Rattle.accuracy.proofs.Drive.{Wired, Driven, shown, outputs-driven}
 
 abbrev pub pilot : Aim → ℕ → ℕ
 pilot a = wave (period a) (high a) (a .first)

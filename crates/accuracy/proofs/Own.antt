@@ -14,9 +14,9 @@ use Rattle.machine.specs.Deliver as D
 use Rattle.machine.specs.Call.{deliver, Outcome, refused}
 use Rattle.machine.specs.Step.{step, absent, astray, bookFull, deliveredTo}
 use Rattle.machine.specs.Sound.{Sound}
-use Rattle.machine.specs.Routing.{either}
-use Rattle.accuracy.specs.Aim.{Aim, due}
-use Rattle.accuracy.specs.Record.{Told, Ran, run-told}
+use Rattle.machine.proofs.Routing.{either}
+use Rattle.accuracy.proofs.Aim.{Aim, due}
+use Rattle.accuracy.proofs.Record.{Told, Ran, run-told}
 
 -- a board on which timer i runs the pilot, and the entries so far; its next event is no earlier than a cycle
 pub record Kept (a : Aim) (pin l₀ i from : ℕ) (b : Board) (es : List Entry) : Type 0 where

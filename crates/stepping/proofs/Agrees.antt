@@ -15,10 +15,10 @@ use Rattle.tim.specs.Timer.{down}
 use Rattle.tim.specs.Count.{ticksAt, cntAt, synced}
 use Rattle.tim.specs.Next.{updateSteps, nextSteps, nextEvent}
 use Rattle.stepping.specs.Reading.{channels, ahead, due, stepped, Best}
-use Rattle.stepping.specs.Counting.{up-after, up-above, up-over, down-after, down-over, down-within}
-use Rattle.stepping.specs.Synced.{cnt-runs, cnt-stopped, synced-runs, synced-stopped, moved, moved-cnt, moved-moved, part-split}
-use Rattle.stepping.specs.Kept.{event-moved, ticks-before}
-use Rattle.stepping.specs.Nearest.{next-searched, next-at-once, best-next, event-runs, event-stopped}
+use Rattle.stepping.proofs.Counting.{up-after, up-above, up-over, down-after, down-over, down-within}
+use Rattle.stepping.proofs.Synced.{cnt-runs, cnt-stopped, synced-runs, synced-stopped, moved, moved-cnt, moved-moved, part-split}
+use Rattle.stepping.proofs.Kept.{event-moved, ticks-before}
+use Rattle.stepping.proofs.Nearest.{next-searched, next-at-once, best-next, event-runs, event-stopped}
 
 -- ---- the counter at a cycle
 

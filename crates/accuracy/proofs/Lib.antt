@@ -1,0 +1,16 @@
+pub mod Tests
+pub mod Wave
+pub mod Levels
+pub mod Aim
+pub mod One
+pub mod Drive
+pub mod Record
+pub mod Start
+pub mod Began
+pub mod Own
+pub mod Others
+pub mod Accurate
+pub mod Quick
+pub mod Bench
+pub mod Needed
+pub mod Figures

@@ -1,0 +1,9 @@
+pub mod Numbers
+pub mod NumberLaws
+pub mod DeliverLaws
+pub mod PinLaws
+pub mod Placed
+pub mod Traces
+pub mod TraceLaws
+pub mod Routing
+pub mod Reach
