@@ -26,52 +26,52 @@ pub enum Error {
     Other(u8),
 }
 
+/// Document 01's table: each number with its word.
+const TABLE: [(Error, u8, &str); 8] = [
+    (Error::WrongBoard, 1, "wrong board"),
+    (Error::NoSuchIndex, 2, "no such post"),
+    (Error::BadSize, 3, "odd plug"),
+    (Error::BadClock, 4, "bad clock"),
+    (Error::CycleAstray, 5, "clock astray"),
+    (Error::BookFull, 6, "book full"),
+    (Error::CounterAstray, 7, "counter astray"),
+    (Error::Backlog, 8, "backlog"),
+];
+
+/// Whether an answer's number is a refusal: neither 0, served, nor 8, a backlog. A refused call has changed nothing.
+pub fn is_refusal(number: u8) -> bool {
+    number != 0 && number != 8
+}
+
 impl Error {
     /// The error of a number; `None` for 0, served.
     pub fn from_number(number: u8) -> Option<Self> {
-        Some(match number {
-            0 => return None,
-            1 => Error::WrongBoard,
-            2 => Error::NoSuchIndex,
-            3 => Error::BadSize,
-            4 => Error::BadClock,
-            5 => Error::CycleAstray,
-            6 => Error::BookFull,
-            7 => Error::CounterAstray,
-            8 => Error::Backlog,
-            n => Error::Other(n),
-        })
+        if number == 0 {
+            return None;
+        }
+        Some(TABLE.iter().find(|row| row.1 == number).map_or(Error::Other(number), |row| row.0))
     }
 
     /// Document 01's number.
     pub fn number(self) -> u8 {
         match self {
-            Error::WrongBoard => 1,
-            Error::NoSuchIndex => 2,
-            Error::BadSize => 3,
-            Error::BadClock => 4,
-            Error::CycleAstray => 5,
-            Error::BookFull => 6,
-            Error::CounterAstray => 7,
-            Error::Backlog => 8,
             Error::Other(n) => n,
+            e => TABLE.iter().find(|row| row.0 == e).map_or(0, |row| row.1),
         }
+    }
+
+    /// Whether the call has changed nothing: true of every number but 8.
+    pub fn is_refusal(self) -> bool {
+        is_refusal(self.number())
     }
 }
 
 impl Display for Error {
     fn fmt(&self, f: &mut Formatter) -> fmt::Result {
-        f.write_str(match self {
-            Error::WrongBoard => "wrong board",
-            Error::NoSuchIndex => "no such post",
-            Error::BadSize => "odd plug",
-            Error::BadClock => "bad clock",
-            Error::CycleAstray => "clock astray",
-            Error::BookFull => "book full",
-            Error::CounterAstray => "counter astray",
-            Error::Backlog => "backlog",
-            Error::Other(n) => return write!(f, "refused with {n}"),
-        })
+        match TABLE.iter().find(|row| row.0 == *self) {
+            Some(row) => f.write_str(row.2),
+            None => write!(f, "refused with {}", self.number()),
+        }
     }
 }
 

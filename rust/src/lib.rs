@@ -43,7 +43,7 @@ pub mod ffi;
 
 use std::fmt::{self, Debug, Formatter};
 
-pub use error::Error;
+pub use error::{is_refusal, Error};
 use ffi::{Answer, Book, State};
 
 /// Enough places for every call but a delivery, which stops and is made again.
@@ -378,7 +378,7 @@ impl Board {
     }
 }
 
-/// The numbers are 0 to 8.
+/// The numbers fit a byte.
 fn error(a: Answer) -> Option<Error> {
     Error::from_number(a.number as u8)
 }

@@ -60,9 +60,11 @@ fn every_number_has_its_words() {
     for (number, words) in (1..).zip(words) {
         let e = Error::from_number(number).unwrap();
         assert_eq!((e.number(), e.to_string().as_str()), (number, words));
+        assert_eq!(e.is_refusal(), number != 8);
     }
     assert_eq!(Error::from_number(0), None);
     assert_eq!(Error::from_number(11), Some(Error::Other(11)));
+    assert!(Error::Other(11).is_refusal());
 }
 
 #[test]

@@ -9,7 +9,7 @@ use lib.ListN.{length}
 use lib.Dec.{eqb, ltb, leb}
 use borrow.Author.Tests.{eqb-true, lt-ltb, le-ltb, ltb-true, ltb-false, leb-false, le-leb, lt-leb, not-true, not-false}
 use lib.Ieee.{Float}
-use Rattle.book.specs.Book.{Holds}
+use Rattle.book.specs.Book.{Holds, Lent}
 use Rattle.machine.specs.Board.{Board}
 use Rattle.machine.specs.Call.{Call, Outcome, refused}
 use Rattle.machine.specs.Step.{step, oddSize}
@@ -40,8 +40,8 @@ pub away : (w : List ℕ) (x : List Float) (o : Outcome) (n : ℕ) → o ≡ ref
 away w x o n e r h = rw (e, h) (record { number = refl; value = refl; count = refl; board = refl; kept = λ p q. (refl, refl) })
 
 -- its book: untouched
-pub unbooked : (o : Outcome) (p l c : List ℕ) (n : ℕ) → n ≡ 0 → o .entries ≡ [] → Holds (o .entries) p p l l c c n
-unbooked o p l c n h e = rw (e, h) (record { count = refl; pins = refl; levels = refl; cycles = refl })
+pub unbooked : (o : Outcome) (u : Lent) (n : ℕ) → n ≡ 0 → o .entries ≡ [] → Holds (o .entries) u u n
+unbooked o u n h e = rw (e, h) (record { count = refl; pins = refl; levels = refl; cycles = refl })
 
 -- the answer of a call that was not refused
 pub gives : (o : Outcome) (r : Answer) (w w₁ : List ℕ) (x x₁ : List Float)
@@ -61,10 +61,10 @@ pub turns-away : (w : List ℕ) (x : List Float) (c : Call) (n : ℕ) (r : Answe
     → n ≡ first (refusals (view w x) c) → (n ≡ 0 → ⊥) → r ≡ answer n 0 0 → Answers (step (view w x) c) r w w x x
 turns-away w x c n r e z h = away w x (step (view w x) c) n (refused-step (view w x) c n e z) r h
 
-pub turns-away-book : (b : Board) (c : Call) (n : ℕ) (r : Answer) (p l k : List ℕ)
-    → n ≡ first (refusals b c) → (n ≡ 0 → ⊥) → r ≡ answer n 0 0 → Holds (step b c .entries) p p l l k k (r .count)
-turns-away-book b c n r p l k e z h =
-    unbooked (step b c) p l k (r .count) (ap (λ (a : Answer). a .count) h) (ap (λ (o : Outcome). o .entries) (refused-step b c n e z))
+pub turns-away-book : (b : Board) (c : Call) (n : ℕ) (r : Answer) (u : Lent)
+    → n ≡ first (refusals b c) → (n ≡ 0 → ⊥) → r ≡ answer n 0 0 → Holds (step b c .entries) u u (r .count)
+turns-away-book b c n r u e z h =
+    unbooked (step b c) u (r .count) (ap (λ (a : Answer). a .count) h) (ap (λ (o : Outcome). o .entries) (refused-step b c n e z))
 
 -- not refused: as performed, which is never answered 1 to 7
 pub serves : (b : Board) (c : Call) (r : Answer) (w w₁ : List ℕ) (x x₁ : List Float)
@@ -77,9 +77,9 @@ serves b c r w w₁ x x₁ e n v k h =
     go (inl z) p q = omega arith
     go (inr z) p q = omega (arith, z .0)
 
-pub serves-book : (b : Board) (c : Call) (p p₁ l l₁ k k₁ : List ℕ) (n : ℕ)
-    → 0 ≡ first (refusals b c) → Holds (performed b c .entries) p p₁ l l₁ k k₁ n → Holds (step b c .entries) p p₁ l l₁ k k₁ n
-serves-book b c p p₁ l l₁ k k₁ n e h = rw (served-step b c (sym e)) h
+pub serves-book : (b : Board) (c : Call) (u u₁ : Lent) (n : ℕ)
+    → 0 ≡ first (refusals b c) → Holds (performed b c .entries) u u₁ n → Holds (step b c .entries) u u₁ n
+serves-book b c u u₁ n e h = rw (served-step b c (sym e)) h
 
 -- ---- where nothing of `refusal`'s list applies
 

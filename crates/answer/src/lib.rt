@@ -4,7 +4,7 @@ ghost use mathlib.Core.Path.{_≡_};
 ghost use mathlib.Core.List.{List, [], _∷_};
 ghost use lib.Ieee.{Float};
 ghost use Rattle.state.specs.View.{view};
-ghost use Rattle.book.specs.Book.{places};
+ghost use Rattle.book.specs.Book.{places, slices};
 ghost use Rattle.machine.specs.Step.{astray, oddSize};
 ghost use Rattle.machine.specs.Refusals.{first, noSuchIndex, badSize, clockAstray, bookFull};
 ghost use Rattle.answer.specs.Promise.{answer};
@@ -117,7 +117,7 @@ pub fn book_refusal(
     levels: &[u8],
     cycles: &[u64],
 ) -> u8
-    ensures { λ r. ⌜ ((x : List Float) → r ≡ first (noSuchIndex index ((view (now (words .entry)) x) .counts .timers) ∷ badSize size ∷ clockAstray (view (now (words .entry)) x) cycle ∷ bookFull 4 (places (now (pins .entry)) (now (levels .entry)) (now (cycles .entry))) ∷ [])) ⌝ }
+    ensures { λ r. ⌜ ((x : List Float) → r ≡ first (noSuchIndex index ((view (now (words .entry)) x) .counts .timers) ∷ badSize size ∷ clockAstray (view (now (words .entry)) x) cycle ∷ bookFull 4 (places (slices (now (pins .entry)) (now (levels .entry)) (now (cycles .entry)))) ∷ [])) ⌝ }
 {
     let no = timer_refusal(words, index, size, cycle);
     if no != 0 {

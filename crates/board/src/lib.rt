@@ -7,7 +7,7 @@ use state::REALS;
 use state::WORDS;
 ghost use mathlib.Core.Path.{_≡_};
 ghost use lib.Ieee.{Float};
-ghost use Rattle.book.specs.Book.{places, Holds};
+ghost use Rattle.book.specs.Book.{places, Holds, slices};
 ghost use Rattle.state.specs.View.{view};
 ghost use Rattle.machine.specs.Board.{firstBoard};
 ghost use Rattle.machine.specs.Call as C;
@@ -127,8 +127,8 @@ pub extern "C" fn board_set_pin(
     levels: &mut [u8],
     cycles: &mut [u64],
 ) -> Answer
-    ensures { λ r. ⌜ Answers (step (view (now (words .entry)) (now (reals .entry))) (C.setPin pin mode «open_drain» out pullup pulldown function cycle (places (now (pins .entry)) (now (levels .entry)) (now (cycles .entry))))) r (now (words .entry)) (now (words .exit)) (now (reals .entry)) (now (reals .exit)) ⌝ }
-    ensures { λ r. ⌜ Holds (step (view (now (words .entry)) (now (reals .entry))) (C.setPin pin mode «open_drain» out pullup pulldown function cycle (places (now (pins .entry)) (now (levels .entry)) (now (cycles .entry)))) .entries) (now (pins .entry)) (now (pins .exit)) (now (levels .entry)) (now (levels .exit)) (now (cycles .entry)) (now (cycles .exit)) (r .count) ⌝ }
+    ensures { λ r. ⌜ Answers (step (view (now (words .entry)) (now (reals .entry))) (C.setPin pin mode «open_drain» out pullup pulldown function cycle (places (slices (now (pins .entry)) (now (levels .entry)) (now (cycles .entry)))))) r (now (words .entry)) (now (words .exit)) (now (reals .entry)) (now (reals .exit)) ⌝ }
+    ensures { λ r. ⌜ Holds (step (view (now (words .entry)) (now (reals .entry))) (C.setPin pin mode «open_drain» out pullup pulldown function cycle (places (slices (now (pins .entry)) (now (levels .entry)) (now (cycles .entry))))) .entries) (slices (now (pins .entry)) (now (levels .entry)) (now (cycles .entry))) (slices (now (pins .exit)) (now (levels .exit)) (now (cycles .exit))) (r .count) ⌝ }
 {
     pads::set_pin(
         words,
@@ -160,8 +160,8 @@ pub extern "C" fn board_drive_pin(
     levels: &mut [u8],
     cycles: &mut [u64],
 ) -> Answer
-    ensures { λ r. ⌜ Answers (step (view (now (words .entry)) (now (reals .entry))) (C.drivePin pin (extOf kind volts) cycle (places (now (pins .entry)) (now (levels .entry)) (now (cycles .entry))))) r (now (words .entry)) (now (words .exit)) (now (reals .entry)) (now (reals .exit)) ⌝ }
-    ensures { λ r. ⌜ Holds (step (view (now (words .entry)) (now (reals .entry))) (C.drivePin pin (extOf kind volts) cycle (places (now (pins .entry)) (now (levels .entry)) (now (cycles .entry)))) .entries) (now (pins .entry)) (now (pins .exit)) (now (levels .entry)) (now (levels .exit)) (now (cycles .entry)) (now (cycles .exit)) (r .count) ⌝ }
+    ensures { λ r. ⌜ Answers (step (view (now (words .entry)) (now (reals .entry))) (C.drivePin pin (extOf kind volts) cycle (places (slices (now (pins .entry)) (now (levels .entry)) (now (cycles .entry)))))) r (now (words .entry)) (now (words .exit)) (now (reals .entry)) (now (reals .exit)) ⌝ }
+    ensures { λ r. ⌜ Holds (step (view (now (words .entry)) (now (reals .entry))) (C.drivePin pin (extOf kind volts) cycle (places (slices (now (pins .entry)) (now (levels .entry)) (now (cycles .entry))))) .entries) (slices (now (pins .entry)) (now (levels .entry)) (now (cycles .entry))) (slices (now (pins .exit)) (now (levels .exit)) (now (cycles .exit))) (r .count) ⌝ }
 {
     pads::drive_pin(words, reals, pins, levels, cycles, pin, kind, volts, cycle)
 }
@@ -176,8 +176,8 @@ pub extern "C" fn board_reset_pins(
     levels: &mut [u8],
     cycles: &mut [u64],
 ) -> Answer
-    ensures { λ r. ⌜ Answers (step (view (now (words .entry)) (now (reals .entry))) (C.resetPins cycle (places (now (pins .entry)) (now (levels .entry)) (now (cycles .entry))))) r (now (words .entry)) (now (words .exit)) (now (reals .entry)) (now (reals .exit)) ⌝ }
-    ensures { λ r. ⌜ Holds (step (view (now (words .entry)) (now (reals .entry))) (C.resetPins cycle (places (now (pins .entry)) (now (levels .entry)) (now (cycles .entry)))) .entries) (now (pins .entry)) (now (pins .exit)) (now (levels .entry)) (now (levels .exit)) (now (cycles .entry)) (now (cycles .exit)) (r .count) ⌝ }
+    ensures { λ r. ⌜ Answers (step (view (now (words .entry)) (now (reals .entry))) (C.resetPins cycle (places (slices (now (pins .entry)) (now (levels .entry)) (now (cycles .entry)))))) r (now (words .entry)) (now (words .exit)) (now (reals .entry)) (now (reals .exit)) ⌝ }
+    ensures { λ r. ⌜ Holds (step (view (now (words .entry)) (now (reals .entry))) (C.resetPins cycle (places (slices (now (pins .entry)) (now (levels .entry)) (now (cycles .entry))))) .entries) (slices (now (pins .entry)) (now (levels .entry)) (now (cycles .entry))) (slices (now (pins .exit)) (now (levels .exit)) (now (cycles .exit))) (r .count) ⌝ }
 {
     pads::reset_pins(words, reals, pins, levels, cycles, cycle)
 }
@@ -213,8 +213,8 @@ pub extern "C" fn board_write(
     levels: &mut [u8],
     cycles: &mut [u64],
 ) -> Answer
-    ensures { λ r. ⌜ Answers (step (view (now (words .entry)) (now (reals .entry))) (C.write timer offset size value cycle (places (now (pins .entry)) (now (levels .entry)) (now (cycles .entry))))) r (now (words .entry)) (now (words .exit)) (now (reals .entry)) (now (reals .exit)) ⌝ }
-    ensures { λ r. ⌜ Holds (step (view (now (words .entry)) (now (reals .entry))) (C.write timer offset size value cycle (places (now (pins .entry)) (now (levels .entry)) (now (cycles .entry)))) .entries) (now (pins .entry)) (now (pins .exit)) (now (levels .entry)) (now (levels .exit)) (now (cycles .entry)) (now (cycles .exit)) (r .count) ⌝ }
+    ensures { λ r. ⌜ Answers (step (view (now (words .entry)) (now (reals .entry))) (C.write timer offset size value cycle (places (slices (now (pins .entry)) (now (levels .entry)) (now (cycles .entry)))))) r (now (words .entry)) (now (words .exit)) (now (reals .entry)) (now (reals .exit)) ⌝ }
+    ensures { λ r. ⌜ Holds (step (view (now (words .entry)) (now (reals .entry))) (C.write timer offset size value cycle (places (slices (now (pins .entry)) (now (levels .entry)) (now (cycles .entry))))) .entries) (slices (now (pins .entry)) (now (levels .entry)) (now (cycles .entry))) (slices (now (pins .exit)) (now (levels .exit)) (now (cycles .exit))) (r .count) ⌝ }
 {
     write::write(
         words,
@@ -255,8 +255,8 @@ pub extern "C" fn board_reset(
     levels: &mut [u8],
     cycles: &mut [u64],
 ) -> Answer
-    ensures { λ r. ⌜ Answers (step (view (now (words .entry)) (now (reals .entry))) (C.resetTimer timer cycle (places (now (pins .entry)) (now (levels .entry)) (now (cycles .entry))))) r (now (words .entry)) (now (words .exit)) (now (reals .entry)) (now (reals .exit)) ⌝ }
-    ensures { λ r. ⌜ Holds (step (view (now (words .entry)) (now (reals .entry))) (C.resetTimer timer cycle (places (now (pins .entry)) (now (levels .entry)) (now (cycles .entry)))) .entries) (now (pins .entry)) (now (pins .exit)) (now (levels .entry)) (now (levels .exit)) (now (cycles .entry)) (now (cycles .exit)) (r .count) ⌝ }
+    ensures { λ r. ⌜ Answers (step (view (now (words .entry)) (now (reals .entry))) (C.resetTimer timer cycle (places (slices (now (pins .entry)) (now (levels .entry)) (now (cycles .entry)))))) r (now (words .entry)) (now (words .exit)) (now (reals .entry)) (now (reals .exit)) ⌝ }
+    ensures { λ r. ⌜ Holds (step (view (now (words .entry)) (now (reals .entry))) (C.resetTimer timer cycle (places (slices (now (pins .entry)) (now (levels .entry)) (now (cycles .entry))))) .entries) (slices (now (pins .entry)) (now (levels .entry)) (now (cycles .entry))) (slices (now (pins .exit)) (now (levels .exit)) (now (cycles .exit))) (r .count) ⌝ }
 {
     mmio::reset(words, reals, pins, levels, cycles, timer, cycle)
 }
@@ -272,8 +272,8 @@ pub extern "C" fn board_deliver(
     levels: &mut [u8],
     cycles: &mut [u64],
 ) -> Answer
-    ensures { λ r. ⌜ Answers (step (view (now (words .entry)) (now (reals .entry))) (C.deliver timer cycle (places (now (pins .entry)) (now (levels .entry)) (now (cycles .entry))))) r (now (words .entry)) (now (words .exit)) (now (reals .entry)) (now (reals .exit)) ⌝ }
-    ensures { λ r. ⌜ Holds (step (view (now (words .entry)) (now (reals .entry))) (C.deliver timer cycle (places (now (pins .entry)) (now (levels .entry)) (now (cycles .entry)))) .entries) (now (pins .entry)) (now (pins .exit)) (now (levels .entry)) (now (levels .exit)) (now (cycles .entry)) (now (cycles .exit)) (r .count) ⌝ }
+    ensures { λ r. ⌜ Answers (step (view (now (words .entry)) (now (reals .entry))) (C.deliver timer cycle (places (slices (now (pins .entry)) (now (levels .entry)) (now (cycles .entry)))))) r (now (words .entry)) (now (words .exit)) (now (reals .entry)) (now (reals .exit)) ⌝ }
+    ensures { λ r. ⌜ Holds (step (view (now (words .entry)) (now (reals .entry))) (C.deliver timer cycle (places (slices (now (pins .entry)) (now (levels .entry)) (now (cycles .entry))))) .entries) (slices (now (pins .entry)) (now (levels .entry)) (now (cycles .entry))) (slices (now (pins .exit)) (now (levels .exit)) (now (cycles .exit))) (r .count) ⌝ }
 {
     mmio::deliver(words, reals, pins, levels, cycles, timer, cycle)
 }

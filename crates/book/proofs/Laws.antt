@@ -7,7 +7,7 @@ use native.Mathlib.Numerals.{add-one}
 use native.Mathlib.Omega.{arith}
 use lib.ListN.{length, length-map, drop}
 use lib.Seq.{sets, sets-eq}
-use Rattle.book.specs.Book.{Changes, Entry, Book, book, put, puts, entryOf, entriesOf, over, Holds}
+use Rattle.book.specs.Book.{Changes, Entry, Lent, places, Room, Book, book, put, puts, entryOf, entriesOf, over, Holds}
 
 pub puts-append : (b : Book) (xs ys : List Entry) → puts b (xs ++ ys) ≡ puts (puts b xs) ys
 unfolding puts
@@ -55,13 +55,16 @@ laid f es p h =
     sets-eq (map f es) p 0 (omega arith) ∙ ap (λ (k : ℕ). map f es ++ drop k p) (zero-add (length (map f es)))
 
 -- entries put from place 0, as many as fit: the slices hold them, and are untouched behind them
-pub holds : (es : List Entry) (p l c p₁ l₁ c₁ : List ℕ) (n : ℕ) → book p₁ l₁ c₁ n ≡ puts (book p l c 0) es
-    → n ≤ length p → n ≤ length l → n ≤ length c → Holds es p p₁ l l₁ c c₁ n
-holds es p l c p₁ l₁ c₁ n h x y z =
-    let q : n ≡ length es = ap (λ (b : Book). b .count) h ∙ puts-count (book p l c 0) es ∙ zero-add (length es) in
+pub holds : (es : List Entry) (u u₁ : Lent) (n : ℕ) → book u₁ n ≡ puts (book u 0) es → Room n u → Holds es u u₁ n
+holds es u u₁ n h f =
+    let q : n ≡ length es = ap (λ (b : Book). b .count) h ∙ puts-count (book u 0) es ∙ zero-add (length es) in
     record {
       count = q;
-      pins = ap (λ (b : Book). b .pins) h ∙ puts-pins (book p l c 0) es ∙ laid (λ (e : Entry). e .pin) es p (omega arith);
-      levels = ap (λ (b : Book). b .levels) h ∙ puts-levels (book p l c 0) es ∙ laid (λ (e : Entry). e .level) es l (omega arith);
-      cycles = ap (λ (b : Book). b .cycles) h ∙ puts-cycles (book p l c 0) es ∙ laid (λ (e : Entry). e .cycle) es c (omega arith);
+      pins = ap (λ (b : Book). b .pins) h ∙ puts-pins (book u 0) es ∙ laid (λ (e : Entry). e .pin) es (u .pins) (omega (arith, f .0));
+      levels = ap (λ (b : Book). b .levels) h ∙ puts-levels (book u 0) es ∙ laid (λ (e : Entry). e .level) es (u .levels) (omega (arith, f .1));
+      cycles = ap (λ (b : Book). b .cycles) h ∙ puts-cycles (book u 0) es ∙ laid (λ (e : Entry). e .cycle) es (u .cycles) (omega (arith, f .2));
     }
+
+-- a book of n places: each slice has them, and fewer
+pub roomy : (u : Lent) (k n : ℕ) → n ≤ places u → k ≤ n → Room k u
+roomy u k n h j = (omega arith, omega arith, omega arith)

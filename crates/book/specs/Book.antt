@@ -1,7 +1,7 @@
 -- The lent book (document 01: "three slices (pin, level, cycle) filled from place 0").
 use mathlib.Core.Path.{_≡_}
 use mathlib.Core.List.{List, [], _∷_, _++_, map}
-use Prim.Native.Nat.{ℕ, _+_, min}
+use Prim.Native.Nat.{ℕ, _+_, _≤_, min}
 use lib.ListN.{set, length, drop}
 use Rattle.gpio.specs.declared.Change.{Change}
 use Rattle.gpio.specs.declared.Change.the-variants.{Same, Level}
@@ -12,19 +12,32 @@ pub record Entry : Type 0 where
   pub level : ℕ
   pub cycle : ℕ
 
--- the three slices, and how many places are filled
+-- what the slices of a book hold
+pub record Lent : Type 0 where
+  pub pins : List ℕ
+  pub levels : List ℕ
+  pub cycles : List ℕ
+
+abbrev pub slices : List ℕ → List ℕ → List ℕ → Lent
+slices p l c = record { pins = p; levels = l; cycles = c }
+
+-- "its length is the shortest of the three"
+abbrev pub places : Lent → ℕ
+places u = min (length (u .pins)) (min (length (u .levels)) (length (u .cycles)))
+
+-- each slice has n places
+abbrev pub Room : ℕ → Lent → Type 0
+Room n u = (n ≤ length (u .pins)) × (n ≤ length (u .levels)) × (n ≤ length (u .cycles))
+
+-- the slices, and how many places are filled
 pub record Book : Type 0 where
   pub pins : List ℕ
   pub levels : List ℕ
   pub cycles : List ℕ
   pub count : ℕ
 
-abbrev pub book : List ℕ → List ℕ → List ℕ → ℕ → Book
-book p l c n = record { pins = p; levels = l; cycles = c; count = n }
-
--- "its length is the shortest of the three"
-abbrev pub places : List ℕ → List ℕ → List ℕ → ℕ
-places p l c = min (length p) (min (length l) (length c))
+abbrev pub book : Lent → ℕ → Book
+book u n = record { pins = u .pins; levels = u .levels; cycles = u .cycles; count = n }
 
 -- one entry at the next place
 abbrev pub put : Book → Entry → Book
@@ -55,12 +68,13 @@ pub record Changes : Type 0 where
 unfoldable pub entriesOf : ℕ → Changes → List Entry
 entriesOf cycle c = entryOf cycle (c .a) ++ (entryOf cycle (c .b) ++ (entryOf cycle (c .c) ++ entryOf cycle (c .d)))
 
--- what a call leaves of the lent slices: the entries from place 0, "later places are untouched"
+-- what a call leaves of a lent slice: values from place 0, "later places are untouched"
 abbrev pub over : List ℕ → List ℕ → List ℕ
 over xs old = xs ++ drop (length xs) old
 
-pub record Holds (es : List Entry) (p p₁ l l₁ c c₁ : List ℕ) (n : ℕ) : Type 0 where
+-- what a call leaves of the lent book: entries from place 0, n of them
+pub record Holds (es : List Entry) (u u₁ : Lent) (n : ℕ) : Type 0 where
   pub count : n ≡ length es
-  pub pins : p₁ ≡ over (map (λ (e : Entry). e .pin) es) p
-  pub levels : l₁ ≡ over (map (λ (e : Entry). e .level) es) l
-  pub cycles : c₁ ≡ over (map (λ (e : Entry). e .cycle) es) c
+  pub pins : u₁ .pins ≡ over (map (λ (e : Entry). e .pin) es) (u .pins)
+  pub levels : u₁ .levels ≡ over (map (λ (e : Entry). e .level) es) (u .levels)
+  pub cycles : u₁ .cycles ≡ over (map (λ (e : Entry). e .cycle) es) (u .cycles)

@@ -3,7 +3,7 @@ use gpio::Change;
 ghost use mathlib.Core.Path.{_≡_};
 ghost use Prim.Native.Nat.{_+_, _≤_, _<_};
 ghost use lib.ListN.{length};
-ghost use Rattle.book.specs.Book.{book, puts, entryOf, places};
+ghost use Rattle.book.specs.Book.{book, puts, entryOf, places, slices, Room};
 
 fn lesser(a: usize, b: usize) -> usize
     ensures { λ r. ⌜ r ≡ Prim.Native.Nat.min a b ⌝ }
@@ -13,7 +13,7 @@ fn lesser(a: usize, b: usize) -> usize
 
 // The book's length: the shortest of the three.
 pub fn room(pins: &[u8], levels: &[u8], cycles: &[u64]) -> usize
-    ensures { λ r. ⌜ r ≡ places (now (pins .entry)) (now (levels .entry)) (now (cycles .entry)) ⌝ }
+    ensures { λ r. ⌜ r ≡ places (slices (now (pins .entry)) (now (levels .entry)) (now (cycles .entry))) ⌝ }
 {
     let a = pins.len();
     let b = levels.len();
@@ -30,8 +30,8 @@ pub fn append(
     change: Change,
     cycle: u64,
 ) -> usize
-    requires { ⌜ (n < length (now pins)) × (n < length (now levels)) × (n < length (now cycles)) ⌝ }
-    ensures { λ r. ⌜ book (now (pins .exit)) (now (levels .exit)) (now (cycles .exit)) r ≡ puts (book (now (pins .entry)) (now (levels .entry)) (now (cycles .entry)) n) (entryOf cycle change) ⌝ }
+    requires { ⌜ Room (n + 1) (slices (now pins) (now levels) (now cycles)) ⌝ }
+    ensures { λ r. ⌜ book (slices (now (pins .exit)) (now (levels .exit)) (now (cycles .exit))) r ≡ puts (book (slices (now (pins .entry)) (now (levels .entry)) (now (cycles .entry))) n) (entryOf cycle change) ⌝ }
     ensures { λ r. ⌜ r ≤ n + 1 ⌝ }
 {
     match change {

@@ -11,7 +11,7 @@ use lib.ListN.{length, take, drop}
 use borrow.Author.Tests.{eq-eqb, ne-eqb}
 use Rattle.real.specs.Real.{positive}
 use Rattle.clk.specs.declared.ClockTree.{ClockTree}
-use Rattle.book.specs.Book.{Entry, Holds}
+use Rattle.book.specs.Book.{Entry, Holds, slices, Lent}
 use Rattle.machine.specs.Board.{Board}
 use Rattle.machine.specs.Call.{Call, Outcome, Setup, setUp, clockTree, enable, setPin, drivePin, resetPins, read, write, peek, resetTimer, deliver, queryBooked, queryNext, queryLevel, queryVolts, queryLine, queryTime, clearPending}
 use Rattle.machine.specs.Step.{step, withinLimits}
@@ -30,17 +30,17 @@ use Rattle.encoding.specs.Encoding.{word, word64, real64, treeAt, hasBook, book
 pub answers-as : (c d : Call) → c ≡ d → (b : Board) (r : Answer) (w w₁ : List ℕ) (x x₁ : List Float) → Answers (step b c) r w w₁ x x₁ → Answers (step b d) r w w₁ x x₁
 answers-as c d e b r w w₁ x x₁ h = subst (λ (k : Call). Answers (step b k) r w w₁ x x₁) e h
 
-pub books-as : (c d : Call) → c ≡ d → (b : Board) (r : Answer) (w w₁ : List ℕ) (x x₁ : List Float) (p p₁ l l₁ k k₁ : List ℕ)
-    → Answers (step b c) r w w₁ x x₁ × Holds (step b c .entries) p p₁ l l₁ k k₁ (r .count)
-    → Answers (step b d) r w w₁ x x₁ × Holds (step b d .entries) p p₁ l l₁ k k₁ (r .count)
-books-as c d e b r w w₁ x x₁ p p₁ l l₁ k k₁ h =
-    subst (λ (y : Call). Answers (step b y) r w w₁ x x₁ × Holds (step b y .entries) p p₁ l l₁ k k₁ (r .count)) e h
+pub books-as : (c d : Call) → c ≡ d → (b : Board) (r : Answer) (w w₁ : List ℕ) (x x₁ : List Float) (u u₁ : Lent)
+    → Answers (step b c) r w w₁ x x₁ × Holds (step b c .entries) u u₁ (r .count)
+    → Answers (step b d) r w w₁ x x₁ × Holds (step b d .entries) u u₁ (r .count)
+books-as c d e b r w w₁ x x₁ u u₁ h =
+    subst (λ (y : Call). Answers (step b y) r w w₁ x x₁ × Holds (step b y .entries) u u₁ (r .count)) e h
 
 -- a call without a book leaves the slices
-pub bookless : (c d : Call) → c ≡ d → lent c ≡ 0 → (b : Board) (r : Answer) (w w₁ : List ℕ) (x x₁ : List Float) (p l k : List ℕ)
-    → Answers (step b c) r w w₁ x x₁ → Answers (step b d) r w w₁ x x₁ × Holds (step b d .entries) p p l l k k (r .count)
-bookless c d e z b r w w₁ x x₁ p l k h =
-    books-as c d e b r w w₁ x x₁ p p l l k k (h, unbooked (step b c) p l k (r .count) (omega (arith, h .count, entries-fit b c .places)) (empty (step b c .entries) (omega (arith, entries-fit b c .places))))
+pub bookless : (c d : Call) → c ≡ d → lent c ≡ 0 → (b : Board) (r : Answer) (w w₁ : List ℕ) (x x₁ : List Float) (u : Lent)
+    → Answers (step b c) r w w₁ x x₁ → Answers (step b d) r w w₁ x x₁ × Holds (step b d .entries) u u (r .count)
+bookless c d e z b r w w₁ x x₁ u h =
+    books-as c d e b r w w₁ x x₁ u u (h, unbooked (step b c) u (r .count) (omega (arith, h .count, entries-fit b c .places)) (empty (step b c .entries) (omega (arith, entries-fit b c .places))))
   where
     empty : (es : List Entry) → length es ≤ 0 → es ≡ []
     empty [] q = refl

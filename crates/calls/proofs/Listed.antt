@@ -10,8 +10,8 @@ use lib.Ieee.{Float}
 use lib.ListN.{length, take, drop, set, length-map, length-append, length-drop, take-append-drop}
 use lib.Seq.{sets, sets-eq, drop-drop, drop-append-le, length-take-le, take-all}
 use borrow.Author.Tests.{ltb-false, leb-true, eqb-false}
-use Rattle.book.specs.Book.{Entry, Book, book, puts, put, places, over, Holds}
-use Rattle.book.proofs.Laws.{puts-append, holds}
+use Rattle.book.specs.Book.{Entry, Lent, slices, Room, Book, book, puts, put, places, over, Holds}
+use Rattle.book.proofs.Laws.{puts-append, holds, roomy}
 use Rattle.machine.specs.Board.{Board}
 use Rattle.machine.specs.Call.{Call, Outcome}
 use Rattle.machine.specs.Step.{step, run, boardAfter}
@@ -83,48 +83,52 @@ whole-over xs p at end h g n =
     ∙ ap (drop (length xs)) (take-append-drop (end - at) (drop at p)) ∙ drop-drop (length xs) at p))
     ∙ sym (append-assoc (take at p) xs (drop (at + length xs) p)) ∙ sym (sets-eq xs p at (omega arith))
 
-puts-is : (p l c : List ℕ) (n : ℕ) (es : List Entry)
-    → puts (book p l c n) es ≡ book (sets p n (map (λ (e : Entry). e .pin) es)) (sets l n (map (λ (e : Entry). e .level) es)) (sets c n (map (λ (e : Entry). e .cycle) es)) (n + length es)
+-- the slices with entries stored from place n on
+abbrev stored : Lent → ℕ → List Entry → Lent
+stored u n es =
+    slices (sets (u .pins) n (map (λ (e : Entry). e .pin) es)) (sets (u .levels) n (map (λ (e : Entry). e .level) es)) (sets (u .cycles) n (map (λ (e : Entry). e .cycle) es))
+
+puts-is : (u : Lent) (n : ℕ) (es : List Entry) → puts (book u n) es ≡ book (stored u n es) (n + length es)
 unfolding puts
-puts-is p l c n [] = ap (book p l c) (sym (add-zero n))
-puts-is p l c n (e ∷ es) =
+puts-is u n [] = ap (book u) (sym (add-zero n))
+puts-is u n (e ∷ es) =
     let k : n + 1 ≡ suc n = omega arith in
     let m : suc n + length es ≡ n + suc (length es) = omega arith in
-    ap (λ (i : ℕ). puts (book (set p n (e .pin)) (set l n (e .level)) (set c n (e .cycle)) i) es) k
-    ∙ puts-is (set p n (e .pin)) (set l n (e .level)) (set c n (e .cycle)) (suc n) es
-    ∙ ap (book (sets p n (map (λ (y : Entry). y .pin) (e ∷ es))) (sets l n (map (λ (y : Entry). y .level) (e ∷ es))) (sets c n (map (λ (y : Entry). y .cycle) (e ∷ es)))) m
+    let v : Lent = slices (set (u .pins) n (e .pin)) (set (u .levels) n (e .level)) (set (u .cycles) n (e .cycle)) in
+    ap (λ (i : ℕ). puts (book v i) es) k ∙ puts-is v (suc n) es ∙ ap (book (stored u n (e ∷ es))) m
 
 puts-count : (k : Book) (es : List Entry) → puts k es .count ≡ k .count + length es
-puts-count k es = ap (λ (y : Book). y .count) (puts-is (k .pins) (k .levels) (k .cycles) (k .count) es)
+puts-count k es = ap (λ (y : Book). y .count) (puts-is (slices (k .pins) (k .levels) (k .cycles)) (k .count) es)
 
--- what holds of the parts, put behind the entries so far
-parts-put : (es : List Entry) (p l c p₁ l₁ c₁ : List ℕ) (at end n : ℕ) → at ≤ end → end ≤ length p → end ≤ length l → end ≤ length c → length es ≤ end - at
-    → Holds es (part at end p) p₁ (part at end l) l₁ (part at end c) c₁ n
-    → book (whole at end p p₁) (whole at end l l₁) (whole at end c c₁) (at + n) ≡ puts (book p l c at) es
-parts-put es p l c p₁ l₁ c₁ at end n h x y z m q =
-    ap (λ (u : List ℕ). book (whole at end p u) (whole at end l l₁) (whole at end c c₁) (at + n)) (q .pins)
-    ∙ ap (λ (u : List ℕ). book u (whole at end l l₁) (whole at end c c₁) (at + n)) (whole-over (map (λ (e : Entry). e .pin) es) p at end h x (omega (arith, length-map es (λ (e : Entry). e .pin))))
-    ∙ ap (λ (u : List ℕ). book (sets p at (map (λ (e : Entry). e .pin) es)) u (whole at end c c₁) (at + n))
-    (ap (whole at end l) (q .levels) ∙ whole-over (map (λ (e : Entry). e .level) es) l at end h y (omega (arith, length-map es (λ (e : Entry). e .level))))
-    ∙ ap (λ (u : List ℕ). book (sets p at (map (λ (e : Entry). e .pin) es)) (sets l at (map (λ (e : Entry). e .level) es)) u (at + n))
-    (ap (whole at end c) (q .cycles) ∙ whole-over (map (λ (e : Entry). e .cycle) es) c at end h z (omega (arith, length-map es (λ (e : Entry). e .cycle))))
-    ∙ ap (λ (i : ℕ). book (sets p at (map (λ (e : Entry). e .pin) es)) (sets l at (map (λ (e : Entry). e .level) es)) (sets c at (map (λ (e : Entry). e .cycle) es)) (at + i)) (q .count)
-    ∙ sym (puts-is p l c at es)
+-- a part of each slice, and the slices with that part exchanged
+abbrev pub cut : ℕ → ℕ → Lent → Lent
+cut at end u = slices (part at end (u .pins)) (part at end (u .levels)) (part at end (u .cycles))
+
+abbrev pub mended : ℕ → ℕ → Lent → Lent → Lent
+mended at end u u₁ = slices (whole at end (u .pins) (u₁ .pins)) (whole at end (u .levels) (u₁ .levels)) (whole at end (u .cycles) (u₁ .cycles))
+
+-- what a part holds, put behind the entries so far
+parts-put : (es : List Entry) (u u₁ : Lent) (at end n : ℕ) → at ≤ end → Room end u → length es ≤ end - at → Holds es (cut at end u) u₁ n
+    → book (mended at end u u₁) (at + n) ≡ puts (book u at) es
+parts-put es u u₁ at end n h f m q =
+    ap (λ (v : Lent). book v (at + n)) same ∙ ap (λ (i : ℕ). book (stored u at es) (at + i)) (q .count) ∙ sym (puts-is u at es)
+  where
+    laid : (g : Entry → ℕ) (p p₁ : List ℕ) → end ≤ length p → p₁ ≡ over (map g es) (part at end p) → whole at end p p₁ ≡ sets p at (map g es)
+    laid g p p₁ x e = ap (whole at end p) e ∙ whole-over (map g es) p at end h x (omega (arith, length-map es g))
+
+    same : mended at end u u₁ ≡ stored u at es
+    same = rw (laid (λ (e : Entry). e .pin) (u .pins) (u₁ .pins) (f .0) (q .pins), laid (λ (e : Entry). e .level) (u .levels) (u₁ .levels) (f .1) (q .levels), laid (λ (e : Entry). e .cycle) (u .cycles) (u₁ .cycles) (f .2) (q .cycles))
 
 -- ---- one call
-module _ (ns : List ℕ) (b : Board) (r : Answer) (w w₁ : List ℕ) (x x₁ : List Float) (p p₁ l l₁ c c₁ : List ℕ) (at end : ℕ) where
-  pub part-does : at + bookOf ns ≡ end → end ≤ length p → end ≤ length l → end ≤ length c
-      → Answers (step b (callWith ns (places (part at end p) (part at end l) (part at end c)))) r w w₁ x x₁
-      × Holds (step b (callWith ns (places (part at end p) (part at end l) (part at end c))) .entries) (part at end p) p₁ (part at end l) l₁ (part at end c) c₁ (r .count)
-      → Answers (step b (callOf ns)) r w w₁ x x₁
-      × (book (whole at end p p₁) (whole at end l l₁) (whole at end c c₁) (at + r .count) ≡ puts (book p l c at) (step b (callOf ns) .entries))
-  part-does e x′ y z h =
-      let n : places (part at end p) (part at end l) (part at end c) ≡ bookOf ns
-      = omega (arith, part-length at end p (omega arith) x′, part-length at end l (omega arith) y, part-length at end c (omega arith) z) in
-      let g = subst
-      (λ (k : ℕ). Answers (step b (callWith ns k)) r w w₁ x x₁ × Holds (step b (callWith ns k) .entries) (part at end p) p₁ (part at end l) l₁ (part at end c) c₁ (r .count))
-      n h in
-      (g .0, parts-put (step b (callOf ns) .entries) p l c p₁ l₁ c₁ at end (r .count) (omega arith) x′ y z (omega (arith, entries-fit b (callOf ns) .places, lent-of ns)) (g .1))
+module _ (ns : List ℕ) (b : Board) (r : Answer) (w w₁ : List ℕ) (x x₁ : List Float) (u u₁ : Lent) (at end : ℕ) where
+  pub part-does : at + bookOf ns ≡ end → Room end u
+      → Answers (step b (callWith ns (places (cut at end u)))) r w w₁ x x₁ × Holds (step b (callWith ns (places (cut at end u))) .entries) (cut at end u) u₁ (r .count)
+      → Answers (step b (callOf ns)) r w w₁ x x₁ × (book (mended at end u u₁) (at + r .count) ≡ puts (book u at) (step b (callOf ns) .entries))
+  part-does e f h =
+      let n : places (cut at end u) ≡ bookOf ns
+      = omega (arith, part-length at end (u .pins) (omega arith) (f .0), part-length at end (u .levels) (omega arith) (f .1), part-length at end (u .cycles) (omega arith) (f .2)) in
+      let g = subst (λ (k : ℕ). Answers (step b (callWith ns k)) r w w₁ x x₁ × Holds (step b (callWith ns k) .entries) (cut at end u) u₁ (r .count)) n h in
+      (g .0, parts-put (step b (callOf ns) .entries) u u₁ at end (r .count) (omega arith) f (omega (arith, entries-fit b (callOf ns) .places, lent-of ns)) (g .1))
 
 pub three-words : (a : List ℕ) (i x y z : ℕ) → set (set (set a i x) (i + 1) y) (i + 2) z ≡ sets a i (x ∷ y ∷ z ∷ [])
 three-words a i x y z =
@@ -313,10 +317,10 @@ answers-length b (c ∷ cs) =
     omega arith
 
 -- the end as the contract says it
-pub ends : (b₀ b : Board) (cs : List Call) (a₀ a p₀ p l₀ l c₀ c : List ℕ) (done n : ℕ) → finish b₀ cs 0 a₀ (book p₀ l₀ c₀ 0) ≡ finish b [] done a (book p l c n)
-    → done * 3 ≤ length a₀ → n ≤ length p₀ → n ≤ length l₀ → n ≤ length c₀ → Runs b₀ cs b (record { calls = done; entries = n }) a₀ a p₀ p l₀ l c₀ c
+pub ends : (b₀ b : Board) (cs : List Call) (a₀ a : List ℕ) (u₀ u : Lent) (done n : ℕ) → finish b₀ cs 0 a₀ (book u₀ 0) ≡ finish b [] done a (book u n)
+    → done * 3 ≤ length a₀ → Room n u₀ → Runs b₀ cs b (record { calls = done; entries = n }) a₀ a u₀ u
 unfolding boardAfter run answersOf joined puts
-ends b₀ b cs a₀ a p₀ p l₀ l c₀ c done n h w x y z =
+ends b₀ b cs a₀ a u₀ u done n h w f =
     let k : 0 + length cs ≡ done + 0 = ap (λ (e : End). e .calls) h in
     let m : done ≡ length cs = omega arith in
     let j : length (answersOf (run b₀ cs)) ≤ length a₀ = omega (arith, answers-length b₀ cs) in
@@ -324,12 +328,12 @@ ends b₀ b cs a₀ a p₀ p l₀ l c₀ c done n h w x y z =
       calls = m;
       board = sym (ap (λ (e : End). e .board) h);
       answers = sym (ap (λ (e : End). e .answers) h) ∙ sets-eq (answersOf (run b₀ cs)) a₀ 0 (omega arith) ∙ ap (λ (i : ℕ). answersOf (run b₀ cs) ++ drop i a₀) (zero-add (length (answersOf (run b₀ cs))));
-      entries = holds (joined (run b₀ cs)) p₀ l₀ c₀ p l c n (sym (ap (λ (e : End). e .book) h)) x y z;
+      entries = holds (joined (run b₀ cs)) u₀ u n (sym (ap (λ (e : End). e .book) h)) f;
     }
 
-pub room-ends : (ns : List ℕ) (b₀ b : Board) (a₀ a p₀ p l₀ l c₀ c : List ℕ) (done n room : ℕ) → room ≡ places p₀ l₀ c₀
-    → finish b₀ (taken b₀ (callsOf ns) (length a₀) room) 0 a₀ (book p₀ l₀ c₀ 0) ≡ finish b [] done a (book p l c n) → done * 3 ≤ length a₀ → n ≤ room
-    → Runs b₀ (taken b₀ (callsOf ns) (length a₀) (places p₀ l₀ c₀)) b (record { calls = done; entries = n }) a₀ a p₀ p l₀ l c₀ c
-room-ends ns b₀ b a₀ a p₀ p l₀ l c₀ c done n room e h w x =
-    subst (λ (k : ℕ). Runs b₀ (taken b₀ (callsOf ns) (length a₀) k) b (record { calls = done; entries = n }) a₀ a p₀ p l₀ l c₀ c) e
-    (ends b₀ b (taken b₀ (callsOf ns) (length a₀) room) a₀ a p₀ p l₀ l c₀ c done n h w (omega (arith, e)) (omega (arith, e)) (omega (arith, e)))
+pub room-ends : (ns : List ℕ) (b₀ b : Board) (a₀ a : List ℕ) (u₀ u : Lent) (done n room : ℕ) → room ≡ places u₀
+    → finish b₀ (taken b₀ (callsOf ns) (length a₀) room) 0 a₀ (book u₀ 0) ≡ finish b [] done a (book u n) → done * 3 ≤ length a₀ → n ≤ room
+    → Runs b₀ (taken b₀ (callsOf ns) (length a₀) (places u₀)) b (record { calls = done; entries = n }) a₀ a u₀ u
+room-ends ns b₀ b a₀ a u₀ u done n room e h w x =
+    subst (λ (k : ℕ). Runs b₀ (taken b₀ (callsOf ns) (length a₀) k) b (record { calls = done; entries = n }) a₀ a u₀ u) e
+    (ends b₀ b (taken b₀ (callsOf ns) (length a₀) room) a₀ a u₀ u done n h w (roomy u₀ n room (omega (arith, e)) x))

@@ -1,2 +1,1 @@
 pub mod Taken
-pub mod Recorded

@@ -6,8 +6,10 @@ use Prim.Native.Nat.{ℕ, zero, suc, _-_}
 use lib.Dec.{eqb, ltb}
 use lib.ListN.{length, drop}
 use lib.Seq.{sets}
-use Rattle.book.specs.Book.{Book, puts, over, Holds}
+use lib.Ieee.{Float}
+use Rattle.book.specs.Book.{Lent, places, Book, puts, over, Holds}
 use Rattle.machine.specs.Board.{Board}
+use Rattle.state.specs.View.{view}
 use Rattle.machine.specs.Call.{Call, Outcome}
 use Rattle.machine.specs.Step.{step, run, boardAfter}
 use Rattle.machine.specs.Refusals.{lent}
@@ -50,8 +52,12 @@ pub record Does (o : Outcome) (b₁ : Board) (i : ℕ) (a a₁ : List ℕ) (k k�
 
 -- what a list of performed calls leaves: the answers and the entries of `run` (joined as demand 3 joins them) from place 0, "later places
 -- are untouched"
-pub record Runs (b : Board) (cs : List Call) (b₁ : Board) (r : Ran) (a a₁ p p₁ l l₁ c c₁ : List ℕ) : Type 0 where
+pub record Runs (b : Board) (cs : List Call) (b₁ : Board) (r : Ran) (a a₁ : List ℕ) (u u₁ : Lent) : Type 0 where
   pub calls : r .calls ≡ length cs
   pub board : b₁ ≡ boardAfter b cs
   pub answers : a₁ ≡ over (answersOf (run b cs)) a
-  pub entries : Holds (joined (run b cs)) p p₁ l l₁ c c₁ (r .entries)
+  pub entries : Holds (joined (run b cs)) u u₁ (r .entries)
+
+-- what run_calls leaves of its words, floats, answers and book: the calls of the words ns that find room, one after the other
+abbrev pub Performs : (ns w w₁ : List ℕ) (x x₁ : List Float) (a a₁ : List ℕ) (u u₁ : Lent) (r : Ran) → Type 0
+Performs ns w w₁ x x₁ a a₁ u u₁ r = Runs (view w x) (taken (view w x) (callsOf ns) (length a) (places u)) (view w₁ x₁) r a a₁ u u₁

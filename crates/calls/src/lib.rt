@@ -11,12 +11,12 @@ ghost use lib.Dec.{eqb};
 ghost use lib.Ieee as Ieee;
 ghost use lib.ListN.{length};
 ghost use lib.Seq.{sets};
-ghost use Rattle.book.specs.Book.{book, puts, places, Holds};
+ghost use Rattle.book.specs.Book.{book, puts, places, Holds, slices, Room};
 ghost use Rattle.state.specs.View.{view};
 ghost use Rattle.machine.specs.Step.{step};
 ghost use Rattle.answer.specs.Promise.{Answers};
 ghost use Rattle.encoding.specs.Encoding as E;
-ghost use Rattle.calls.specs.Taken.{noRoom, callsOf, taken, Does, Runs};
+ghost use Rattle.calls.specs.Taken.{noRoom, Does, Performs};
 
 // ---- questions
 
@@ -131,8 +131,8 @@ fn set_pin(
     levels: &mut [u8],
     cycles: &mut [u64],
 ) -> Answer
-    ensures { λ r. ⌜ Answers (step (view (now (words .entry)) (now (reals .entry))) (E.bookCall 3 (now (calls .entry)) (places (now (pins .entry)) (now (levels .entry)) (now (cycles .entry))))) r (now (words .entry)) (now (words .exit)) (now (reals .entry)) (now (reals .exit)) ⌝ }
-    ensures { λ r. ⌜ Holds (step (view (now (words .entry)) (now (reals .entry))) (E.bookCall 3 (now (calls .entry)) (places (now (pins .entry)) (now (levels .entry)) (now (cycles .entry)))) .entries) (now (pins .entry)) (now (pins .exit)) (now (levels .entry)) (now (levels .exit)) (now (cycles .entry)) (now (cycles .exit)) (r .count) ⌝ }
+    ensures { λ r. ⌜ Answers (step (view (now (words .entry)) (now (reals .entry))) (E.bookCall 3 (now (calls .entry)) (places (slices (now (pins .entry)) (now (levels .entry)) (now (cycles .entry)))))) r (now (words .entry)) (now (words .exit)) (now (reals .entry)) (now (reals .exit)) ⌝ }
+    ensures { λ r. ⌜ Holds (step (view (now (words .entry)) (now (reals .entry))) (E.bookCall 3 (now (calls .entry)) (places (slices (now (pins .entry)) (now (levels .entry)) (now (cycles .entry))))) .entries) (slices (now (pins .entry)) (now (levels .entry)) (now (cycles .entry))) (slices (now (pins .exit)) (now (levels .exit)) (now (cycles .exit))) (r .count) ⌝ }
 {
     let pin = encoding::word(calls, 1);
     let mode = encoding::word(calls, 2);
@@ -167,8 +167,8 @@ fn drive_pin(
     levels: &mut [u8],
     cycles: &mut [u64],
 ) -> Answer
-    ensures { λ r. ⌜ Answers (step (view (now (words .entry)) (now (reals .entry))) (E.bookCall 4 (now (calls .entry)) (places (now (pins .entry)) (now (levels .entry)) (now (cycles .entry))))) r (now (words .entry)) (now (words .exit)) (now (reals .entry)) (now (reals .exit)) ⌝ }
-    ensures { λ r. ⌜ Holds (step (view (now (words .entry)) (now (reals .entry))) (E.bookCall 4 (now (calls .entry)) (places (now (pins .entry)) (now (levels .entry)) (now (cycles .entry)))) .entries) (now (pins .entry)) (now (pins .exit)) (now (levels .entry)) (now (levels .exit)) (now (cycles .entry)) (now (cycles .exit)) (r .count) ⌝ }
+    ensures { λ r. ⌜ Answers (step (view (now (words .entry)) (now (reals .entry))) (E.bookCall 4 (now (calls .entry)) (places (slices (now (pins .entry)) (now (levels .entry)) (now (cycles .entry)))))) r (now (words .entry)) (now (words .exit)) (now (reals .entry)) (now (reals .exit)) ⌝ }
+    ensures { λ r. ⌜ Holds (step (view (now (words .entry)) (now (reals .entry))) (E.bookCall 4 (now (calls .entry)) (places (slices (now (pins .entry)) (now (levels .entry)) (now (cycles .entry))))) .entries) (slices (now (pins .entry)) (now (levels .entry)) (now (cycles .entry))) (slices (now (pins .exit)) (now (levels .exit)) (now (cycles .exit))) (r .count) ⌝ }
 {
     let pin = encoding::word(calls, 1);
     let kind = encoding::word(calls, 2);
@@ -185,8 +185,8 @@ fn reset_pins(
     levels: &mut [u8],
     cycles: &mut [u64],
 ) -> Answer
-    ensures { λ r. ⌜ Answers (step (view (now (words .entry)) (now (reals .entry))) (E.bookCall 5 (now (calls .entry)) (places (now (pins .entry)) (now (levels .entry)) (now (cycles .entry))))) r (now (words .entry)) (now (words .exit)) (now (reals .entry)) (now (reals .exit)) ⌝ }
-    ensures { λ r. ⌜ Holds (step (view (now (words .entry)) (now (reals .entry))) (E.bookCall 5 (now (calls .entry)) (places (now (pins .entry)) (now (levels .entry)) (now (cycles .entry)))) .entries) (now (pins .entry)) (now (pins .exit)) (now (levels .entry)) (now (levels .exit)) (now (cycles .entry)) (now (cycles .exit)) (r .count) ⌝ }
+    ensures { λ r. ⌜ Answers (step (view (now (words .entry)) (now (reals .entry))) (E.bookCall 5 (now (calls .entry)) (places (slices (now (pins .entry)) (now (levels .entry)) (now (cycles .entry)))))) r (now (words .entry)) (now (words .exit)) (now (reals .entry)) (now (reals .exit)) ⌝ }
+    ensures { λ r. ⌜ Holds (step (view (now (words .entry)) (now (reals .entry))) (E.bookCall 5 (now (calls .entry)) (places (slices (now (pins .entry)) (now (levels .entry)) (now (cycles .entry))))) .entries) (slices (now (pins .entry)) (now (levels .entry)) (now (cycles .entry))) (slices (now (pins .exit)) (now (levels .exit)) (now (cycles .exit))) (r .count) ⌝ }
 {
     let cycle = encoding::word64(calls, 1);
     pads::reset_pins(words, reals, pins, levels, cycles, cycle)
@@ -200,8 +200,8 @@ fn write(
     levels: &mut [u8],
     cycles: &mut [u64],
 ) -> Answer
-    ensures { λ r. ⌜ Answers (step (view (now (words .entry)) (now (reals .entry))) (E.bookCall 7 (now (calls .entry)) (places (now (pins .entry)) (now (levels .entry)) (now (cycles .entry))))) r (now (words .entry)) (now (words .exit)) (now (reals .entry)) (now (reals .exit)) ⌝ }
-    ensures { λ r. ⌜ Holds (step (view (now (words .entry)) (now (reals .entry))) (E.bookCall 7 (now (calls .entry)) (places (now (pins .entry)) (now (levels .entry)) (now (cycles .entry)))) .entries) (now (pins .entry)) (now (pins .exit)) (now (levels .entry)) (now (levels .exit)) (now (cycles .entry)) (now (cycles .exit)) (r .count) ⌝ }
+    ensures { λ r. ⌜ Answers (step (view (now (words .entry)) (now (reals .entry))) (E.bookCall 7 (now (calls .entry)) (places (slices (now (pins .entry)) (now (levels .entry)) (now (cycles .entry)))))) r (now (words .entry)) (now (words .exit)) (now (reals .entry)) (now (reals .exit)) ⌝ }
+    ensures { λ r. ⌜ Holds (step (view (now (words .entry)) (now (reals .entry))) (E.bookCall 7 (now (calls .entry)) (places (slices (now (pins .entry)) (now (levels .entry)) (now (cycles .entry))))) .entries) (slices (now (pins .entry)) (now (levels .entry)) (now (cycles .entry))) (slices (now (pins .exit)) (now (levels .exit)) (now (cycles .exit))) (r .count) ⌝ }
 {
     let timer = encoding::word(calls, 1);
     let offset = encoding::word(calls, 2);
@@ -230,8 +230,8 @@ fn reset(
     levels: &mut [u8],
     cycles: &mut [u64],
 ) -> Answer
-    ensures { λ r. ⌜ Answers (step (view (now (words .entry)) (now (reals .entry))) (E.bookCall 9 (now (calls .entry)) (places (now (pins .entry)) (now (levels .entry)) (now (cycles .entry))))) r (now (words .entry)) (now (words .exit)) (now (reals .entry)) (now (reals .exit)) ⌝ }
-    ensures { λ r. ⌜ Holds (step (view (now (words .entry)) (now (reals .entry))) (E.bookCall 9 (now (calls .entry)) (places (now (pins .entry)) (now (levels .entry)) (now (cycles .entry)))) .entries) (now (pins .entry)) (now (pins .exit)) (now (levels .entry)) (now (levels .exit)) (now (cycles .entry)) (now (cycles .exit)) (r .count) ⌝ }
+    ensures { λ r. ⌜ Answers (step (view (now (words .entry)) (now (reals .entry))) (E.bookCall 9 (now (calls .entry)) (places (slices (now (pins .entry)) (now (levels .entry)) (now (cycles .entry)))))) r (now (words .entry)) (now (words .exit)) (now (reals .entry)) (now (reals .exit)) ⌝ }
+    ensures { λ r. ⌜ Holds (step (view (now (words .entry)) (now (reals .entry))) (E.bookCall 9 (now (calls .entry)) (places (slices (now (pins .entry)) (now (levels .entry)) (now (cycles .entry))))) .entries) (slices (now (pins .entry)) (now (levels .entry)) (now (cycles .entry))) (slices (now (pins .exit)) (now (levels .exit)) (now (cycles .exit))) (r .count) ⌝ }
 {
     let timer = encoding::word(calls, 1);
     let cycle = encoding::word64(calls, 2);
@@ -246,8 +246,8 @@ fn deliver(
     levels: &mut [u8],
     cycles: &mut [u64],
 ) -> Answer
-    ensures { λ r. ⌜ Answers (step (view (now (words .entry)) (now (reals .entry))) (E.bookCall 10 (now (calls .entry)) (places (now (pins .entry)) (now (levels .entry)) (now (cycles .entry))))) r (now (words .entry)) (now (words .exit)) (now (reals .entry)) (now (reals .exit)) ⌝ }
-    ensures { λ r. ⌜ Holds (step (view (now (words .entry)) (now (reals .entry))) (E.bookCall 10 (now (calls .entry)) (places (now (pins .entry)) (now (levels .entry)) (now (cycles .entry)))) .entries) (now (pins .entry)) (now (pins .exit)) (now (levels .entry)) (now (levels .exit)) (now (cycles .entry)) (now (cycles .exit)) (r .count) ⌝ }
+    ensures { λ r. ⌜ Answers (step (view (now (words .entry)) (now (reals .entry))) (E.bookCall 10 (now (calls .entry)) (places (slices (now (pins .entry)) (now (levels .entry)) (now (cycles .entry)))))) r (now (words .entry)) (now (words .exit)) (now (reals .entry)) (now (reals .exit)) ⌝ }
+    ensures { λ r. ⌜ Holds (step (view (now (words .entry)) (now (reals .entry))) (E.bookCall 10 (now (calls .entry)) (places (slices (now (pins .entry)) (now (levels .entry)) (now (cycles .entry))))) .entries) (slices (now (pins .entry)) (now (levels .entry)) (now (cycles .entry))) (slices (now (pins .exit)) (now (levels .exit)) (now (cycles .exit))) (r .count) ⌝ }
 {
     let timer = encoding::word(calls, 1);
     let cycle = encoding::word64(calls, 2);
@@ -263,8 +263,8 @@ fn book_call(
     cycles: &mut [u64],
     op: u32,
 ) -> Answer
-    ensures { λ r. ⌜ Answers (step (view (now (words .entry)) (now (reals .entry))) (E.bookCall op (now (calls .entry)) (places (now (pins .entry)) (now (levels .entry)) (now (cycles .entry))))) r (now (words .entry)) (now (words .exit)) (now (reals .entry)) (now (reals .exit)) ⌝ }
-    ensures { λ r. ⌜ Holds (step (view (now (words .entry)) (now (reals .entry))) (E.bookCall op (now (calls .entry)) (places (now (pins .entry)) (now (levels .entry)) (now (cycles .entry)))) .entries) (now (pins .entry)) (now (pins .exit)) (now (levels .entry)) (now (levels .exit)) (now (cycles .entry)) (now (cycles .exit)) (r .count) ⌝ }
+    ensures { λ r. ⌜ Answers (step (view (now (words .entry)) (now (reals .entry))) (E.bookCall op (now (calls .entry)) (places (slices (now (pins .entry)) (now (levels .entry)) (now (cycles .entry)))))) r (now (words .entry)) (now (words .exit)) (now (reals .entry)) (now (reals .exit)) ⌝ }
+    ensures { λ r. ⌜ Holds (step (view (now (words .entry)) (now (reals .entry))) (E.bookCall op (now (calls .entry)) (places (slices (now (pins .entry)) (now (levels .entry)) (now (cycles .entry))))) .entries) (slices (now (pins .entry)) (now (levels .entry)) (now (cycles .entry))) (slices (now (pins .exit)) (now (levels .exit)) (now (cycles .exit))) (r .count) ⌝ }
 {
     match op {
         3 => set_pin(words, reals, calls, pins, levels, cycles),
@@ -287,8 +287,8 @@ fn perform(
     cycles: &mut [u64],
 ) -> Answer
     requires { ⌜ E.sizeOf (E.word (now calls) 0) (now calls) ≤ length (now calls) ⌝ }
-    ensures { λ r. ⌜ Answers (step (view (now (words .entry)) (now (reals .entry))) (E.callWith (now (calls .entry)) (places (now (pins .entry)) (now (levels .entry)) (now (cycles .entry))))) r (now (words .entry)) (now (words .exit)) (now (reals .entry)) (now (reals .exit)) ⌝ }
-    ensures { λ r. ⌜ Holds (step (view (now (words .entry)) (now (reals .entry))) (E.callWith (now (calls .entry)) (places (now (pins .entry)) (now (levels .entry)) (now (cycles .entry)))) .entries) (now (pins .entry)) (now (pins .exit)) (now (levels .entry)) (now (levels .exit)) (now (cycles .entry)) (now (cycles .exit)) (r .count) ⌝ }
+    ensures { λ r. ⌜ Answers (step (view (now (words .entry)) (now (reals .entry))) (E.callWith (now (calls .entry)) (places (slices (now (pins .entry)) (now (levels .entry)) (now (cycles .entry)))))) r (now (words .entry)) (now (words .exit)) (now (reals .entry)) (now (reals .exit)) ⌝ }
+    ensures { λ r. ⌜ Holds (step (view (now (words .entry)) (now (reals .entry))) (E.callWith (now (calls .entry)) (places (slices (now (pins .entry)) (now (levels .entry)) (now (cycles .entry))))) .entries) (slices (now (pins .entry)) (now (levels .entry)) (now (cycles .entry))) (slices (now (pins .exit)) (now (levels .exit)) (now (cycles .exit))) (r .count) ⌝ }
 {
     let op = encoding::word(calls, 0);
     if encoding::has_book(op) {
@@ -321,9 +321,9 @@ fn perform_at(
     end: usize,
 ) -> Answer
     requires { ⌜ E.sizeOf (E.word (now calls) 0) (now calls) ≤ length (now calls) ⌝ }
-    requires { ⌜ (at + E.bookOf (now calls) ≡ end) × (end ≤ length (now pins)) × (end ≤ length (now levels)) × (end ≤ length (now cycles)) ⌝ }
+    requires { ⌜ (at + E.bookOf (now calls) ≡ end) × Room end (slices (now pins) (now levels) (now cycles)) ⌝ }
     ensures { λ r. ⌜ Answers (step (view (now (words .entry)) (now (reals .entry))) (E.callOf (now (calls .entry)))) r (now (words .entry)) (now (words .exit)) (now (reals .entry)) (now (reals .exit)) ⌝ }
-    ensures { λ r. ⌜ book (now (pins .exit)) (now (levels .exit)) (now (cycles .exit)) (at + r .count) ≡ puts (book (now (pins .entry)) (now (levels .entry)) (now (cycles .entry)) at) (step (view (now (words .entry)) (now (reals .entry))) (E.callOf (now (calls .entry))) .entries) ⌝ }
+    ensures { λ r. ⌜ book (slices (now (pins .exit)) (now (levels .exit)) (now (cycles .exit))) (at + r .count) ≡ puts (book (slices (now (pins .entry)) (now (levels .entry)) (now (cycles .entry))) at) (step (view (now (words .entry)) (now (reals .entry))) (E.callOf (now (calls .entry))) .entries) ⌝ }
 {
     perform(
         words,
@@ -360,9 +360,9 @@ fn perform_call(
 ) -> usize
     requires { ⌜ E.sizeOf (E.word (now calls) 0) (now calls) ≤ length (now calls) ⌝ }
     requires { ⌜ i + 3 ≤ length (now answers) ⌝ }
-    requires { ⌜ (at + E.bookOf (now calls) ≡ end) × (end ≤ length (now pins)) × (end ≤ length (now levels)) × (end ≤ length (now cycles)) ⌝ }
+    requires { ⌜ (at + E.bookOf (now calls) ≡ end) × Room end (slices (now pins) (now levels) (now cycles)) ⌝ }
     ensures { λ r. ⌜ r ≡ length (step (view (now (words .entry)) (now (reals .entry))) (E.callOf (now (calls .entry))) .entries) ⌝ }
-    ensures { λ r. ⌜ Does (step (view (now (words .entry)) (now (reals .entry))) (E.callOf (now (calls .entry)))) (view (now (words .exit)) (now (reals .exit))) i (now (answers .entry)) (now (answers .exit)) (book (now (pins .entry)) (now (levels .entry)) (now (cycles .entry)) at) (book (now (pins .exit)) (now (levels .exit)) (now (cycles .exit)) (at + r)) ⌝ }
+    ensures { λ r. ⌜ Does (step (view (now (words .entry)) (now (reals .entry))) (E.callOf (now (calls .entry)))) (view (now (words .exit)) (now (reals .exit))) i (now (answers .entry)) (now (answers .exit)) (book (slices (now (pins .entry)) (now (levels .entry)) (now (cycles .entry))) at) (book (slices (now (pins .exit)) (now (levels .exit)) (now (cycles .exit))) (at + r)) ⌝ }
 {
     let r = perform_at(words, reals, calls, pins, levels, cycles, at, end);
     put_answer(answers, i, r);
@@ -387,7 +387,7 @@ pub fn run_calls(
     levels: &mut [u8],
     cycles: &mut [u64],
 ) -> Ran
-    ensures { λ r. ⌜ Runs (view (now (words .entry)) (now (reals .entry))) (taken (view (now (words .entry)) (now (reals .entry))) (callsOf (now (calls .entry))) (length (now (answers .entry))) (places (now (pins .entry)) (now (levels .entry)) (now (cycles .entry)))) (view (now (words .exit)) (now (reals .exit))) r (now (answers .entry)) (now (answers .exit)) (now (pins .entry)) (now (pins .exit)) (now (levels .entry)) (now (levels .exit)) (now (cycles .entry)) (now (cycles .exit)) ⌝ }
+    ensures { λ r. ⌜ Performs (now (calls .entry)) (now (words .entry)) (now (words .exit)) (now (reals .entry)) (now (reals .exit)) (now (answers .entry)) (now (answers .exit)) (slices (now (pins .entry)) (now (levels .entry)) (now (cycles .entry))) (slices (now (pins .exit)) (now (levels .exit)) (now (cycles .exit))) r ⌝ }
 {
     let room = book::room(pins, levels, cycles);
     let size = answers.len();

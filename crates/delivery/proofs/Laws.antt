@@ -21,7 +21,7 @@ use Rattle.tim.specs.Timer.{Fit}
 use Rattle.tim.specs.Next.{nextEvent, nextSteps, consider, compares, compareSteps}
 use Rattle.tim.proofs.Fit.{either, fit-updated, fit-compared}
 use Rattle.tim.proofs.Fixed.{inst-updated, inst-compared}
-use Rattle.book.specs.Book.{Entry, Book, book, put, puts, entriesOf}
+use Rattle.book.specs.Book.{Entry, Book, book, put, puts, entriesOf, Lent, Room}
 use Rattle.book.proofs.Laws.{puts-append, holds}
 use Rattle.state.specs.View.{view}
 use Rattle.state.proofs.InRange.{bounded}
@@ -294,23 +294,23 @@ module _ (b b₁ b₂ b₃ b₄ : Board) (i cycle div places : ℕ) (t : Timer) 
       ap (λ (n : ℕ). run mostEvents cycle n places t (b .pads)) steps
       ∙ ap (λ (u : Timer). run mostEvents cycle (dividerOf b u) places u (b .pads)) load
 
-  pub delivers : (p l c p₁ l₁ c₁ : List ℕ)
-      → Ends (run mostEvents cycle div places t (b .pads)) b b₁ (book p l c 0) (book p₁ l₁ c₁ (r .count)) r
-      → r .count ≤ length p → r .count ≤ length l → r .count ≤ length c
+  pub delivers : (u u₁ : Lent)
+      → Ends (run mostEvents cycle div places t (b .pads)) b b₁ (book u 0) (book u₁ (r .count)) r
+      → Room (r .count) u
       → b₂ ≡ cond (eqb (r .events) 0) b₁ (withTimer b₁ i (withInst (r .timer) (timerAt b₁ i .inst))) → b₃ ≡ lineSettled (r .timer) b₂ → b₄ ≡ rebooked i (r .timer) cycle b₃
-      → Delivers (delivered b i cycle places) b i cycle b₄ (record { number = r .number; events = r .events; count = r .count }) p p₁ l l₁ c c₁
+      → Delivers (delivered b i cycle places) b i cycle b₄ (record { number = r .number; events = r .events; count = r .count }) u u₁
   unfolding settled
-  delivers p l c p₁ l₁ c₁ e′ x y z store′ line book′ =
+  delivers u u₁ e′ x store′ line book′ =
       let o = delivered b i cycle places in
       let store : b₂ ≡ withTimer b₁ i (r .timer) =
       stored b b₁ b₂ _ i (r .events) t (r .timer) load (e′ .board) (ap (λ (u : Timer). u .inst) (e′ .timer) ∙ inst-run mostEvents cycle div places t (b .pads))
       (λ n. e′ .timer ∙ run-idle mostEvents cycle div places t (b .pads) (sym (e′ .events) ∙ n)) store′ in
-      let e : Ends o b b₁ (book p l c 0) (book p₁ l₁ c₁ (r .count)) r =
-      subst (λ (q : Run). Ends q b b₁ (book p l c 0) (book p₁ l₁ c₁ (r .count)) r) same-run e′ in
+      let e : Ends o b b₁ (book u 0) (book u₁ (r .count)) r =
+      subst (λ (q : Run). Ends q b b₁ (book u 0) (book u₁ (r .count)) r) same-run e′ in
       record {
         number = e .number;
         events = e .events;
         board = book′ ∙ ap (rebooked i (r .timer) cycle) (line ∙ ap (lineSettled (r .timer)) (store ∙ ap (λ (u : Board). withTimer u i (r .timer)) (e .board)))
             ∙ ap (λ (u : Timer). rebooked i u cycle (lineSettled u (withPads (withTimer b i u) (o .pads)))) (e .timer);
-        entries = holds (o .entries) p l c p₁ l₁ c₁ (r .count) (e .entries) x y z;
+        entries = holds (o .entries) u u₁ (r .count) (e .entries) x;
       }

@@ -6,7 +6,7 @@ use Prim.Native.Nat.{ℕ, _<_}
 use lib.Dec.{ltb, leb}
 use Rattle.tim.specs.declared.Next.{Next}
 use Rattle.tim.specs.declared.Next.the-variants.{Update, Compare}
-use Rattle.book.specs.Book.{Book, puts, Holds}
+use Rattle.book.specs.Book.{Book, puts, Holds, Lent}
 use Rattle.machine.specs.Board.{Board, withPads}
 use Rattle.machine.specs.Deliver.{Run, mostEvents, settled}
 use Rattle.delivery.specs.declared.Ran.{Ran}
@@ -30,8 +30,8 @@ pub record Ends (o : Run) (b b₁ : Board) (k k₁ : Book) (r : Ran) : Type 0 wh
   pub entries : k₁ ≡ puts k (o .entries)
 
 -- a delivery: its answer, the board settled, and the book from place 0
-pub record Delivers (d : Run) (b : Board) (i cycle : ℕ) (b₁ : Board) (r : Delivered) (p p₁ l l₁ c c₁ : List ℕ) : Type 0 where
+pub record Delivers (d : Run) (b : Board) (i cycle : ℕ) (b₁ : Board) (r : Delivered) (u u₁ : Lent) : Type 0 where
   pub number : r .number ≡ d .number
   pub events : r .events ≡ d .events
   pub board : b₁ ≡ settled b i cycle (d .timer) (d .pads)
-  pub entries : Holds (d .entries) p p₁ l l₁ c c₁ (r .count)
+  pub entries : Holds (d .entries) u u₁ (r .count)

@@ -15,7 +15,7 @@ ghost use lib.ListN.{length};
 ghost use Rattle.tim.specs.Timer.{Fit, ccrAct};
 ghost use Rattle.tim.specs.Next.{nextSteps, nextEvent};
 ghost use Rattle.tim.specs.Change.{compared};
-ghost use Rattle.book.specs.Book.{book, places};
+ghost use Rattle.book.specs.Book.{book, places, slices, Room};
 ghost use Rattle.state.specs.View.{view};
 ghost use Rattle.state.specs.Board.{withInst};
 ghost use Rattle.machine.specs.Board.{timerAt, withTimer};
@@ -127,8 +127,8 @@ fn drive_four(
     at: u64,
 ) -> usize
     requires { ⌜ (2 ≤ t .inst .n) × (t .inst .n ≤ 4) ⌝ }
-    requires { ⌜ (k + 4 ≤ length (now pins)) × (k + 4 ≤ length (now levels)) × (k + 4 ≤ length (now cycles)) ⌝ }
-    ensures { λ r. ⌜ Driven (driveOutputs t cnt (view (now (words .entry)) (now (reals .entry)) .pads)) at (view (now (words .entry)) (now (reals .entry))) (view (now (words .exit)) (now (reals .exit))) (book (now (pins .entry)) (now (levels .entry)) (now (cycles .entry)) k) (book (now (pins .exit)) (now (levels .exit)) (now (cycles .exit)) r) ⌝ }
+    requires { ⌜ Room (k + 4) (slices (now pins) (now levels) (now cycles)) ⌝ }
+    ensures { λ r. ⌜ Driven (driveOutputs t cnt (view (now (words .entry)) (now (reals .entry)) .pads)) at (view (now (words .entry)) (now (reals .entry))) (view (now (words .exit)) (now (reals .exit))) (book (slices (now (pins .entry)) (now (levels .entry)) (now (cycles .entry))) k) (book (slices (now (pins .exit)) (now (levels .exit)) (now (cycles .exit))) r) ⌝ }
     ensures { λ r. ⌜ r ≤ k + 4 ⌝ }
 {
     let s = sig::tim(t.inst.n as u8, 0) as usize;
@@ -167,8 +167,8 @@ fn drive(
     at: u64,
 ) -> usize
     requires { ⌜ OfFour e ⌝ }
-    requires { ⌜ (n + 4 ≤ length (now pins)) × (n + 4 ≤ length (now levels)) × (n + 4 ≤ length (now cycles)) ⌝ }
-    ensures { λ r. ⌜ Driven (driveOutputs t (countAt t e) (view (now (words .entry)) (now (reals .entry)) .pads)) at (view (now (words .entry)) (now (reals .entry))) (view (now (words .exit)) (now (reals .exit))) (book (now (pins .entry)) (now (levels .entry)) (now (cycles .entry)) n) (book (now (pins .exit)) (now (levels .exit)) (now (cycles .exit)) r) ⌝ }
+    requires { ⌜ Room (n + 4) (slices (now pins) (now levels) (now cycles)) ⌝ }
+    ensures { λ r. ⌜ Driven (driveOutputs t (countAt t e) (view (now (words .entry)) (now (reals .entry)) .pads)) at (view (now (words .entry)) (now (reals .entry))) (view (now (words .exit)) (now (reals .exit))) (book (slices (now (pins .entry)) (now (levels .entry)) (now (cycles .entry))) n) (book (slices (now (pins .exit)) (now (levels .exit)) (now (cycles .exit))) r) ⌝ }
     ensures { λ r. ⌜ r ≤ n + 4 ⌝ }
 {
     if t.inst.n < 2 {
@@ -228,8 +228,8 @@ fn run(
     cycle: u64,
 ) -> Ran
     requires { ⌜ (Fit timer) × (1 ≤ div) × (div ≤ 8192) × (cycle < 9223372036854775808) ⌝ }
-    ensures { λ r. ⌜ Ends (run mostEvents cycle div (places (now (pins .entry)) (now (levels .entry)) (now (cycles .entry))) timer (view (now (words .entry)) (now (reals .entry)) .pads)) (view (now (words .entry)) (now (reals .entry))) (view (now (words .exit)) (now (reals .exit))) (book (now (pins .entry)) (now (levels .entry)) (now (cycles .entry)) 0) (book (now (pins .exit)) (now (levels .exit)) (now (cycles .exit)) (r .count)) r ⌝ }
-    ensures { λ r. ⌜ (Fit (r .timer)) × (r .due ≡ nextEvent (r .timer)) × (r .count ≤ length (now (pins .entry))) × (r .count ≤ length (now (levels .entry))) × (r .count ≤ length (now (cycles .entry))) × (r .count ≤ 400004) ⌝ }
+    ensures { λ r. ⌜ Ends (run mostEvents cycle div (places (slices (now (pins .entry)) (now (levels .entry)) (now (cycles .entry)))) timer (view (now (words .entry)) (now (reals .entry)) .pads)) (view (now (words .entry)) (now (reals .entry))) (view (now (words .exit)) (now (reals .exit))) (book (slices (now (pins .entry)) (now (levels .entry)) (now (cycles .entry))) 0) (book (slices (now (pins .exit)) (now (levels .exit)) (now (cycles .exit))) (r .count)) r ⌝ }
+    ensures { λ r. ⌜ (Fit (r .timer)) × (r .due ≡ nextEvent (r .timer)) × (Room (r .count) (slices (now (pins .entry)) (now (levels .entry)) (now (cycles .entry)))) × (r .count ≤ 400004) ⌝ }
 {
     let room = book::room(pins, levels, cycles);
     let mut t = timer;
@@ -284,7 +284,7 @@ pub fn deliver(
     cycle: u64,
 ) -> Delivered
     requires { ⌜ (i < 8) × (cycle < 9223372036854775808) ⌝ }
-    ensures { λ r. ⌜ Delivers (delivered (view (now (words .entry)) (now (reals .entry))) i cycle (places (now (pins .entry)) (now (levels .entry)) (now (cycles .entry)))) (view (now (words .entry)) (now (reals .entry))) i cycle (view (now (words .exit)) (now (reals .exit))) r (now (pins .entry)) (now (pins .exit)) (now (levels .entry)) (now (levels .exit)) (now (cycles .entry)) (now (cycles .exit)) ⌝ }
+    ensures { λ r. ⌜ Delivers (delivered (view (now (words .entry)) (now (reals .entry))) i cycle (places (slices (now (pins .entry)) (now (levels .entry)) (now (cycles .entry))))) (view (now (words .entry)) (now (reals .entry))) i cycle (view (now (words .exit)) (now (reals .exit))) r (slices (now (pins .entry)) (now (levels .entry)) (now (cycles .entry))) (slices (now (pins .exit)) (now (levels .exit)) (now (cycles .exit))) ⌝ }
     ensures { λ r. ⌜ r .count ≤ 400004 ⌝ }
 {
     let t = state::load_timer(words, i);

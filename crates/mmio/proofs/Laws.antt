@@ -17,7 +17,7 @@ use Rattle.periph.specs.Lane.{laneRead}
 use Rattle.clk.specs.declared.ClockTree.{ClockTree}
 use Rattle.clk.specs.Clk.{good}
 use Rattle.scheduler.specs.Booking as S
-use Rattle.book.specs.Book.{Book, book, puts, entriesOf, places, Holds}
+use Rattle.book.specs.Book.{Book, book, puts, entriesOf, places, Holds, Room, Lent}
 use Rattle.book.proofs.Laws.{holds}
 use Rattle.machine.specs.Board.{Board, timerAt, withTimer, withPads, withBooking, withLast}
 use Rattle.machine.specs.Sys.{driveOutputs}
@@ -53,13 +53,6 @@ of-eight w x i h = omega (arith, bounded w x .timers-length)
 
 pub loaded-fit : (w : List ℕ) (x : List Float) (i : ℕ) (t : Timer) → t ≡ timerAt (view w x) i → Fit t
 loaded-fit w x i t load = rw load (bounded w x .timer-fit i)
-
--- a book of so many places: each slice has them
-pub fits : (p l c : List ℕ) → 4 ≤ places p l c → (4 ≤ length p) × (4 ≤ length l) × (4 ≤ length c)
-fits p l c h = (omega arith, omega arith, omega arith)
-
-pub within : (p l c : List ℕ) (k : ℕ) → 4 ≤ places p l c → k ≤ 4 → (k ≤ length p) × (k ≤ length l) × (k ≤ length c)
-within p l c k h j = (omega arith, omega arith, omega arith)
 
 -- ---- reads
 
@@ -149,17 +142,17 @@ module _ (w : List ℕ) (x : List Float) (timer cycle room num : ℕ) (h : num �
   pub reset-away : (num ≡ 0 → ⊥) → (r : Answer) → r ≡ answer num 0 0 → Answers (step (view w x) (resetTimer timer cycle room)) r w w x x
   reset-away z r a = turns-away w x (resetTimer timer cycle room) num r reset-first z a
 
-  pub reset-away-book : (num ≡ 0 → ⊥) → (r : Answer) → r ≡ answer num 0 0 → (p l c : List ℕ) → Holds (step (view w x) (resetTimer timer cycle room) .entries) p p l l c c (r .count)
-  reset-away-book z r a p l c = turns-away-book (view w x) (resetTimer timer cycle room) num r p l c reset-first z a
+  pub reset-away-book : (num ≡ 0 → ⊥) → (r : Answer) → r ≡ answer num 0 0 → (u : Lent) → Holds (step (view w x) (resetTimer timer cycle room) .entries) u u (r .count)
+  reset-away-book z r a u = turns-away-book (view w x) (resetTimer timer cycle room) num r u reset-first z a
 
-  pub reset-gives : num ≡ 0 → (w₁ : List ℕ) (x₁ : List Float) (p p₁ l l₁ c c₁ : List ℕ) (k : ℕ)
-      → Leaves (timerReset (view w x) timer cycle) (view w₁ x₁) (book p l c 0) (book p₁ l₁ c₁ k) → (k ≤ length p) × (k ≤ length l) × (k ≤ length c)
-      → Answers (step (view w x) (resetTimer timer cycle room)) (answer 0 0 k) w w₁ x x₁ × Holds (step (view w x) (resetTimer timer cycle room) .entries) p p₁ l l₁ c c₁ k
+  pub reset-gives : num ≡ 0 → (w₁ : List ℕ) (x₁ : List Float) (u u₁ : Lent) (k : ℕ)
+      → Leaves (timerReset (view w x) timer cycle) (view w₁ x₁) (book u 0) (book u₁ k) → Room k u
+      → Answers (step (view w x) (resetTimer timer cycle room)) (answer 0 0 k) w w₁ x x₁ × Holds (step (view w x) (resetTimer timer cycle room) .entries) u u₁ k
   unfolding performed timerReset
-  reset-gives z w₁ x₁ p p₁ l l₁ c c₁ k m f =
-      let q = holds (timerReset (view w x) timer cycle .entries) p l c p₁ l₁ c₁ k (m .entries) (f .0) (f .1) (f .2) in (
+  reset-gives z w₁ x₁ u u₁ k m f =
+      let q = holds (timerReset (view w x) timer cycle .entries) u u₁ k (m .entries) f in (
         serves (view w x) (resetTimer timer cycle room) (answer 0 0 k) w w₁ x x₁ (sym z ∙ reset-first) refl refl (q .count) (m .board),
-        serves-book (view w x) (resetTimer timer cycle room) p p₁ l l₁ c c₁ k (sym z ∙ reset-first) q,
+        serves-book (view w x) (resetTimer timer cycle room) u u₁ k (sym z ∙ reset-first) q,
       )
 
 -- ---- events
@@ -171,18 +164,18 @@ module _ (w : List ℕ) (x : List Float) (timer cycle room num : ℕ) (h : num �
   pub deliver-away : (num ≡ 0 → ⊥) → (r : Answer) → r ≡ answer num 0 0 → Answers (step (view w x) (deliver timer cycle room)) r w w x x
   deliver-away z r a = turns-away w x (deliver timer cycle room) num r deliver-first z a
 
-  pub deliver-away-book : (num ≡ 0 → ⊥) → (r : Answer) → r ≡ answer num 0 0 → (p l c : List ℕ) → Holds (step (view w x) (deliver timer cycle room) .entries) p p l l c c (r .count)
-  deliver-away-book z r a p l c = turns-away-book (view w x) (deliver timer cycle room) num r p l c deliver-first z a
+  pub deliver-away-book : (num ≡ 0 → ⊥) → (r : Answer) → r ≡ answer num 0 0 → (u : Lent) → Holds (step (view w x) (deliver timer cycle room) .entries) u u (r .count)
+  deliver-away-book z r a u = turns-away-book (view w x) (deliver timer cycle room) num r u deliver-first z a
 
-  pub deliver-gives : num ≡ 0 → (w₁ w₂ : List ℕ) (x₁ : List Float) (p p₁ l l₁ c c₁ : List ℕ) (d : Delivered)
-      → Delivers (delivered (view w x) timer cycle room) (view w x) timer cycle (view w₁ x₁) d p p₁ l l₁ c c₁ → view w₂ x₁ ≡ withLast (view w₁ x₁) cycle
+  pub deliver-gives : num ≡ 0 → (w₁ w₂ : List ℕ) (x₁ : List Float) (u u₁ : Lent) (d : Delivered)
+      → Delivers (delivered (view w x) timer cycle room) (view w x) timer cycle (view w₁ x₁) d u u₁ → view w₂ x₁ ≡ withLast (view w₁ x₁) cycle
       → Answers (step (view w x) (deliver timer cycle room)) (answer (d .number) (d .events) (d .count)) w w₂ x x₁
-      × Holds (step (view w x) (deliver timer cycle room) .entries) p p₁ l l₁ c c₁ (d .count)
+      × Holds (step (view w x) (deliver timer cycle room) .entries) u u₁ (d .count)
   unfolding performed deliveredTo
-  deliver-gives z w₁ w₂ x₁ p p₁ l l₁ c c₁ d m s = (
+  deliver-gives z w₁ w₂ x₁ u u₁ d m s = (
     serves (view w x) (deliver timer cycle room) (answer (d .number) (d .events) (d .count)) w w₂ x x₁ (sym z ∙ deliver-first) (m .number) (m .events) (m .entries .count)
         (s ∙ ap (λ (y : Board). withLast y cycle) (m .board)),
-    serves-book (view w x) (deliver timer cycle room) p p₁ l l₁ c c₁ (d .count) (sym z ∙ deliver-first) (m .entries),
+    serves-book (view w x) (deliver timer cycle room) u u₁ (d .count) (sym z ∙ deliver-first) (m .entries),
   )
 
 -- ---- the clock tree

@@ -12,7 +12,7 @@ ghost use Rattle.tim.specs.Count.{cntAt};
 ghost use Rattle.regs.specs.Regs as R;
 ghost use Rattle.periph.specs.Lane.{laneRead};
 ghost use Rattle.state.specs.View.{view};
-ghost use Rattle.book.specs.Book.{book, places, Holds};
+ghost use Rattle.book.specs.Book.{book, places, Holds, slices, Room};
 ghost use Rattle.machine.specs.Board.{timerAt};
 ghost use Rattle.machine.specs.Call as Call;
 ghost use Rattle.machine.specs.Step.{step, register, timerReset};
@@ -131,8 +131,8 @@ fn reset_timer(
     cycle: u64,
 ) -> usize
     requires { ⌜ i < 8 ⌝ }
-    requires { ⌜ (4 ≤ length (now pins)) × (4 ≤ length (now levels)) × (4 ≤ length (now cycles)) ⌝ }
-    ensures { λ r. ⌜ Leaves (timerReset (view (now (words .entry)) (now (reals .entry))) i cycle) (view (now (words .exit)) (now (reals .exit))) (book (now (pins .entry)) (now (levels .entry)) (now (cycles .entry)) 0) (book (now (pins .exit)) (now (levels .exit)) (now (cycles .exit)) r) ⌝ }
+    requires { ⌜ Room 4 (slices (now pins) (now levels) (now cycles)) ⌝ }
+    ensures { λ r. ⌜ Leaves (timerReset (view (now (words .entry)) (now (reals .entry))) i cycle) (view (now (words .exit)) (now (reals .exit))) (book (slices (now (pins .entry)) (now (levels .entry)) (now (cycles .entry))) 0) (book (slices (now (pins .exit)) (now (levels .exit)) (now (cycles .exit))) r) ⌝ }
     ensures { λ r. ⌜ r ≤ 4 ⌝ }
 {
     let t = state::load_timer(words, i);
@@ -155,8 +155,8 @@ pub fn reset(
     timer: u32,
     cycle: u64,
 ) -> Answer
-    ensures { λ r. ⌜ Answers (step (view (now (words .entry)) (now (reals .entry))) (Call.resetTimer timer cycle (places (now (pins .entry)) (now (levels .entry)) (now (cycles .entry))))) r (now (words .entry)) (now (words .exit)) (now (reals .entry)) (now (reals .exit)) ⌝ }
-    ensures { λ r. ⌜ Holds (step (view (now (words .entry)) (now (reals .entry))) (Call.resetTimer timer cycle (places (now (pins .entry)) (now (levels .entry)) (now (cycles .entry)))) .entries) (now (pins .entry)) (now (pins .exit)) (now (levels .entry)) (now (levels .exit)) (now (cycles .entry)) (now (cycles .exit)) (r .count) ⌝ }
+    ensures { λ r. ⌜ Answers (step (view (now (words .entry)) (now (reals .entry))) (Call.resetTimer timer cycle (places (slices (now (pins .entry)) (now (levels .entry)) (now (cycles .entry)))))) r (now (words .entry)) (now (words .exit)) (now (reals .entry)) (now (reals .exit)) ⌝ }
+    ensures { λ r. ⌜ Holds (step (view (now (words .entry)) (now (reals .entry))) (Call.resetTimer timer cycle (places (slices (now (pins .entry)) (now (levels .entry)) (now (cycles .entry))))) .entries) (slices (now (pins .entry)) (now (levels .entry)) (now (cycles .entry))) (slices (now (pins .exit)) (now (levels .exit)) (now (cycles .exit))) (r .count) ⌝ }
 {
     let no = answer::book_refusal(words, timer, 4, cycle, pins, levels, cycles);
     if no != 0 {
@@ -182,8 +182,8 @@ pub fn deliver(
     timer: u32,
     cycle: u64,
 ) -> Answer
-    ensures { λ r. ⌜ Answers (step (view (now (words .entry)) (now (reals .entry))) (Call.deliver timer cycle (places (now (pins .entry)) (now (levels .entry)) (now (cycles .entry))))) r (now (words .entry)) (now (words .exit)) (now (reals .entry)) (now (reals .exit)) ⌝ }
-    ensures { λ r. ⌜ Holds (step (view (now (words .entry)) (now (reals .entry))) (Call.deliver timer cycle (places (now (pins .entry)) (now (levels .entry)) (now (cycles .entry)))) .entries) (now (pins .entry)) (now (pins .exit)) (now (levels .entry)) (now (levels .exit)) (now (cycles .entry)) (now (cycles .exit)) (r .count) ⌝ }
+    ensures { λ r. ⌜ Answers (step (view (now (words .entry)) (now (reals .entry))) (Call.deliver timer cycle (places (slices (now (pins .entry)) (now (levels .entry)) (now (cycles .entry)))))) r (now (words .entry)) (now (words .exit)) (now (reals .entry)) (now (reals .exit)) ⌝ }
+    ensures { λ r. ⌜ Holds (step (view (now (words .entry)) (now (reals .entry))) (Call.deliver timer cycle (places (slices (now (pins .entry)) (now (levels .entry)) (now (cycles .entry))))) .entries) (slices (now (pins .entry)) (now (levels .entry)) (now (cycles .entry))) (slices (now (pins .exit)) (now (levels .exit)) (now (cycles .exit))) (r .count) ⌝ }
 {
     let no = answer::book_refusal(words, timer, 4, cycle, pins, levels, cycles);
     if no != 0 {

@@ -5,7 +5,7 @@ ghost use Prim.Native.Nat.{_+_, _<_, _≤_};
 ghost use lib.ListN.{length};
 ghost use Rattle.gpio.specs.Gpio.{changeOf};
 ghost use Rattle.state.specs.View.{view};
-ghost use Rattle.book.specs.Book.{book};
+ghost use Rattle.book.specs.Book.{book, slices, Room};
 ghost use Rattle.machine.specs.Board.{timerAt};
 ghost use Rattle.machine.specs.Sys as S;
 ghost use Rattle.sys.specs.Moves.{Moves};
@@ -57,8 +57,8 @@ pub fn drive_two(
     at: u64,
 ) -> usize
     requires { ⌜ (s < 255) × (ch < 4) ⌝ }
-    requires { ⌜ (k + 2 ≤ length (now pins)) × (k + 2 ≤ length (now levels)) × (k + 2 ≤ length (now cycles)) ⌝ }
-    ensures { λ r. ⌜ DrivenTwo channels ch s l l1 at (view (now (words .entry)) (now (reals .entry))) (view (now (words .exit)) (now (reals .exit))) (book (now (pins .entry)) (now (levels .entry)) (now (cycles .entry)) k) (book (now (pins .exit)) (now (levels .exit)) (now (cycles .exit)) r) ⌝ }
+    requires { ⌜ Room (k + 2) (slices (now pins) (now levels) (now cycles)) ⌝ }
+    ensures { λ r. ⌜ DrivenTwo channels ch s l l1 at (view (now (words .entry)) (now (reals .entry))) (view (now (words .exit)) (now (reals .exit))) (book (slices (now (pins .entry)) (now (levels .entry)) (now (cycles .entry))) k) (book (slices (now (pins .exit)) (now (levels .exit)) (now (cycles .exit))) r) ⌝ }
     ensures { λ r. ⌜ r ≤ k + 2 ⌝ }
 {
     let a = drive_channel(words, reals, channels, ch, s, l);
@@ -80,8 +80,8 @@ pub fn drive_outputs(
     at: u64,
 ) -> usize
     requires { ⌜ i < 8 ⌝ }
-    requires { ⌜ (k + 4 ≤ length (now pins)) × (k + 4 ≤ length (now levels)) × (k + 4 ≤ length (now cycles)) ⌝ }
-    ensures { λ r. ⌜ Driven (S.driveOutputs (timerAt (view (now (words .entry)) (now (reals .entry))) i) cnt (view (now (words .entry)) (now (reals .entry)) .pads)) at (view (now (words .entry)) (now (reals .entry))) (view (now (words .exit)) (now (reals .exit))) (book (now (pins .entry)) (now (levels .entry)) (now (cycles .entry)) k) (book (now (pins .exit)) (now (levels .exit)) (now (cycles .exit)) r) ⌝ }
+    requires { ⌜ Room (k + 4) (slices (now pins) (now levels) (now cycles)) ⌝ }
+    ensures { λ r. ⌜ Driven (S.driveOutputs (timerAt (view (now (words .entry)) (now (reals .entry))) i) cnt (view (now (words .entry)) (now (reals .entry)) .pads)) at (view (now (words .entry)) (now (reals .entry))) (view (now (words .exit)) (now (reals .exit))) (book (slices (now (pins .entry)) (now (levels .entry)) (now (cycles .entry))) k) (book (slices (now (pins .exit)) (now (levels .exit)) (now (cycles .exit))) r) ⌝ }
     ensures { λ r. ⌜ r ≤ k + 4 ⌝ }
 {
     let t = state::load_timer(words, i);

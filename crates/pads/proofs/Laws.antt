@@ -10,7 +10,7 @@ use borrow.Author.Tests.{ltb-false, leb-false}
 use Rattle.words.specs.declared.PinCfg.{PinCfg}
 use Rattle.pins.specs.declared.ExtDrive.{ExtDrive}
 use Rattle.gpio.specs.declared.Change.{Change}
-use Rattle.book.specs.Book.{Entry, book, puts, entryOf, places, Holds}
+use Rattle.book.specs.Book.{Entry, book, puts, entryOf, places, Holds, Lent}
 use Rattle.book.proofs.Laws.{holds}
 use Rattle.machine.specs.Board.{Board, withPads, withLast}
 use Rattle.machine.specs.Sys as S
@@ -66,18 +66,18 @@ unfolding first refusals
 reset-room b cycle pl n h z = ltb-false _ _ (two (astray b cycle) (ltb pl (b .counts .pins)) (sym h ∙ z))
 
 -- ---- a refused call
-pub refuses : (w : List ℕ) (x : List Float) (p l c : List ℕ) (call : Call) (n : ℕ) (r : Answer) → n ≡ first (refusals (view w x) call) → (n ≡ 0 → ⊥)
-    → r ≡ answer n 0 0 → (Answers (step (view w x) call) r w w x x) × (Holds (step (view w x) call .entries) p p l l c c (r .count))
-refuses w x p l c call n r h z e =
+pub refuses : (w : List ℕ) (x : List Float) (u : Lent) (call : Call) (n : ℕ) (r : Answer) → n ≡ first (refusals (view w x) call) → (n ≡ 0 → ⊥)
+    → r ≡ answer n 0 0 → (Answers (step (view w x) call) r w w x x) × (Holds (step (view w x) call .entries) u u (r .count))
+refuses w x u call n r h z e =
     let s = refused-step (view w x) call n h z in
-    (away w x _ n s r e, unbooked (step (view w x) call) p l c (r .count) (ap (λ (a : Answer). a .count) e) (ap (λ (o : Outcome). o .entries) s))
+    (away w x _ n s r e, unbooked (step (view w x) call) u (r .count) (ap (λ (a : Answer). a .count) e) (ap (λ (o : Outcome). o .entries) s))
 
 -- ---- a call that makes the entries es and leaves the board b
-served : (w w₁ : List ℕ) (x x₁ : List Float) (p p₁ l l₁ c c₁ : List ℕ) (call : Call) (n : ℕ) (r : Answer) (es : List Entry) (b : Board)
+served : (w w₁ : List ℕ) (x x₁ : List Float) (u u₁ : Lent) (call : Call) (n : ℕ) (r : Answer) (es : List Entry) (b : Board)
     → n ≡ first (refusals (view w x) call) → n ≡ 0 → performed (view w x) call ≡ record { number = 0; value = 0; entries = es; board = b }
-    → r ≡ answer 0 0 (r .count) → view w₁ x₁ ≡ b → Holds es p p₁ l l₁ c c₁ (r .count)
-    → (Answers (step (view w x) call) r w w₁ x x₁) × (Holds (step (view w x) call .entries) p p₁ l l₁ c c₁ (r .count))
-served w w₁ x x₁ p p₁ l l₁ c c₁ call n r es b h z does e v k =
+    → r ≡ answer 0 0 (r .count) → view w₁ x₁ ≡ b → Holds es u u₁ (r .count)
+    → (Answers (step (view w x) call) r w w₁ x x₁) × (Holds (step (view w x) call .entries) u u₁ (r .count))
+served w w₁ x x₁ u u₁ call n r es b h z does e v k =
     let o : Outcome = record { number = 0; value = 0; entries = es; board = b } in
     let s : step (view w x) call ≡ o = served-step (view w x) call (sym h ∙ z) ∙ does in
     let a : Answers o r w w₁ x x₁ =
@@ -85,56 +85,56 @@ served w w₁ x x₁ p p₁ l l₁ c c₁ call n r es b h z does e v k =
     (rw s a, rw s k)
 
 -- one pin moved, its change written at place 0
-pin-moved : (w w₁ w₂ : List ℕ) (x x₁ : List Float) (p p₁ l l₁ c c₁ : List ℕ) (call : Call) (n cycle : ℕ) (r : Answer) (m : S.Move) (change : Change)
-    → n ≡ first (refusals (view w x) call) → n ≡ 0 → performed (view w x) call ≡ moved (view w x) cycle m → 4 ≤ places p l c
+pin-moved : (w w₁ w₂ : List ℕ) (x x₁ : List Float) (u u₁ : Lent) (call : Call) (n cycle : ℕ) (r : Answer) (m : S.Move) (change : Change)
+    → n ≡ first (refusals (view w x) call) → n ≡ 0 → performed (view w x) call ≡ moved (view w x) cycle m → 4 ≤ places u
     → Moves m (view w x) (view w₁ x₁) change → view w₂ x₁ ≡ withLast (view w₁ x₁) cycle
-    → r ≡ answer 0 0 (r .count) → book p₁ l₁ c₁ (r .count) ≡ puts (book p l c 0) (entryOf cycle change) → r .count ≤ 1
-    → (Answers (step (view w x) call) r w w₂ x x₁) × (Holds (step (view w x) call .entries) p p₁ l l₁ c c₁ (r .count))
-pin-moved w w₁ w₂ x x₁ p p₁ l l₁ c c₁ call n cycle r m change h z does room moves last e put few =
-    served w w₂ x x₁ p p₁ l l₁ c c₁ call n r (entryOf cycle (m .change)) (withLast (withPads (view w x) (m .pads)) cycle) h z does e
+    → r ≡ answer 0 0 (r .count) → book u₁ (r .count) ≡ puts (book u 0) (entryOf cycle change) → r .count ≤ 1
+    → (Answers (step (view w x) call) r w w₂ x x₁) × (Holds (step (view w x) call .entries) u u₁ (r .count))
+pin-moved w w₁ w₂ x x₁ u u₁ call n cycle r m change h z does room moves last e put few =
+    served w w₂ x x₁ u u₁ call n r (entryOf cycle (m .change)) (withLast (withPads (view w x) (m .pads)) cycle) h z does e
     (last ∙ ap (λ (b : Board). withLast b cycle) (moves .board))
-    (holds (entryOf cycle (m .change)) p l c p₁ l₁ c₁ (r .count)
-    (put ∙ ap (λ (d : Change). puts (book p l c 0) (entryOf cycle d)) (moves .change)) (omega arith) (omega arith) (omega arith))
+    (holds (entryOf cycle (m .change)) u u₁ (r .count)
+    (put ∙ ap (λ (d : Change). puts (book u 0) (entryOf cycle d)) (moves .change)) (omega arith, omega arith, omega arith))
 
-pub pin-set : (w w₁ w₂ : List ℕ) (x x₁ : List Float) (p p₁ l l₁ c c₁ : List ℕ) (pin mode drain out up down function n cycle : ℕ) (r : Answer) (g : PinCfg) (change : Change)
-    → n ≡ first (noSuchIndex pin (view w x .counts .pins) ∷ clockAstray (view w x) cycle ∷ bookFull 4 (places p l c) ∷ []) → n ≡ 0
+pub pin-set : (w w₁ w₂ : List ℕ) (x x₁ : List Float) (u u₁ : Lent) (pin mode drain out up down function n cycle : ℕ) (r : Answer) (g : PinCfg) (change : Change)
+    → n ≡ first (noSuchIndex pin (view w x .counts .pins) ∷ clockAstray (view w x) cycle ∷ bookFull 4 (places u) ∷ []) → n ≡ 0
     → g ≡ cfgOf mode drain out up down → Moves (S.setPin (view w x .pads) pin g function) (view w x) (view w₁ x₁) change
     → view w₂ x₁ ≡ withLast (view w₁ x₁) cycle
-    → r ≡ answer 0 0 (r .count) → book p₁ l₁ c₁ (r .count) ≡ puts (book p l c 0) (entryOf cycle change) → r .count ≤ 1
-    → (Answers (step (view w x) (setPin pin mode drain out up down function cycle (places p l c))) r w w₂ x x₁)
-    × (Holds (step (view w x) (setPin pin mode drain out up down function cycle (places p l c)) .entries) p p₁ l l₁ c c₁ (r .count))
+    → r ≡ answer 0 0 (r .count) → book u₁ (r .count) ≡ puts (book u 0) (entryOf cycle change) → r .count ≤ 1
+    → (Answers (step (view w x) (setPin pin mode drain out up down function cycle (places u))) r w w₂ x x₁)
+    × (Holds (step (view w x) (setPin pin mode drain out up down function cycle (places u)) .entries) u u₁ (r .count))
 unfolding refusals performed
-pin-set w w₁ w₂ x x₁ p p₁ l l₁ c c₁ pin mode drain out up down function n cycle r g change h z cfg moves last e put few =
-    pin-moved w w₁ w₂ x x₁ p p₁ l l₁ c c₁ (setPin pin mode drain out up down function cycle (places p l c)) n cycle r
+pin-set w w₁ w₂ x x₁ u u₁ pin mode drain out up down function n cycle r g change h z cfg moves last e put few =
+    pin-moved w w₁ w₂ x x₁ u u₁ (setPin pin mode drain out up down function cycle (places u)) n cycle r
     (S.setPin (view w x .pads) pin g function) change h z (ap (λ (y : PinCfg). moved (view w x) cycle (S.setPin (view w x .pads) pin y function)) (sym cfg))
-    (pin-there (view w x) pin cycle (places p l c) n h z .1) moves last e put few
+    (pin-there (view w x) pin cycle (places u) n h z .1) moves last e put few
 
-pub pin-driven : (w w₁ w₂ : List ℕ) (x x₁ : List Float) (p p₁ l l₁ c c₁ : List ℕ) (pin : ℕ) (d d₁ : ExtDrive) (n cycle : ℕ) (r : Answer) (change : Change)
-    → n ≡ first (noSuchIndex pin (view w x .counts .pins) ∷ clockAstray (view w x) cycle ∷ bookFull 4 (places p l c) ∷ []) → n ≡ 0
+pub pin-driven : (w w₁ w₂ : List ℕ) (x x₁ : List Float) (u u₁ : Lent) (pin : ℕ) (d d₁ : ExtDrive) (n cycle : ℕ) (r : Answer) (change : Change)
+    → n ≡ first (noSuchIndex pin (view w x .counts .pins) ∷ clockAstray (view w x) cycle ∷ bookFull 4 (places u) ∷ []) → n ≡ 0
     → d ≡ d₁ → Moves (S.drivePin (view w x .pads) pin d) (view w x) (view w₁ x₁) change
     → view w₂ x₁ ≡ withLast (view w₁ x₁) cycle
-    → r ≡ answer 0 0 (r .count) → book p₁ l₁ c₁ (r .count) ≡ puts (book p l c 0) (entryOf cycle change) → r .count ≤ 1
-    → (Answers (step (view w x) (drivePin pin d₁ cycle (places p l c))) r w w₂ x x₁)
-    × (Holds (step (view w x) (drivePin pin d₁ cycle (places p l c)) .entries) p p₁ l l₁ c c₁ (r .count))
+    → r ≡ answer 0 0 (r .count) → book u₁ (r .count) ≡ puts (book u 0) (entryOf cycle change) → r .count ≤ 1
+    → (Answers (step (view w x) (drivePin pin d₁ cycle (places u))) r w w₂ x x₁)
+    × (Holds (step (view w x) (drivePin pin d₁ cycle (places u)) .entries) u u₁ (r .count))
 unfolding refusals performed
-pin-driven w w₁ w₂ x x₁ p p₁ l l₁ c c₁ pin d d₁ n cycle r change h z ext moves last e put few =
-    pin-moved w w₁ w₂ x x₁ p p₁ l l₁ c c₁ (drivePin pin d₁ cycle (places p l c)) n cycle r
+pin-driven w w₁ w₂ x x₁ u u₁ pin d d₁ n cycle r change h z ext moves last e put few =
+    pin-moved w w₁ w₂ x x₁ u u₁ (drivePin pin d₁ cycle (places u)) n cycle r
     (S.drivePin (view w x .pads) pin d) change h z (ap (λ (y : ExtDrive). moved (view w x) cycle (S.drivePin (view w x .pads) pin y)) (sym ext))
-    (pin-there (view w x) pin cycle (places p l c) n h z .1) moves last e put few
+    (pin-there (view w x) pin cycle (places u) n h z .1) moves last e put few
 
 -- every pin reset
-pub pins-reset : (w w₁ w₂ : List ℕ) (x x₁ : List Float) (p p₁ l l₁ c c₁ : List ℕ) (n k cycle : ℕ) (r : Answer)
-    → n ≡ first (refusals (view w x) (resetPins cycle (places p l c))) → n ≡ 0
-    → Reset (view w x) (view w₁ x₁) cycle (book p l c 0) (book p₁ l₁ c₁ k) → k ≤ view w x .counts .pins
+pub pins-reset : (w w₁ w₂ : List ℕ) (x x₁ : List Float) (u u₁ : Lent) (n k cycle : ℕ) (r : Answer)
+    → n ≡ first (refusals (view w x) (resetPins cycle (places u))) → n ≡ 0
+    → Reset (view w x) (view w₁ x₁) cycle (book u 0) (book u₁ k) → k ≤ view w x .counts .pins
     → view w₂ x₁ ≡ withLast (view w₁ x₁) cycle → r ≡ answer 0 0 k
-    → (Answers (step (view w x) (resetPins cycle (places p l c))) r w w₂ x x₁)
-    × (Holds (step (view w x) (resetPins cycle (places p l c)) .entries) p p₁ l l₁ c c₁ (r .count))
+    → (Answers (step (view w x) (resetPins cycle (places u))) r w w₂ x x₁)
+    × (Holds (step (view w x) (resetPins cycle (places u)) .entries) u u₁ (r .count))
 unfolding performed
-pins-reset w w₁ w₂ x x₁ p p₁ l l₁ c c₁ n k cycle r h z reset few last e =
+pins-reset w w₁ w₂ x x₁ u u₁ n k cycle r h z reset few last e =
     let o = S.resetPins (view w x .pads) (view w x .counts .pins) in
-    let room : view w x .counts .pins ≤ places p l c = reset-room (view w x) cycle (places p l c) n h z in
+    let room : view w x .counts .pins ≤ places u = reset-room (view w x) cycle (places u) n h z in
     let same : r .count ≡ k = ap (λ (y : Answer). y .count) e in
-    let held : Holds (changesOf cycle (o .changes)) p p₁ l l₁ c c₁ k =
-    holds (changesOf cycle (o .changes)) p l c p₁ l₁ c₁ k (reset .entries) (omega arith) (omega arith) (omega arith) in
-    served w w₂ x x₁ p p₁ l l₁ c c₁ (resetPins cycle (places p l c)) n r (changesOf cycle (o .changes)) (withLast (withPads (view w x) (o .pads)) cycle) h z
+    let held : Holds (changesOf cycle (o .changes)) u u₁ k =
+    holds (changesOf cycle (o .changes)) u u₁ k (reset .entries) (omega arith, omega arith, omega arith) in
+    served w w₂ x x₁ u u₁ (resetPins cycle (places u)) n r (changesOf cycle (o .changes)) (withLast (withPads (view w x) (o .pads)) cycle) h z
     refl (e ∙ ap (answer 0 0) (sym same)) (last ∙ ap (λ (b : Board). withLast b cycle) (reset .board)) (rw same held)

@@ -13,7 +13,7 @@ ghost use lib.Dec.{leb};
 ghost use lib.Ieee.{Float};
 ghost use lib.ListN.{length};
 ghost use Rattle.answer.specs.Promise.{answer, Answers};
-ghost use Rattle.book.specs.Book.{book, puts, entryOf, places, Holds};
+ghost use Rattle.book.specs.Book.{book, puts, entryOf, places, Holds, slices, Room};
 ghost use Rattle.machine.specs.Board.{withLast};
 ghost use Rattle.machine.specs.Call as C;
 ghost use Rattle.machine.specs.Refusals.{first, noSuchIndex, clockAstray, bookFull};
@@ -71,7 +71,7 @@ fn refusal(
     pin: u32,
     cycle: u64,
 ) -> u8
-    ensures { λ r. ⌜ ((x : List Float) → r ≡ first (noSuchIndex pin (view (now (words .entry)) x .counts .pins) ∷ clockAstray (view (now (words .entry)) x) cycle ∷ bookFull 4 (places (now (pins .entry)) (now (levels .entry)) (now (cycles .entry))) ∷ [])) ⌝ }
+    ensures { λ r. ⌜ ((x : List Float) → r ≡ first (noSuchIndex pin (view (now (words .entry)) x .counts .pins) ∷ clockAstray (view (now (words .entry)) x) cycle ∷ bookFull 4 (places (slices (now (pins .entry)) (now (levels .entry)) (now (cycles .entry)))) ∷ [])) ⌝ }
 {
     let count = state::pin_count(words);
     let room = book::room(pins, levels, cycles);
@@ -87,10 +87,10 @@ fn changed(
     change: Change,
     at: u64,
 ) -> Answer
-    requires { ⌜ (0 < length (now pins)) × (0 < length (now levels)) × (0 < length (now cycles)) ⌝ }
+    requires { ⌜ Room 1 (slices (now pins) (now levels) (now cycles)) ⌝ }
     ensures { λ r. ⌜ ((x : List Float) → view (now (words .exit)) x ≡ withLast (view (now (words .entry)) x) at) ⌝ }
     ensures { λ r. ⌜ r ≡ answer 0 0 (r .count) ⌝ }
-    ensures { λ r. ⌜ book (now (pins .exit)) (now (levels .exit)) (now (cycles .exit)) (r .count) ≡ puts (book (now (pins .entry)) (now (levels .entry)) (now (cycles .entry)) 0) (entryOf at change) ⌝ }
+    ensures { λ r. ⌜ book (slices (now (pins .exit)) (now (levels .exit)) (now (cycles .exit))) (r .count) ≡ puts (book (slices (now (pins .entry)) (now (levels .entry)) (now (cycles .entry))) 0) (entryOf at change) ⌝ }
     ensures { λ r. ⌜ r .count ≤ 1 ⌝ }
 {
     state::set_last(words, at);
@@ -118,8 +118,8 @@ pub fn set_pin(
     function: u32,
     cycle: u64,
 ) -> Answer
-    ensures { λ r. ⌜ Answers (step (view (now (words .entry)) (now (reals .entry))) (C.setPin pin mode «open_drain» out pullup pulldown function cycle (places (now (pins .entry)) (now (levels .entry)) (now (cycles .entry))))) r (now (words .entry)) (now (words .exit)) (now (reals .entry)) (now (reals .exit)) ⌝ }
-    ensures { λ r. ⌜ Holds (step (view (now (words .entry)) (now (reals .entry))) (C.setPin pin mode «open_drain» out pullup pulldown function cycle (places (now (pins .entry)) (now (levels .entry)) (now (cycles .entry)))) .entries) (now (pins .entry)) (now (pins .exit)) (now (levels .entry)) (now (levels .exit)) (now (cycles .entry)) (now (cycles .exit)) (r .count) ⌝ }
+    ensures { λ r. ⌜ Answers (step (view (now (words .entry)) (now (reals .entry))) (C.setPin pin mode «open_drain» out pullup pulldown function cycle (places (slices (now (pins .entry)) (now (levels .entry)) (now (cycles .entry)))))) r (now (words .entry)) (now (words .exit)) (now (reals .entry)) (now (reals .exit)) ⌝ }
+    ensures { λ r. ⌜ Holds (step (view (now (words .entry)) (now (reals .entry))) (C.setPin pin mode «open_drain» out pullup pulldown function cycle (places (slices (now (pins .entry)) (now (levels .entry)) (now (cycles .entry))))) .entries) (slices (now (pins .entry)) (now (levels .entry)) (now (cycles .entry))) (slices (now (pins .exit)) (now (levels .exit)) (now (cycles .exit))) (r .count) ⌝ }
 {
     let n = refusal(words, pins, levels, cycles, pin, cycle);
     if n != 0 {
@@ -142,8 +142,8 @@ pub fn drive_pin(
     volts: f64,
     cycle: u64,
 ) -> Answer
-    ensures { λ r. ⌜ Answers (step (view (now (words .entry)) (now (reals .entry))) (C.drivePin pin (extOf kind volts) cycle (places (now (pins .entry)) (now (levels .entry)) (now (cycles .entry))))) r (now (words .entry)) (now (words .exit)) (now (reals .entry)) (now (reals .exit)) ⌝ }
-    ensures { λ r. ⌜ Holds (step (view (now (words .entry)) (now (reals .entry))) (C.drivePin pin (extOf kind volts) cycle (places (now (pins .entry)) (now (levels .entry)) (now (cycles .entry)))) .entries) (now (pins .entry)) (now (pins .exit)) (now (levels .entry)) (now (levels .exit)) (now (cycles .entry)) (now (cycles .exit)) (r .count) ⌝ }
+    ensures { λ r. ⌜ Answers (step (view (now (words .entry)) (now (reals .entry))) (C.drivePin pin (extOf kind volts) cycle (places (slices (now (pins .entry)) (now (levels .entry)) (now (cycles .entry)))))) r (now (words .entry)) (now (words .exit)) (now (reals .entry)) (now (reals .exit)) ⌝ }
+    ensures { λ r. ⌜ Holds (step (view (now (words .entry)) (now (reals .entry))) (C.drivePin pin (extOf kind volts) cycle (places (slices (now (pins .entry)) (now (levels .entry)) (now (cycles .entry))))) .entries) (slices (now (pins .entry)) (now (levels .entry)) (now (cycles .entry))) (slices (now (pins .exit)) (now (levels .exit)) (now (cycles .exit))) (r .count) ⌝ }
 {
     let number = refusal(words, pins, levels, cycles, pin, cycle);
     if number != 0 {
@@ -163,8 +163,8 @@ pub fn reset_pins(
     cycles: &mut [u64],
     cycle: u64,
 ) -> Answer
-    ensures { λ r. ⌜ Answers (step (view (now (words .entry)) (now (reals .entry))) (C.resetPins cycle (places (now (pins .entry)) (now (levels .entry)) (now (cycles .entry))))) r (now (words .entry)) (now (words .exit)) (now (reals .entry)) (now (reals .exit)) ⌝ }
-    ensures { λ r. ⌜ Holds (step (view (now (words .entry)) (now (reals .entry))) (C.resetPins cycle (places (now (pins .entry)) (now (levels .entry)) (now (cycles .entry)))) .entries) (now (pins .entry)) (now (pins .exit)) (now (levels .entry)) (now (levels .exit)) (now (cycles .entry)) (now (cycles .exit)) (r .count) ⌝ }
+    ensures { λ r. ⌜ Answers (step (view (now (words .entry)) (now (reals .entry))) (C.resetPins cycle (places (slices (now (pins .entry)) (now (levels .entry)) (now (cycles .entry)))))) r (now (words .entry)) (now (words .exit)) (now (reals .entry)) (now (reals .exit)) ⌝ }
+    ensures { λ r. ⌜ Holds (step (view (now (words .entry)) (now (reals .entry))) (C.resetPins cycle (places (slices (now (pins .entry)) (now (levels .entry)) (now (cycles .entry))))) .entries) (slices (now (pins .entry)) (now (levels .entry)) (now (cycles .entry))) (slices (now (pins .exit)) (now (levels .exit)) (now (cycles .exit))) (r .count) ⌝ }
 {
     let need = state::pin_count(words);
     let room = book::room(pins, levels, cycles);

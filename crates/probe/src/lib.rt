@@ -12,7 +12,7 @@ ghost use Rattle.machine.specs.Board.{timerAt, withTimer, withPads};
 ghost use Rattle.machine.specs.Sys.{refreshPin, sigOut};
 ghost use Rattle.machine.specs.Call as C;
 ghost use Rattle.machine.specs.Step.{step};
-ghost use Rattle.book.specs.Book.{places, Holds};
+ghost use Rattle.book.specs.Book.{places, Holds, slices};
 ghost use Rattle.answer.specs.Promise.{Answers};
 ghost use Rattle.probe.specs.Probe.{Moved, moves};
 
@@ -74,8 +74,8 @@ pub extern "C" fn probe_reset_pins(
     cycles: &mut [u64],
     cycle: u64,
 ) -> Answer
-    ensures { λ r. ⌜ Answers (step (view (now (words .entry)) (now (reals .entry))) (C.resetPins cycle (places (now (pins .entry)) (now (levels .entry)) (now (cycles .entry))))) r (now (words .entry)) (now (words .exit)) (now (reals .entry)) (now (reals .exit)) ⌝ }
-    ensures { λ r. ⌜ Holds (step (view (now (words .entry)) (now (reals .entry))) (C.resetPins cycle (places (now (pins .entry)) (now (levels .entry)) (now (cycles .entry)))) .entries) (now (pins .entry)) (now (pins .exit)) (now (levels .entry)) (now (levels .exit)) (now (cycles .entry)) (now (cycles .exit)) (r .count) ⌝ }
+    ensures { λ r. ⌜ Answers (step (view (now (words .entry)) (now (reals .entry))) (C.resetPins cycle (places (slices (now (pins .entry)) (now (levels .entry)) (now (cycles .entry)))))) r (now (words .entry)) (now (words .exit)) (now (reals .entry)) (now (reals .exit)) ⌝ }
+    ensures { λ r. ⌜ Holds (step (view (now (words .entry)) (now (reals .entry))) (C.resetPins cycle (places (slices (now (pins .entry)) (now (levels .entry)) (now (cycles .entry))))) .entries) (slices (now (pins .entry)) (now (levels .entry)) (now (cycles .entry))) (slices (now (pins .exit)) (now (levels .exit)) (now (cycles .exit))) (r .count) ⌝ }
 {
     pads::reset_pins(words, reals, pins, levels, cycles, cycle)
 }

@@ -13,7 +13,7 @@ ghost use Rattle.gpio.specs.Gpio.{changeOf};
 ghost use Rattle.state.specs.Board.{gpioAt, sigLevelAt};
 ghost use Rattle.state.specs.View.{view};
 ghost use lib.ListN.{length};
-ghost use Rattle.book.specs.Book.{book};
+ghost use Rattle.book.specs.Book.{book, slices, Room};
 ghost use Rattle.machine.specs.Board.{withPads, plainCfg};
 ghost use Rattle.machine.specs.Sys as S;
 ghost use Rattle.sys.specs.Moves.{signalDriven, Moves, Reset};
@@ -231,8 +231,8 @@ pub fn reset_pins(
     cycles: &mut [u64],
     cycle: u64,
 ) -> usize
-    requires { ⌜ (view (now words) (now reals) .counts .pins ≤ length (now pins)) × (view (now words) (now reals) .counts .pins ≤ length (now levels)) × (view (now words) (now reals) .counts .pins ≤ length (now cycles)) ⌝ }
-    ensures { λ r. ⌜ Reset (view (now (words .entry)) (now (reals .entry))) (view (now (words .exit)) (now (reals .exit))) cycle (book (now (pins .entry)) (now (levels .entry)) (now (cycles .entry)) 0) (book (now (pins .exit)) (now (levels .exit)) (now (cycles .exit)) r) ⌝ }
+    requires { ⌜ Room (view (now words) (now reals) .counts .pins) (slices (now pins) (now levels) (now cycles)) ⌝ }
+    ensures { λ r. ⌜ Reset (view (now (words .entry)) (now (reals .entry))) (view (now (words .exit)) (now (reals .exit))) cycle (book (slices (now (pins .entry)) (now (levels .entry)) (now (cycles .entry))) 0) (book (slices (now (pins .exit)) (now (levels .exit)) (now (cycles .exit))) r) ⌝ }
     ensures { λ r. ⌜ r ≤ view (now (words .entry)) (now (reals .entry)) .counts .pins ⌝ }
 {
     blank::unroute(words);

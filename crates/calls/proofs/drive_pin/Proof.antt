@@ -29,7 +29,7 @@ same-length-3 : tie.Need-same-length-3
 same-length-3 c = search needs
 
 returns : tie.Need-returns
-returns c = books-as _ _ (drive-pin-is (c .before .before .before .before .before .before .before .before .before .before .before .before .before .before .before .before .before .before .before .before .args .calls .now) _ _ _ _ _ (c .before .before .before .before .before .before .before .before .before .before .before .before .before .before .before .word .ensures) (c .before .before .before .before .before .before .before .before .before .before .before .before .before .before .word2 .ensures) (c .before .before .before .before .before .before .before .before .before .before .before .before .before .real64 .ensures) (c .before .before .before .before .before .before .before .before .before .before .before .before .word64 .ensures)) _ _ _ _ _ _ _ _ _ _ _ _ (c .before .before .before .before .before .before .drive-pin .ensures)
+returns c = books-as _ _ (drive-pin-is (c .before .before .before .before .before .before .before .before .before .before .before .before .before .before .before .before .before .before .before .before .args .calls .now) _ _ _ _ _ (c .before .before .before .before .before .before .before .before .before .before .before .before .before .before .before .word .ensures) (c .before .before .before .before .before .before .before .before .before .before .before .before .before .before .word2 .ensures) (c .before .before .before .before .before .before .before .before .before .before .before .before .before .real64 .ensures) (c .before .before .before .before .before .before .before .before .before .before .before .before .word64 .ensures)) _ _ _ _ _ _ _ _ (c .before .before .before .before .before .before .drive-pin .ensures)
 
 pub drive-pin-spec : {M : Type 1} → statement M
 drive-pin-spec = tie.close (tie.spec word-requires word-requires-2 real64-requires word64-requires drive-pin-requires same-length same-length-2 same-length-3 returns)

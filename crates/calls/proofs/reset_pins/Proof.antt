@@ -20,7 +20,7 @@ same-length-3 : tie.Need-same-length-3
 same-length-3 c = search needs
 
 returns : tie.Need-returns
-returns c = books-as _ _ (reset-pins-is (c .before .before .before .before .before .before .before .before .before .before .before .before .before .before .before .before .before .args .calls .now) _ _ (c .before .before .before .before .before .before .before .before .before .before .before .before .word64 .ensures)) _ _ _ _ _ _ _ _ _ _ _ _ (c .before .before .before .before .before .before .reset-pins .ensures)
+returns c = books-as _ _ (reset-pins-is (c .before .before .before .before .before .before .before .before .before .before .before .before .before .before .before .before .before .args .calls .now) _ _ (c .before .before .before .before .before .before .before .before .before .before .before .before .word64 .ensures)) _ _ _ _ _ _ _ _ (c .before .before .before .before .before .before .reset-pins .ensures)
 
 pub reset-pins-spec : {M : Type 1} → statement M
 reset-pins-spec = tie.close (tie.spec word64-requires reset-pins-requires same-length same-length-2 same-length-3 returns)

@@ -1,7 +1,7 @@
 -- What is left to do leads to the same end.
 use borrow.Author.Needs.{needs}
 use Prim.Native.Nat.{_-_}
-use Rattle.book.specs.Book.{book}
+use Rattle.book.specs.Book.{book, slices}
 use Rattle.state.specs.View.{view}
 use lib.ListN.{length}
 use mathlib.Core.Path.{_≡_, refl, sym}
@@ -12,7 +12,7 @@ use Rattle.calls.proofs.run_calls.Tie as tie
 
 abbrev Inv-loop : tie.InvT-loop
 Inv-loop words₀ reals₀ calls answers₀ pins₀ levels₀ cycles₀ room size at₀ done₀ entries₀ words reals answers pins levels cycles at done entries =
-    Going calls room (view words₀ reals₀) (view words reals) answers₀ answers (book pins₀ levels₀ cycles₀ 0) (book pins levels cycles entries) at done
+    Going calls room (view words₀ reals₀) (view words reals) answers₀ answers (book (slices pins₀ levels₀ cycles₀) 0) (book (slices pins levels cycles) entries) at done
     × (length answers ≡ length answers₀) × (length pins ≡ length pins₀) × (length levels ≡ length levels₀) × (length cycles ≡ length cycles₀)
 
 abbrev μ-loop : tie.MeasureT-loop
@@ -68,7 +68,7 @@ same-length-4 : tie.Need-same-length-4 Inv-loop μ-loop
 same-length-4 c = c .before .before .before .before .before .loop .inv .4
 
 returns : tie.Need-returns Inv-loop μ-loop
-returns c = room-ends (c .before .before .before .before .before .before .before .before .before .before .before .before .before .before .before .args .calls .now) _ _ _ _ _ _ _ _ _ _ _ _ _ (c .before .before .before .before .before .before .room .ensures) (stopped _ _ _ _ _ _ _ _ _ _ (c .before .before .before .before .before .loop .inv .0) _ _ (c .before .before .before .len-of .ensures) (c .before .before .places-of .ensures) _ (c .before .stops .ensures) (c .if1 .taken)) (c .before .before .before .before .before .loop .inv .0 .words) (c .before .before .before .before .before .loop .inv .0 .places)
+returns c = room-ends (c .before .before .before .before .before .before .before .before .before .before .before .before .before .before .before .args .calls .now) _ _ _ _ _ _ _ _ _ (c .before .before .before .before .before .before .room .ensures) (stopped _ _ _ _ _ _ _ _ _ _ (c .before .before .before .before .before .loop .inv .0) _ _ (c .before .before .before .len-of .ensures) (c .before .before .places-of .ensures) _ (c .before .stops .ensures) (c .if1 .taken)) (c .before .before .before .before .before .loop .inv .0 .words) (c .before .before .before .before .before .loop .inv .0 .places)
 
 add-end : tie.Need-add-end Inv-loop μ-loop
 add-end c = omega (arith, c .before .before .before .before .before .before .before .before .before .before .before .before .before .before .before .good, c .before .before .before .before .before .loop .inv .0 .few, c .before .before .before .before .before .loop .inv .0 .within, c .before .before .before .before .before .loop .inv .0 .words, c .before .before .before .before .before .loop .inv .0 .places, c .before .before .before .before .before .loop .inv .1, c .before .before .before .before .before .loop .inv .2, c .before .before .before .before .before .loop .inv .3, c .before .before .before .before .before .loop .inv .4, next-free _ _ _ _ _ _ _ _ _ _ (c .before .before .before .before .before .loop .inv .0) _ _ (c .before .before .before .len-of .ensures) (c .before .before .places-of .ensures) _ (c .before .stops .ensures) (c .if1 .left) .fits, c .before .before .before .before .before .before .room .ensures)

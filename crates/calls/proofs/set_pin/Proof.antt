@@ -41,7 +41,7 @@ same-length-3 : tie.Need-same-length-3
 same-length-3 c = search needs
 
 returns : tie.Need-returns
-returns c = books-as _ _ (set-pin-is (c .before .before .before .before .before .before .before .before .before .before .before .before .before .before .before .before .before .before .before .before .before .before .before .before .args .calls .now) _ _ _ _ _ _ _ _ _ (c .before .before .before .before .before .before .before .before .before .before .before .before .before .before .before .before .before .before .before .word .ensures) (c .before .before .before .before .before .before .before .before .before .before .before .before .before .before .before .before .before .before .word2 .ensures) (c .before .before .before .before .before .before .before .before .before .before .before .before .before .before .before .before .before .word3 .ensures) (c .before .before .before .before .before .before .before .before .before .before .before .before .before .before .before .before .word4 .ensures) (c .before .before .before .before .before .before .before .before .before .before .before .before .before .before .before .word5 .ensures) (c .before .before .before .before .before .before .before .before .before .before .before .before .before .before .word6 .ensures) (c .before .before .before .before .before .before .before .before .before .before .before .before .before .word7 .ensures) (c .before .before .before .before .before .before .before .before .before .before .before .before .word64 .ensures)) _ _ _ _ _ _ _ _ _ _ _ _ (c .before .before .before .before .before .before .set-pin .ensures)
+returns c = books-as _ _ (set-pin-is (c .before .before .before .before .before .before .before .before .before .before .before .before .before .before .before .before .before .before .before .before .before .before .before .before .args .calls .now) _ _ _ _ _ _ _ _ _ (c .before .before .before .before .before .before .before .before .before .before .before .before .before .before .before .before .before .before .before .word .ensures) (c .before .before .before .before .before .before .before .before .before .before .before .before .before .before .before .before .before .before .word2 .ensures) (c .before .before .before .before .before .before .before .before .before .before .before .before .before .before .before .before .before .word3 .ensures) (c .before .before .before .before .before .before .before .before .before .before .before .before .before .before .before .before .word4 .ensures) (c .before .before .before .before .before .before .before .before .before .before .before .before .before .before .before .word5 .ensures) (c .before .before .before .before .before .before .before .before .before .before .before .before .before .before .word6 .ensures) (c .before .before .before .before .before .before .before .before .before .before .before .before .before .word7 .ensures) (c .before .before .before .before .before .before .before .before .before .before .before .before .word64 .ensures)) _ _ _ _ _ _ _ _ (c .before .before .before .before .before .before .set-pin .ensures)
 
 pub set-pin-spec : {M : Type 1} → statement M
 set-pin-spec = tie.close (tie.spec word-requires word-requires-2 word-requires-3 word-requires-4 word-requires-5 word-requires-6 word-requires-7 word64-requires set-pin-requires same-length same-length-2 same-length-3 returns)

@@ -36,7 +36,7 @@ same-length-3 c = search needs
 
 returns : tie.Need-returns
 returns c =
-    (delivers _ _ _ _ _ (c .before .before .before .before .before .before .before .before .before .before .before .before .before .before .before .before .before .before .before .before .before .before .before .before .before .before .before .args .i) (c .before .before .before .before .before .before .before .before .before .before .before .before .before .before .before .before .before .before .before .before .before .before .before .before .before .before .before .args .cycle) _ _ _ _ (c .before .before .before .before .before .before .before .before .before .before .before .before .before .before .before .before .before .before .before .before .before .before .load-timer .ensures (c .before .before .before .before .before .before .before .before .before .before .before .before .before .before .before .before .before .before .before .before .before .before .before .before .before .before .before .args .reals .now)) (c .before .before .before .before .before .before .before .before .before .before .before .before .before .before .before .before .before .before .before .divider .ensures .0) _ _ _ _ _ _ (c .before .before .before .before .before .before .before .before .before .before .before .before .before .run .ensures .0) (c .before .before .before .before .before .before .before .before .before .before .before .before .before .run .ensures .1 .2) (c .before .before .before .before .before .before .before .before .before .before .before .before .before .run .ensures .1 .3) (c .before .before .before .before .before .before .before .before .before .before .before .before .before .run .ensures .1 .4) (c .before .before .before .before .store .ensures _) (c .before .before .settle-line .ensures _) (due-booked _ _ (c .before .before .before .before .before .before .before .before .before .before .before .before .before .before .before .before .before .before .before .before .before .before .before .before .before .before .before .args .i) (c .before .before .before .before .before .before .before .before .before .before .before .before .before .before .before .before .before .before .before .before .before .before .before .before .before .before .before .args .cycle) _ _ (c .before .before .before .before .before .before .before .before .before .before .before .before .before .run .ensures .1 .1) (c .book-due .ensures _)), c .before .before .before .before .before .before .before .before .before .before .before .before .before .run .ensures .1 .5)
+    (delivers _ _ _ _ _ (c .before .before .before .before .before .before .before .before .before .before .before .before .before .before .before .before .before .before .before .before .before .before .before .before .before .before .before .args .i) (c .before .before .before .before .before .before .before .before .before .before .before .before .before .before .before .before .before .before .before .before .before .before .before .before .before .before .before .args .cycle) _ _ _ _ (c .before .before .before .before .before .before .before .before .before .before .before .before .before .before .before .before .before .before .before .before .before .before .load-timer .ensures (c .before .before .before .before .before .before .before .before .before .before .before .before .before .before .before .before .before .before .before .before .before .before .before .before .before .before .before .args .reals .now)) (c .before .before .before .before .before .before .before .before .before .before .before .before .before .before .before .before .before .before .before .divider .ensures .0) _ _ (c .before .before .before .before .before .before .before .before .before .before .before .before .before .run .ensures .0) (c .before .before .before .before .before .before .before .before .before .before .before .before .before .run .ensures .1 .2) (c .before .before .before .before .store .ensures _) (c .before .before .settle-line .ensures _) (due-booked _ _ (c .before .before .before .before .before .before .before .before .before .before .before .before .before .before .before .before .before .before .before .before .before .before .before .before .before .before .before .args .i) (c .before .before .before .before .before .before .before .before .before .before .before .before .before .before .before .before .before .before .before .before .before .before .before .before .before .before .before .args .cycle) _ _ (c .before .before .before .before .before .before .before .before .before .before .before .before .before .run .ensures .1 .1) (c .book-due .ensures _)), c .before .before .before .before .before .before .before .before .before .before .before .before .before .run .ensures .1 .3)
 
 pub deliver-spec : {M : Type 1} → statement M
 deliver-spec =

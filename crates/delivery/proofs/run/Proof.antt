@@ -1,6 +1,6 @@
 -- What is still due leads to the same end.
 use Prim.Native.Nat.{_-_}
-use Rattle.book.specs.Book.{book}
+use Rattle.book.specs.Book.{book, slices}
 use Rattle.delivery.proofs.Laws.{Going, begins, of-four, goes, going-on, ends-none, ends-stop, room-ends}
 use Rattle.machine.specs.Deliver.{run, mostEvents}
 use Rattle.state.specs.View.{view}
@@ -13,7 +13,7 @@ use Rattle.delivery.proofs.run.Tie as tie
 
 abbrev Inv-loop : tie.InvT-loop
 Inv-loop words₀ reals₀ pins₀ levels₀ cycles₀ div cycle room t₀ events₀ count₀ words reals pins levels cycles t events count =
-    Going cycle div room (run mostEvents cycle div room t₀ (view words₀ reals₀ .pads)) (view words₀ reals₀) (book pins₀ levels₀ cycles₀ 0) t (view words reals) (book pins levels cycles count) events
+    Going cycle div room (run mostEvents cycle div room t₀ (view words₀ reals₀ .pads)) (view words₀ reals₀) (book (slices pins₀ levels₀ cycles₀) 0) t (view words reals) (book (slices pins levels cycles) count) events
     × (length pins ≡ length pins₀) × (length levels ≡ length levels₀) × (length cycles ≡ length cycles₀)
 
 abbrev μ-loop : tie.MeasureT-loop
@@ -45,7 +45,7 @@ same-length-3 : tie.Need-same-length-3 Inv-loop μ-loop
 same-length-3 c = c .before .before .before .loop .inv .3
 
 returns : tie.Need-returns Inv-loop μ-loop
-returns c = (room-ends _ _ _ _ _ _ _ _ _ _ (c .before .before .before .before .room .ensures) (ends-none _ _ _ _ _ _ _ _ _ _ _ (c .before .before .before .loop .inv .0) (c .before .before .due-of .ensures) (c .enum-told .given .1) _ _), (c .before .before .before .loop .inv .0 .fit, c .before .before .due-of .ensures, omega (arith, c .before .before .before .loop .inv .0 .within, c .before .before .before .loop .inv .1, c .before .before .before .loop .inv .2, c .before .before .before .loop .inv .3, c .before .before .before .before .room .ensures), omega (arith, c .before .before .before .loop .inv .0 .within, c .before .before .before .loop .inv .1, c .before .before .before .loop .inv .2, c .before .before .before .loop .inv .3, c .before .before .before .before .room .ensures), omega (arith, c .before .before .before .loop .inv .0 .within, c .before .before .before .loop .inv .1, c .before .before .before .loop .inv .2, c .before .before .before .loop .inv .3, c .before .before .before .before .room .ensures), omega (arith, c .before .before .before .loop .inv .0 .few, c .before .before .before .loop .inv .0 .small)))
+returns c = (room-ends _ _ _ _ _ _ _ _ _ _ (c .before .before .before .before .room .ensures) (ends-none _ _ _ _ _ _ _ _ _ _ _ (c .before .before .before .loop .inv .0) (c .before .before .due-of .ensures) (c .enum-told .given .1) _ _), (c .before .before .before .loop .inv .0 .fit, c .before .before .due-of .ensures, (omega (arith, c .before .before .before .loop .inv .0 .within, c .before .before .before .loop .inv .1, c .before .before .before .loop .inv .2, c .before .before .before .loop .inv .3, c .before .before .before .before .room .ensures), omega (arith, c .before .before .before .loop .inv .0 .within, c .before .before .before .loop .inv .1, c .before .before .before .loop .inv .2, c .before .before .before .loop .inv .3, c .before .before .before .before .room .ensures), omega (arith, c .before .before .before .loop .inv .0 .within, c .before .before .before .loop .inv .1, c .before .before .before .loop .inv .2, c .before .before .before .loop .inv .3, c .before .before .before .before .room .ensures)), omega (arith, c .before .before .before .loop .inv .0 .few, c .before .before .before .loop .inv .0 .small)))
 
 sub-verdict : tie.Need-sub-verdict Inv-loop μ-loop
 sub-verdict c = c .before .before .before .before .loop .inv .0 .within
@@ -63,7 +63,7 @@ same-length-6 : tie.Need-same-length-6 Inv-loop μ-loop
 same-length-6 c = c .before .before .before .before .before .before .loop .inv .3
 
 returns-2 : tie.Need-returns-2 Inv-loop μ-loop
-returns-2 c = (room-ends _ _ _ _ _ _ _ _ _ _ (c .before .before .before .before .before .before .before .room .ensures) (ends-stop _ _ _ _ _ _ _ _ _ _ _ (c .before .before .before .before .before .before .loop .inv .0) (c .before .before .before .before .before .due-of .ensures) _ _ (c .before .before .before .due .given .1) _ (c .before .verdict .ensures) (c .if1 .taken) _ _), (c .before .before .before .before .before .before .loop .inv .0 .fit, sym (c .before .before .before .due .given .1) ∙ c .before .before .before .before .before .due-of .ensures, omega (arith, c .before .before .before .before .before .before .loop .inv .0 .within, c .before .before .before .before .before .before .loop .inv .1, c .before .before .before .before .before .before .loop .inv .2, c .before .before .before .before .before .before .loop .inv .3, c .before .before .before .before .before .before .before .room .ensures), omega (arith, c .before .before .before .before .before .before .loop .inv .0 .within, c .before .before .before .before .before .before .loop .inv .1, c .before .before .before .before .before .before .loop .inv .2, c .before .before .before .before .before .before .loop .inv .3, c .before .before .before .before .before .before .before .room .ensures), omega (arith, c .before .before .before .before .before .before .loop .inv .0 .within, c .before .before .before .before .before .before .loop .inv .1, c .before .before .before .before .before .before .loop .inv .2, c .before .before .before .before .before .before .loop .inv .3, c .before .before .before .before .before .before .before .room .ensures), omega (arith, c .before .before .before .before .before .before .loop .inv .0 .few, c .before .before .before .before .before .before .loop .inv .0 .small)))
+returns-2 c = (room-ends _ _ _ _ _ _ _ _ _ _ (c .before .before .before .before .before .before .before .room .ensures) (ends-stop _ _ _ _ _ _ _ _ _ _ _ (c .before .before .before .before .before .before .loop .inv .0) (c .before .before .before .before .before .due-of .ensures) _ _ (c .before .before .before .due .given .1) _ (c .before .verdict .ensures) (c .if1 .taken) _ _), (c .before .before .before .before .before .before .loop .inv .0 .fit, sym (c .before .before .before .due .given .1) ∙ c .before .before .before .before .before .due-of .ensures, (omega (arith, c .before .before .before .before .before .before .loop .inv .0 .within, c .before .before .before .before .before .before .loop .inv .1, c .before .before .before .before .before .before .loop .inv .2, c .before .before .before .before .before .before .loop .inv .3, c .before .before .before .before .before .before .before .room .ensures), omega (arith, c .before .before .before .before .before .before .loop .inv .0 .within, c .before .before .before .before .before .before .loop .inv .1, c .before .before .before .before .before .before .loop .inv .2, c .before .before .before .before .before .before .loop .inv .3, c .before .before .before .before .before .before .before .room .ensures), omega (arith, c .before .before .before .before .before .before .loop .inv .0 .within, c .before .before .before .before .before .before .loop .inv .1, c .before .before .before .before .before .before .loop .inv .2, c .before .before .before .before .before .before .loop .inv .3, c .before .before .before .before .before .before .before .room .ensures)), omega (arith, c .before .before .before .before .before .before .loop .inv .0 .few, c .before .before .before .before .before .before .loop .inv .0 .small)))
 
 apply-requires : tie.Need-apply-requires Inv-loop μ-loop
 apply-requires c κs = (of-four _ _ _ _ (c .before .before .before .before .before .due-of .ensures) (c .before .before .before .due .given .1), c .before .before .before .before .before .before .loop .inv .0 .fit, c .before .before .before .before .before .before .before .before .before .before .before .before .before .before .pre .2)

@@ -1,7 +1,8 @@
 -- Refused, or reset.
 use native.Mathlib.Omega.{arith}
-use Rattle.book.specs.Book.{places}
-use Rattle.mmio.proofs.Laws.{admitted, fits, within, reset-away, reset-away-book, reset-gives}
+use Rattle.book.specs.Book.{places, slices}
+use Rattle.book.proofs.Laws.{roomy}
+use Rattle.mmio.proofs.Laws.{admitted, reset-away, reset-away-book, reset-gives}
 use borrow.Author.Needs.{needs}
 use Rattle.mmio.proofs.reset.Statement.{statement}
 use Rattle.mmio.proofs.reset.Tie as tie
@@ -24,15 +25,15 @@ same-length-3 c = search needs
 returns : tie.Need-returns
 returns c =
     let s = c .before .before .before .before .before .before .before .before .before .before in (
-      reset-away (s .args .words .now) (s .args .reals .now) (s .args .timer) (s .args .cycle) (places (s .args .pins .now) (s .args .levels .now) (s .args .cycles .now)) _ (c .before .before .book-refusal .ensures (s .args .reals .now)) (c .before .if1 .taken) _ (c .refused .ensures),
-      reset-away-book (s .args .words .now) (s .args .reals .now) (s .args .timer) (s .args .cycle) (places (s .args .pins .now) (s .args .levels .now) (s .args .cycles .now)) _ (c .before .before .book-refusal .ensures (s .args .reals .now)) (c .before .if1 .taken) _ (c .refused .ensures) (s .args .pins .now) (s .args .levels .now) (s .args .cycles .now),
+      reset-away (s .args .words .now) (s .args .reals .now) (s .args .timer) (s .args .cycle) (places (slices (s .args .pins .now) (s .args .levels .now) (s .args .cycles .now))) _ (c .before .before .book-refusal .ensures (s .args .reals .now)) (c .before .if1 .taken) _ (c .refused .ensures),
+      reset-away-book (s .args .words .now) (s .args .reals .now) (s .args .timer) (s .args .cycle) (places (slices (s .args .pins .now) (s .args .levels .now) (s .args .cycles .now))) _ (c .before .before .book-refusal .ensures (s .args .reals .now)) (c .before .if1 .taken) _ (c .refused .ensures) (slices (s .args .pins .now) (s .args .levels .now) (s .args .cycles .now)),
     )
 
 reset-timer-requires : tie.Need-reset-timer-requires
 reset-timer-requires c κs =
     let s = c .before .before .before .before .before .before .before .before .before .before .before .before .before .before in
-    let q = admitted (s .args .words .now) (s .args .reals .now) (s .args .timer) 4 (s .args .cycle) (places (s .args .pins .now) (s .args .levels .now) (s .args .cycles .now)) _ (c .before .before .before .before .before .before .book-refusal .ensures (s .args .reals .now)) (c .before .before .before .before .before .if1 .left) in
-    (q .index-lt, fits (s .args .pins .now) (s .args .levels .now) (s .args .cycles .now) (q .places-le))
+    let q = admitted (s .args .words .now) (s .args .reals .now) (s .args .timer) 4 (s .args .cycle) (places (slices (s .args .pins .now) (s .args .levels .now) (s .args .cycles .now))) _ (c .before .before .before .before .before .before .book-refusal .ensures (s .args .reals .now)) (c .before .before .before .before .before .if1 .left) in
+    (q .index-lt, roomy (slices (s .args .pins .now) (s .args .levels .now) (s .args .cycles .now)) 4 4 (q .places-le) (omega arith))
 
 cast-t27 : tie.Need-cast-t27
 cast-t27 c = omega (arith, c .before .before .before .before .before .before .reset-timer .ensures .1)
@@ -49,8 +50,8 @@ same-length-6 c = search needs
 returns-2 : tie.Need-returns-2
 returns-2 c =
     let s = c .before .before .before .before .before .before .before .before .before .before .before .before .before .before .before .before .before .before .before .before .before in
-    let q = admitted (s .args .words .now) (s .args .reals .now) (s .args .timer) 4 (s .args .cycle) (places (s .args .pins .now) (s .args .levels .now) (s .args .cycles .now)) _ (c .before .before .before .before .before .before .before .before .before .before .before .before .before .book-refusal .ensures (s .args .reals .now)) (c .before .before .before .before .before .before .before .before .before .before .before .before .if1 .left) in
-    reset-gives (s .args .words .now) (s .args .reals .now) (s .args .timer) (s .args .cycle) (places (s .args .pins .now) (s .args .levels .now) (s .args .cycles .now)) _ (c .before .before .before .before .before .before .before .before .before .before .before .before .before .book-refusal .ensures (s .args .reals .now)) (c .before .before .before .before .before .before .before .before .before .before .before .before .if1 .left) _ _ _ _ _ _ _ _ _ (c .before .before .before .before .before .before .reset-timer .ensures .0) (within (s .args .pins .now) (s .args .levels .now) (s .args .cycles .now) _ (q .places-le) (c .before .before .before .before .before .before .reset-timer .ensures .1))
+    let q = admitted (s .args .words .now) (s .args .reals .now) (s .args .timer) 4 (s .args .cycle) (places (slices (s .args .pins .now) (s .args .levels .now) (s .args .cycles .now))) _ (c .before .before .before .before .before .before .before .before .before .before .before .before .before .book-refusal .ensures (s .args .reals .now)) (c .before .before .before .before .before .before .before .before .before .before .before .before .if1 .left) in
+    reset-gives (s .args .words .now) (s .args .reals .now) (s .args .timer) (s .args .cycle) (places (slices (s .args .pins .now) (s .args .levels .now) (s .args .cycles .now))) _ (c .before .before .before .before .before .before .before .before .before .before .before .before .before .book-refusal .ensures (s .args .reals .now)) (c .before .before .before .before .before .before .before .before .before .before .before .before .if1 .left) _ _ _ _ _ (c .before .before .before .before .before .before .reset-timer .ensures .0) (roomy (slices (s .args .pins .now) (s .args .levels .now) (s .args .cycles .now)) _ 4 (q .places-le) (c .before .before .before .before .before .before .reset-timer .ensures .1))
 
 pub reset-spec : {M : Type 1} → statement M
 reset-spec =

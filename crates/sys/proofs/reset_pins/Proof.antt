@@ -1,6 +1,6 @@
 -- Pin by pin: what is left of the reset leads to the same board and book.
 use Prim.Native.Nat.{_-_}
-use Rattle.book.specs.Book.{book}
+use Rattle.book.specs.Book.{book, slices}
 use Rattle.machine.specs.Board.{Board}
 use Rattle.state.specs.View.{view}
 use Rattle.sys.proofs.Laws.{Resetting, reset-begins, reset-ends, reset-goes}
@@ -14,7 +14,7 @@ use Rattle.sys.proofs.reset_pins.Tie as tie
 
 abbrev Inv-loop : tie.InvT-loop
 Inv-loop words₀ reals₀ pins₀ levels₀ cycles₀ cycle n i₀ k₀ words reals pins levels cycles i k =
-    Resetting n cycle i (view words₀ reals₀) (book pins₀ levels₀ cycles₀ 0) (view words reals) (book pins levels cycles k) × (length pins ≡ length pins₀) × (length levels ≡ length levels₀) × (length cycles ≡ length cycles₀)
+    Resetting n cycle i (view words₀ reals₀) (book (slices pins₀ levels₀ cycles₀) 0) (view words reals) (book (slices pins levels cycles) k) × (length pins ≡ length pins₀) × (length levels ≡ length levels₀) × (length cycles ≡ length cycles₀)
 
 abbrev μ-loop : tie.MeasureT-loop
 μ-loop words₀ reals₀ pins₀ levels₀ cycles₀ cycle n i₀ k₀ words reals pins levels cycles i k = n - i
