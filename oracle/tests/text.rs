@@ -102,3 +102,14 @@ fn a_malformed_line_ends_the_run() {
     assert_eq!(play("level 4294967296"), ["line 1: number too large"]);
     assert!(play("").is_empty());
 }
+
+/// docs/DIFFERENCES.md, nan-payload: the published Rust keeps what the port and the oracle's answers do not show.
+#[test]
+fn rust_keeps_payloads() {
+    use mcs_sim::pins::{ExtDrive, Pin};
+    for bits in [0xfff8_0000_0000_0001u64, 0x7ff8_0000_0000_0000, 0x7ff0_0000_0000_0001] {
+        let mut pin = Pin { ext: ExtDrive::Analog, ext_volts: f64::from_bits(bits), ..Pin::default() };
+        pin.resolve(5.0);
+        assert_eq!(pin.volts.to_bits(), bits);
+    }
+}

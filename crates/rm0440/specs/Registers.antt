@@ -8,7 +8,7 @@ unfoldable pub bits : ℕ → ℕ → List ℕ
 bits k zero = []
 bits k (suc n) = k ∷ bits (k + 1) n
 
--- by register index, offset / 4. CNT, ARR and CCRx keep the timer's width of what stands here; of SR these are the flags that a written 0 clears. The manual has other bits and registers (docs/DIFFERENCES.md, reserved-bits, dropped-bits, missing-registers).
+-- by register index, offset / 4. CNT, ARR and CCRx keep the timer's width of what stands here; of SR these are the flags that a written 0 clears. The manual has other bits and registers (docs/DIFFERENCES.md, reserved-bits, dropped-bits, missing-registers, absent-channels).
 abbrev pub keptBits : List (List ℕ)
 keptBits =
     bits 0 10  -- CR1: CEN UDIS URS OPM DIR CMS ARPE CKD
