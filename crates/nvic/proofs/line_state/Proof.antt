@@ -8,22 +8,10 @@ use borrow.Author.Needs.{needs}
 use Rattle.nvic.proofs.line_state.Statement.{statement}
 use Rattle.nvic.proofs.line_state.Tie as tie
 
-has-line-requires : tie.Need-has-line-requires
-has-line-requires c κs = search needs
-
-mul-line-of : tie.Need-mul-line-of
-mul-line-of c = search needs
-
 shared-slice-read-line-of : tie.Need-shared-slice-read-line-of
 shared-slice-read-line-of c =
     let s = c .before .before .before .before in
     inside _ (s .args .nirq) (s .args .irq) (length (s .args .lines .now)) (c .before .before .has-line .ensures) (c .before .if1 .taken) (s .pre)
-
-line-of-requires : tie.Need-line-of-requires
-line-of-requires c κs = search needs
-
-state-requires : tie.Need-state-requires
-state-requires c κs = search needs
 
 returns : tie.Need-returns
 returns c =
@@ -38,11 +26,5 @@ returns-2 c =
 pub line-state-spec : {M : Type 1} → statement M
 line-state-spec =
     tie.close
-    (tie.spec
-    has-line-requires
-    mul-line-of
-    shared-slice-read-line-of
-    line-of-requires
-    state-requires
-    returns
-    returns-2)
+    (tie.spec (λ c κs. search needs) (λ c. search needs) shared-slice-read-line-of (λ c κs. search needs) (λ c κs. search needs)
+    returns returns-2)
