@@ -9,7 +9,7 @@ use lib.Dec.{eqb, ltb, lit≤}
 use mir.Val.{boolByte}
 use lib.ListN.{length, getD, set, List·getD-map}
 use lib.Seq.{getD-set-same, getD-set-other}
-use borrow.Author.Tests.{ltb-true, lt-ltb, le-ltb}
+use borrow.Author.Tests.{lt-ltb, le-ltb}
 use Rattle.nvic.specs.declared.Line.{Line}
 use Rattle.nvic.specs.Nvic.{Nvic, idle, stateOf, lineAt, onLine, lineOf, linesOf, nvicOf}
 
@@ -39,10 +39,6 @@ flags true true = refl
 flags true false = refl
 flags false true = refl
 flags false false = refl
-
--- a line that exists is inside the words
-pub inside : (r : Bool) (n irq k : ℕ) → r ≡ ltb irq n → r ≡ true → n ≤ k → irq < k
-inside r n irq k e t h = omega (arith, ltb-true irq n (sym e ∙ t))
 
 map-set : (ws : List ℕ) (i x : ℕ) → linesOf (set ws i x) ≡ set (linesOf ws) i (lineOf x)
 map-set [] i x = refl

@@ -1,8 +1,6 @@
 // Interrupt lines (arm/nvic.rs): a level and a pending flag for each line.
 ghost use mathlib.Core.Path.{_≡_};
-ghost use Prim.Native.Nat.{_≤_};
-ghost use lib.ListN.{length};
-ghost use Rattle.nvic.specs.Nvic.{lineSet, lineCleared, stateOf, hasLine, lineOf, nvicOf, lineAt, setLine, clearPending};
+ghost use Rattle.nvic.specs.Nvic.{lineSet, lineCleared, stateOf, lineOf};
 
 // One interrupt line.
 pub struct Line {
@@ -11,28 +9,6 @@ pub struct Line {
 }
 
 impl Line {
-    // Drives the line to a level: a rise pends.
-    pub fn set_line(self, level: bool) -> Line
-        ensures { λ r. ⌜ r ≡ lineSet self level ⌝ }
-    {
-        if level {
-            if self.high {
-                return Line {
-                    high: true,
-                    pending: self.pending,
-                };
-            }
-            return Line {
-                high: true,
-                pending: true,
-            };
-        }
-        Line {
-            high: false,
-            pending: self.pending,
-        }
-    }
-
     pub fn clear_pending(self) -> Line
         ensures { λ r. ⌜ r ≡ lineCleared self ⌝ }
     {
@@ -50,13 +26,6 @@ impl Line {
         let pending = self.pending as u64;
         high + 2 * pending
     }
-}
-
-// Whether there is a line `irq`.
-pub fn has_line(nirq: u32, irq: u32) -> bool
-    ensures { λ r. ⌜ r ≡ hasLine nirq irq ⌝ }
-{
-    irq < nirq
 }
 
 // The line that a word holds; only the word's two low bits count.
@@ -87,39 +56,4 @@ pub fn driven(word: u64, level: bool) -> u64
         return 3;
     }
     word / 2 % 2 * 2
-}
-
-// Drives line `irq`, one of the first `nirq` words of `lines`. At or above `nirq` nothing changes.
-pub fn set_line_at(lines: &mut [u64], nirq: u32, irq: u32, level: bool)
-    requires { ⌜ nirq ≤ length (now lines) ⌝ }
-    ensures { λ _. ⌜ nvicOf nirq (now (lines .exit)) ≡ setLine (nvicOf nirq (now (lines .entry))) irq level ⌝ }
-{
-    if has_line(nirq, irq) {
-        let i = irq as usize;
-        let was = line_of(lines[i]);
-        lines[i] = word_of(was.set_line(level));
-    }
-}
-
-// Clears the pending flag of line `irq`. At or above `nirq` nothing changes.
-pub fn clear_pending_at(lines: &mut [u64], nirq: u32, irq: u32)
-    requires { ⌜ nirq ≤ length (now lines) ⌝ }
-    ensures { λ _. ⌜ nvicOf nirq (now (lines .exit)) ≡ clearPending (nvicOf nirq (now (lines .entry))) irq ⌝ }
-{
-    if has_line(nirq, irq) {
-        let at = irq as usize;
-        let l = line_of(lines[at]);
-        lines[at] = word_of(l.clear_pending());
-    }
-}
-
-// The state of line `irq`: 0 at or above `nirq`.
-pub fn line_state(lines: &[u64], nirq: u32, irq: u32) -> u64
-    requires { ⌜ nirq ≤ length (now lines) ⌝ }
-    ensures { λ r. ⌜ r ≡ stateOf (lineAt (nvicOf nirq (now (lines .entry))) irq) ⌝ }
-{
-    if has_line(nirq, irq) {
-        return line_of(lines[irq as usize]).state();
-    }
-    0
 }

@@ -2,15 +2,14 @@
 use mathlib.Core.Path.{_≡_, refl, sym, ap, _∙_}
 use mathlib.Core.Bool.{Bool, true, false, cond, _&&_}
 use mathlib.Core.List.{List, [], _∷_, _++_}
-use Prim.Native.Nat.{ℕ, zero, suc, _+_, _*_, _/_, _%_, _^_, _<_, _≤_}
-use native.Mathlib.Nat.{add-assoc}
+use Prim.Native.Nat.{ℕ, zero, suc, _+_, _-_, _*_, _/_, _%_, _^_, _<_, _≤_}
 use native.Mathlib.Numerals.{add-one}
 use native.Mathlib.Omega.{arith}
 use lib.Dec.{T, leb, eqb, eqb→eq, leb→le}
-use lib.ListN.{length, getD, replicate, drop, drop-of-length-le, List·getD-eq-default}
+use lib.ListN.{length, getD, replicate, take, drop, drop-of-length-le, List·getD-eq-default}
 use lib.Seq.{drop-cons}
 use borrow.Author.Tests.{eq-eqb, ne-eqb}
-use Rattle.text.specs.Words.{sameWord, placeIn, lowCalls, midCalls, highCalls, callOf, shapes, fieldOf}
+use Rattle.text.specs.Words.{sameWord, placeIn, calls, callOf, shapes, fieldOf}
 use Rattle.text.proofs.Table.{every, at, both-left, both-right}
 
 -- ---- comparing
@@ -41,64 +40,67 @@ same-ends a b i h l = rw (drop-of-length-le a h, drop-of-length-le b {i = i} (om
 
 -- ---- a place among others
 
-pub place-here : (w x : List ℕ) (xs : List (List ℕ)) → sameWord w x ≡ true → placeIn w (x ∷ xs) ≡ 0
-unfolding placeIn
-place-here w x xs h = rw h
+-- the words one behind the other
+abbrev pub joined : List (List ℕ) → List ℕ
+joined [] = []
+joined (x ∷ xs) = x ++ joined xs
 
-pub place-on : (w x : List ℕ) (xs : List (List ℕ)) → sameWord w x ≡ false → placeIn w (x ∷ xs) ≡ placeIn w xs + 1
-unfolding placeIn
-place-on w x xs h = rw h
+-- where they start, and where the last ends
+abbrev pub starts : ℕ → List (List ℕ) → List ℕ
+starts n [] = n ∷ []
+starts n (x ∷ xs) = n ∷ starts (n + length x) xs
 
-pub place-none : (w : List ℕ) → placeIn w [] ≡ 0
-unfolding placeIn
-place-none w = refl
+-- what stands between two places of them
+abbrev pub piece : List ℕ → List ℕ → ℕ → List ℕ
+piece text at k = take (getD at (k + 1) 0 - getD at k 0) (drop (getD at k 0) text)
 
-place-before : (w : List ℕ) (xs ys : List (List ℕ)) → placeIn w xs < length xs → placeIn w (xs ++ ys) ≡ placeIn w xs
-unfolding placeIn
-place-before w [] ys h = absurd (omega arith)
-place-before w (x ∷ xs) ys h = go (sameWord w x) h (λ k. place-before w xs ys k)
-  where
-    go : (t : Bool) → cond t 0 (placeIn w xs + 1) < suc (length xs) → (placeIn w xs < length xs → placeIn w (xs ++ ys) ≡ placeIn w xs)
-        → cond t 0 (placeIn w (xs ++ ys) + 1) ≡ cond t 0 (placeIn w xs + 1)
-    go true k f = refl
-    go false k f = rw (f (omega arith))
+same-word : (a b : List ℕ) → T (sameWord a b) → a ≡ b
+unfolding sameWord
+same-word [] [] t = refl
+same-word [] (y ∷ ys) t = absurd t
+same-word (x ∷ xs) [] t = absurd t
+same-word (x ∷ xs) (y ∷ ys) t = cc (eqb→eq x y (both-left (eqb x y) (sameWord xs ys) t), same-word xs ys (both-right (eqb x y) (sameWord xs ys) t))
 
-place-behind : (w : List ℕ) (xs ys : List (List ℕ)) → length xs ≤ placeIn w xs → placeIn w (xs ++ ys) ≡ length xs + placeIn w ys
-unfolding placeIn
-place-behind w [] ys h = omega arith
-place-behind w (x ∷ xs) ys h = go (sameWord w x) h (λ k. place-behind w xs ys k)
-  where
-    go : (t : Bool) → suc (length xs) ≤ cond t 0 (placeIn w xs + 1) → (length xs ≤ placeIn w xs → placeIn w (xs ++ ys) ≡ length xs + placeIn w ys)
-        → cond t 0 (placeIn w (xs ++ ys) + 1) ≡ suc (length xs) + placeIn w ys
-    go true k f = absurd (omega arith)
-    go false k f = omega (arith, f (omega arith))
+-- of a text and places in it: piece k is word k, and lies in the text
+unfoldable pub word-there : List ℕ → List ℕ → ℕ → ℕ → Bool
+word-there text at k x = leb (getD at k 0) (getD at (k + 1) 0) && (leb (getD at (k + 1) 0) (length text) && sameWord (piece text at k) (getD calls k []))
 
-place-most : (w : List ℕ) (xs : List (List ℕ)) → placeIn w xs ≤ length xs
-unfolding placeIn
-place-most w [] = omega arith
-place-most w (x ∷ xs) = go (sameWord w x) (place-most w xs)
-  where
-    go : (t : Bool) → placeIn w xs ≤ length xs → cond t 0 (placeIn w xs + 1) ≤ suc (length xs)
-    go true h = omega arith
-    go false h = omega arith
+pub record There (text at : List ℕ) (k : ℕ) : Type 0 where
+  pub from : getD at k 0 ≤ getD at (k + 1) 0
+  pub to : getD at (k + 1) 0 ≤ length text
+  pub word : piece text at k ≡ getD calls k []
 
-pub mid-most : (w : List ℕ) → placeIn w midCalls ≤ 6
-mid-most w = place-most w midCalls
+pub piece-there : (text at : List ℕ) → T (every (word-there text at) 0 (replicate 18 0)) → (k : ℕ) → k < 18 → There text at k
+unfolding word-there
+piece-there text p t k h =
+    let f : Bool = leb (getD p k 0) (getD p (k + 1) 0) in
+    let g : Bool = leb (getD p (k + 1) 0) (length text) in
+    let w : Bool = sameWord (piece text p k) (getD calls k []) in
+    let u : T (f && (g && w)) = at (word-there text p) (replicate 18 0) t k h in
+    record {
+      from = leb→le (getD p k 0) (getD p (k + 1) 0) (both-left f (g && w) u);
+      to = leb→le (getD p (k + 1) 0) (length text) (both-left g w (both-right f (g && w) u));
+      word = same-word (piece text p k) (getD calls k []) (both-right g w (both-right f (g && w) u));
+    }
 
-pub high-most : (w : List ℕ) → placeIn w highCalls ≤ 6
-high-most w = place-most w highCalls
+-- the place of a word, if it is none of the first k
+module _ (w : List ℕ) where
+  pub call-start : callOf w ≡ 0 + placeIn w (drop 0 calls)
+  unfolding callOf
+  call-start = omega arith
 
-pub call-low : (w : List ℕ) → placeIn w lowCalls < 6 → placeIn w lowCalls ≡ callOf w
-unfolding callOf
-call-low w h = sym (place-before w lowCalls (midCalls ++ highCalls) h)
+  module _ (k : ℕ) (x : List ℕ) (r : Bool) (h : k < 18) (e : x ≡ getD calls k []) (i : callOf w ≡ k + placeIn w (drop k calls)) (s : r ≡ sameWord w x) where
+    pub call-here : r ≡ true → k ≡ callOf w
+    unfolding placeIn
+    call-here t = sym (i ∙ rw (drop-cons calls k [] h, sym (ap (sameWord w) e) ∙ sym s ∙ t) (omega arith))
 
-pub call-mid : (w : List ℕ) → 6 ≤ placeIn w lowCalls → placeIn w midCalls < 6 → 6 + placeIn w midCalls ≡ callOf w
-unfolding callOf
-call-mid w h k = sym (place-behind w lowCalls (midCalls ++ highCalls) h ∙ ap (λ (n : ℕ). 6 + n) (place-before w midCalls highCalls k))
+    pub call-next : r ≡ false → callOf w ≡ (k + 1) + placeIn w (drop (k + 1) calls)
+    unfolding placeIn
+    call-next t = i ∙ rw (add-one k, drop-cons calls k [] h, sym (ap (sameWord w) e) ∙ sym s ∙ t) (omega arith)
 
-pub call-high : (w : List ℕ) → 6 ≤ placeIn w lowCalls → 6 ≤ placeIn w midCalls → 12 + placeIn w highCalls ≡ callOf w
-unfolding callOf
-call-high w h k = sym (place-behind w lowCalls (midCalls ++ highCalls) h ∙ ap (λ (n : ℕ). 6 + n) (place-behind w midCalls highCalls k) ∙ sym (add-assoc 6 6 (placeIn w highCalls)))
+  pub call-none : (k : ℕ) → k ≡ 18 → callOf w ≡ k + placeIn w (drop k calls) → 18 ≡ callOf w
+  unfolding placeIn
+  call-none k h i = sym (i ∙ rw (drop-of-length-le calls {i = k} (omega arith)) (omega arith))
 
 -- ---- the table
 

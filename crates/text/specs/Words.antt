@@ -1,6 +1,6 @@
 -- Words, the calls they name and the numbers of each call: the table of docs/CALLS.md, in its order.
 use mathlib.Core.Bool.{Bool, true, false, cond, _&&_, _||_}
-use mathlib.Core.List.{List, [], _∷_, _++_}
+use mathlib.Core.List.{List, [], _∷_}
 use Prim.Native.Nat.{ℕ, _+_}
 use lib.Dec.{eqb}
 use lib.ListN.{getD}
@@ -20,39 +20,29 @@ unfoldable pub placeIn : List ℕ → List (List ℕ) → ℕ
 placeIn w [] = 0
 placeIn w (x ∷ xs) = cond (sameWord w x) 0 (placeIn w xs + 1)
 
--- setup, clock, enable, pin, drive, reset-pins
-abbrev pub lowCalls : List (List ℕ)
-lowCalls =
+-- the words of the table; "Words are written as in the table, in small letters": setup, clock, enable, pin, drive, reset-pins, read, write,
+-- peek, reset, deliver, booked, next, level, volts, line, time, clear
+abbrev pub calls : List (List ℕ)
+calls =
     (115 ∷ 101 ∷ 116 ∷ 117 ∷ 112 ∷ [])
     ∷ (99 ∷ 108 ∷ 111 ∷ 99 ∷ 107 ∷ [])
     ∷ (101 ∷ 110 ∷ 97 ∷ 98 ∷ 108 ∷ 101 ∷ [])
     ∷ (112 ∷ 105 ∷ 110 ∷ [])
     ∷ (100 ∷ 114 ∷ 105 ∷ 118 ∷ 101 ∷ [])
-    ∷ (114 ∷ 101 ∷ 115 ∷ 101 ∷ 116 ∷ 45 ∷ 112 ∷ 105 ∷ 110 ∷ 115 ∷ []) ∷ []
-
--- read, write, peek, reset, deliver, booked
-abbrev pub midCalls : List (List ℕ)
-midCalls =
-    (114 ∷ 101 ∷ 97 ∷ 100 ∷ [])
+    ∷ (114 ∷ 101 ∷ 115 ∷ 101 ∷ 116 ∷ 45 ∷ 112 ∷ 105 ∷ 110 ∷ 115 ∷ [])
+    ∷ (114 ∷ 101 ∷ 97 ∷ 100 ∷ [])
     ∷ (119 ∷ 114 ∷ 105 ∷ 116 ∷ 101 ∷ [])
     ∷ (112 ∷ 101 ∷ 101 ∷ 107 ∷ [])
     ∷ (114 ∷ 101 ∷ 115 ∷ 101 ∷ 116 ∷ [])
     ∷ (100 ∷ 101 ∷ 108 ∷ 105 ∷ 118 ∷ 101 ∷ 114 ∷ [])
-    ∷ (98 ∷ 111 ∷ 111 ∷ 107 ∷ 101 ∷ 100 ∷ []) ∷ []
-
--- next, level, volts, line, time, clear
-abbrev pub highCalls : List (List ℕ)
-highCalls =
-    (110 ∷ 101 ∷ 120 ∷ 116 ∷ [])
+    ∷ (98 ∷ 111 ∷ 111 ∷ 107 ∷ 101 ∷ 100 ∷ [])
+    ∷ (110 ∷ 101 ∷ 120 ∷ 116 ∷ [])
     ∷ (108 ∷ 101 ∷ 118 ∷ 101 ∷ 108 ∷ [])
     ∷ (118 ∷ 111 ∷ 108 ∷ 116 ∷ 115 ∷ [])
     ∷ (108 ∷ 105 ∷ 110 ∷ 101 ∷ [])
     ∷ (116 ∷ 105 ∷ 109 ∷ 101 ∷ [])
-    ∷ (99 ∷ 108 ∷ 101 ∷ 97 ∷ 114 ∷ []) ∷ []
-
--- the words of the table; "Words are written as in the table, in small letters"
-abbrev pub calls : List (List ℕ)
-calls = lowCalls ++ (midCalls ++ highCalls)
+    ∷ (99 ∷ 108 ∷ 101 ∷ 97 ∷ 114 ∷ [])
+    ∷ []
 
 -- 18 for an unknown word
 unfoldable pub callOf : List ℕ → ℕ

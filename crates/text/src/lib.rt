@@ -1,9 +1,9 @@
 // The call list as text (docs/CALLS.md): numbers read and written digit by digit, words, and the numbers of each call.
 ghost use mathlib.Core.Path.{_≡_};
-ghost use Prim.Native.Nat.{_+_, _*_, _≤_, _<_};
-ghost use lib.ListN.{length};
+ghost use Prim.Native.Nat.{_+_, _-_, _*_, _≤_, _<_};
+ghost use lib.ListN.{length, take, drop};
 ghost use Rattle.text.specs.Numbers.{digitOf, nextOf, moreOf, largeOf, firstOf, secondOf, toldOf, start, valueOf};
-ghost use Rattle.text.specs.Words.{isSpace, sameWord, placeIn, lowCalls, midCalls, highCalls, callOf, fieldOf};
+ghost use Rattle.text.specs.Words.{isSpace, sameWord, callOf, fieldOf};
 ghost use Rattle.text.specs.Digits.{placesOf, digitsOf, lastDigits, over, Wrote};
 
 // What a word in a number's place is.
@@ -271,91 +271,56 @@ pub fn same(a: &[u8], b: &[u8]) -> bool
     true
 }
 
-fn call_low(word: &[u8]) -> u8
-    ensures { λ r. ⌜ r ≡ placeIn (now (word .entry)) lowCalls ⌝ }
+// Whether a word is the part of a text from one place up to another.
+fn is_part(word: &[u8], text: &[u8], from: usize, to: usize) -> bool
+    requires { ⌜ (from ≤ to) × (to ≤ length (now text)) ⌝ }
+    ensures { λ r. ⌜ r ≡ sameWord (now (word .entry)) (take (to - from) (drop from (now (text .entry)))) ⌝ }
 {
-    if same(word, b"setup") {
-        return 0;
-    }
-    if same(word, b"clock") {
-        return 1;
-    }
-    if same(word, b"enable") {
-        return 2;
-    }
-    if same(word, b"pin") {
-        return 3;
-    }
-    if same(word, b"drive") {
-        return 4;
-    }
-    if same(word, b"reset-pins") {
-        return 5;
-    }
-    6
+    same(word, &text[from..to])
 }
 
-fn call_mid(word: &[u8]) -> u8
-    ensures { λ r. ⌜ r ≡ placeIn (now (word .entry)) midCalls ⌝ }
-{
-    if same(word, b"read") {
-        return 0;
-    }
-    if same(word, b"write") {
-        return 1;
-    }
-    if same(word, b"peek") {
-        return 2;
-    }
-    if same(word, b"reset") {
-        return 3;
-    }
-    if same(word, b"deliver") {
-        return 4;
-    }
-    if same(word, b"booked") {
-        return 5;
-    }
-    6
-}
-
-fn call_high(word: &[u8]) -> u8
-    ensures { λ r. ⌜ r ≡ placeIn (now (word .entry)) highCalls ⌝ }
-{
-    if same(word, b"next") {
-        return 0;
-    }
-    if same(word, b"level") {
-        return 1;
-    }
-    if same(word, b"volts") {
-        return 2;
-    }
-    if same(word, b"line") {
-        return 3;
-    }
-    if same(word, b"time") {
-        return 4;
-    }
-    if same(word, b"clear") {
-        return 5;
-    }
-    6
-}
+// Where the calls' words start in the text that has one behind the other, and where the last ends.
+const STARTS: [usize; 19] = [
+    0,
+    5,
+    10,
+    16,
+    19,
+    24,
+    34,
+    38,
+    43,
+    47,
+    52,
+    59,
+    65,
+    69,
+    74,
+    79,
+    83,
+    87,
+    92,
+];
 
 // The call that a first word names, by its place in the table; 18 if it is an unknown word.
 pub fn call_of(word: &[u8]) -> u8
     ensures { λ r. ⌜ r ≡ callOf (now (word .entry)) ⌝ }
 {
-    let low = call_low(word);
-    if low < 6 {
-        return low;
+    let mut k = 0;
+    while k < 18 {
+        let from = STARTS[k];
+        let to = STARTS[k + 1];
+        if is_part(
+            word,
+            b"setupclockenablepindrivereset-pinsreadwritepeekresetdeliverbookednextlevelvoltslinetimeclear",
+            from,
+            to,
+        ) {
+            return k as u8;
+        }
+        k += 1;
     }
-    let mid = call_mid(word);
-    if mid < 6 {
-        return 6 + mid;
-    }
-    12 + call_high(word)
+    18
 }
 
 // What stands in the places of each call's numbers, the first in the lowest hexadecimal digit: 0 no number, 1 one of 32 bits, 2 one

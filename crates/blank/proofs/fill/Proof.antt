@@ -15,26 +15,8 @@ Inv-loop words₀ at n v j₀ words j = (j ≤ n) × (words ≡ paste words₀ a
 abbrev μ-loop : tie.MeasureT-loop
 μ-loop words₀ at n v j₀ words j = n - j
 
-sized-requires : tie.Need-sized-requires Inv-loop μ-loop
-sized-requires c κs = search needs
-
 loop-holds : tie.Need-loop-holds Inv-loop μ-loop
 loop-holds c = let s = c .before .before in (omega arith, paste-zero (s .args .words .now) (s .args .at) (repeated (s .args .n) (s .args .v)))
-
-add-words : tie.Need-add-words Inv-loop μ-loop
-add-words c = search needs
-
-mul-words : tie.Need-mul-words Inv-loop μ-loop
-mul-words c = search needs
-
-element-write-words : tie.Need-element-write-words Inv-loop μ-loop
-element-write-words c = search needs
-
-add-j : tie.Need-add-j Inv-loop μ-loop
-add-j c = search needs
-
-loop-less : tie.Need-loop-less Inv-loop μ-loop
-loop-less c = search needs
 
 loop-again : tie.Need-loop-again Inv-loop μ-loop
 loop-again c = let s = c .before .before .before .before in (omega arith, fill-step 0 (λ k. s .args .v) (s .args .words .now) _ (s .args .at) (s .args .n) (c .before .loop .j) (omega (arith, c .before .before .sized .ensures, s .pre)) (c .loop-test .taken) (c .before .loop .inv .1))
@@ -43,4 +25,7 @@ returns : tie.Need-returns Inv-loop μ-loop
 returns c = let s = c .before .before .before .before in fill-done 0 (λ k. s .args .v) (s .args .words .now) _ (s .args .at) (s .args .n) (c .before .loop .j) (c .loop-test .left) (c .before .loop .inv .0) (c .before .loop .inv .1)
 
 pub fill-spec : {M : Type 1} → statement M
-fill-spec = tie.close (tie.spec Inv-loop μ-loop sized-requires loop-holds add-words mul-words element-write-words add-j loop-less loop-again returns)
+fill-spec =
+    tie.close
+    (tie.spec Inv-loop μ-loop (λ c κs. search needs) loop-holds (λ c. search needs) (λ c. search needs) (λ c. search needs)
+    (λ c. search needs) (λ c. search needs) loop-again returns)

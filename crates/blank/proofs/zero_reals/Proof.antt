@@ -17,23 +17,8 @@ Inv-loop reals₀ j₀ reals j = (j ≤ 264) × (reals ≡ paste reals₀ 0 (rep
 abbrev μ-loop : tie.MeasureT-loop
 μ-loop reals₀ j₀ reals j = 264 - j
 
-sized-reals-requires : tie.Need-sized-reals-requires Inv-loop μ-loop
-sized-reals-requires c κs = search needs
-
 loop-holds : tie.Need-loop-holds Inv-loop μ-loop
 loop-holds c = (omega arith, paste-zero (c .before .before .args .reals .now) 0 (repeated 264 zeroFloat))
-
-mul-reals : tie.Need-mul-reals Inv-loop μ-loop
-mul-reals c = search needs
-
-element-write-reals : tie.Need-element-write-reals Inv-loop μ-loop
-element-write-reals c = search needs
-
-add-j : tie.Need-add-j Inv-loop μ-loop
-add-j c = search needs
-
-loop-less : tie.Need-loop-less Inv-loop μ-loop
-loop-less c = search needs
 
 loop-again : tie.Need-loop-again Inv-loop μ-loop
 loop-again c = (omega arith, fill-start nan (λ k. zeroFloat) (c .before .before .before .before .args .reals .now) _ 264 (c .before .loop .j) (omega (arith, c .before .before .sized-reals .ensures)) (c .loop-test .taken) (c .before .loop .inv .1))
@@ -42,4 +27,7 @@ returns : tie.Need-returns Inv-loop μ-loop
 returns c = fill-done nan (λ k. zeroFloat) (c .before .before .before .before .args .reals .now) _ 0 264 (c .before .loop .j) (c .loop-test .left) (c .before .loop .inv .0) (c .before .loop .inv .1)
 
 pub zero-reals-spec : {M : Type 1} → statement M
-zero-reals-spec = tie.close (tie.spec Inv-loop μ-loop sized-reals-requires loop-holds mul-reals element-write-reals add-j loop-less loop-again returns)
+zero-reals-spec =
+    tie.close
+    (tie.spec Inv-loop μ-loop (λ c κs. search needs) loop-holds (λ c. search needs) (λ c. search needs) (λ c. search needs)
+    (λ c. search needs) loop-again returns)

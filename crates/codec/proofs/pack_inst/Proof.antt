@@ -4,29 +4,11 @@ use borrow.Author.Needs.{needs}
 use Rattle.codec.proofs.pack_inst.Statement.{statement}
 use Rattle.codec.proofs.pack_inst.Tie as tie
 
-cast-t2 : tie.Need-cast-t2
-cast-t2 c = search needs
-
-cast-t3 : tie.Need-cast-t3
-cast-t3 c = search needs
-
-cast-t4 : tie.Need-cast-t4
-cast-t4 c = search needs
-
-cast-t5 : tie.Need-cast-t5
-cast-t5 c = search needs
-
-cast-t6 : tie.Need-cast-t6
-cast-t6 c = search needs
-
-cast-t7 : tie.Need-cast-t7
-cast-t7 c = search needs
-
-cast-t8 : tie.Need-cast-t8
-cast-t8 c = search needs
-
 returns : tie.Need-returns
 returns c = inst _ (search needs) (search needs) (search needs) (search needs) (search needs) (search needs) (search needs)
 
 pub pack-inst-spec : {M : Type 1} → statement M
-pack-inst-spec = tie.close (tie.spec cast-t2 cast-t3 cast-t4 cast-t5 cast-t6 cast-t7 cast-t8 returns)
+pack-inst-spec =
+    tie.close
+    (tie.spec (λ c. search needs) (λ c. search needs) (λ c. search needs) (λ c. search needs) (λ c. search needs)
+    (λ c. search needs) (λ c. search needs) returns)

@@ -8,15 +8,9 @@ float-from-bits-result : tie.Need-float-from-bits-result
 float-from-bits-result c =
     number-exponent _ (c .if1 .taken)
 
-returns : tie.Need-returns
-returns c = search needs
-
 float-from-bits-result-2 : tie.Need-float-from-bits-result-2
 float-from-bits-result-2 c =
     number-digits _ (c .if2 .taken)
-
-returns-2 : tie.Need-returns-2
-returns-2 c = search needs
 
 returns-3 : tie.Need-returns-3
 returns-3 c =
@@ -25,4 +19,4 @@ returns-3 c =
 pub float-spec : {M : Type 1} → statement M
 float-spec =
     tie.close
-    (tie.spec float-from-bits-result returns float-from-bits-result-2 returns-2 returns-3)
+    (tie.spec float-from-bits-result (λ c. search needs) float-from-bits-result-2 (λ c. search needs) returns-3)

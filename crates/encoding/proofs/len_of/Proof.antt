@@ -6,9 +6,6 @@ use Rattle.encoding.specs.Encoding as E
 use Rattle.encoding.proofs.len_of.Statement.{statement}
 use Rattle.encoding.proofs.len_of.Tie as tie
 
-size-of-requires : tie.Need-size-of-requires
-size-of-requires c κs = search needs
-
 returns : tie.Need-returns
 unfolding E.lenOf
 returns c = rw (sym (c .before .size-of .ensures), le-leb _ _ (c .if1 .taken))
@@ -18,4 +15,4 @@ unfolding E.lenOf
 returns-2 c = rw (sym (c .before .size-of .ensures), lt-leb _ _ (c .if1 .left))
 
 pub len-of-spec : {M : Type 1} → statement M
-len-of-spec = tie.close (tie.spec size-of-requires returns returns-2)
+len-of-spec = tie.close (tie.spec (λ c κs. search needs) returns returns-2)

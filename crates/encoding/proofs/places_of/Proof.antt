@@ -6,27 +6,6 @@ use Rattle.encoding.specs.Encoding as E
 use Rattle.encoding.proofs.places_of.Statement.{statement}
 use Rattle.encoding.proofs.places_of.Tie as tie
 
-word-requires : tie.Need-word-requires
-word-requires c κs = search needs
-
-word64-requires : tie.Need-word64-requires
-word64-requires c κs = search needs
-
-word64-requires-2 : tie.Need-word64-requires-2
-word64-requires-2 c κs = search needs
-
-word64-requires-3 : tie.Need-word64-requires-3
-word64-requires-3 c κs = search needs
-
-word64-requires-4 : tie.Need-word64-requires-4
-word64-requires-4 c κs = search needs
-
-word64-requires-5 : tie.Need-word64-requires-5
-word64-requires-5 c κs = search needs
-
-word64-requires-6 : tie.Need-word64-requires-6
-word64-requires-6 c κs = search needs
-
 returns : tie.Need-returns
 unfolding E.bookOf
 returns c = c .word64 .ensures ∙ rw (sym (c .before .before .word .ensures), c .before .match .keys1)
@@ -56,4 +35,7 @@ unfolding E.bookOf
 returns-7 c = rw (sym (c .before .word .ensures), ne-eqb _ _ (c .match .rest .0 .0 .0 .0 .0 .1), ne-eqb _ _ (c .match .rest .0 .0 .0 .0 .1), ne-eqb _ _ (c .match .rest .0 .0 .0 .1), ne-eqb _ _ (c .match .rest .0 .0 .1), ne-eqb _ _ (c .match .rest .0 .1), ne-eqb _ _ (c .match .rest .1))
 
 pub places-of-spec : {M : Type 1} → statement M
-places-of-spec = tie.close (tie.spec word-requires word64-requires word64-requires-2 word64-requires-3 word64-requires-4 word64-requires-5 word64-requires-6 returns returns-2 returns-3 returns-4 returns-5 returns-6 returns-7)
+places-of-spec =
+    tie.close
+    (tie.spec (λ c κs. search needs) (λ c κs. search needs) (λ c κs. search needs) (λ c κs. search needs) (λ c κs. search needs)
+    (λ c κs. search needs) (λ c κs. search needs) returns returns-2 returns-3 returns-4 returns-5 returns-6 returns-7)

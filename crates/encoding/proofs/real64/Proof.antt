@@ -6,16 +6,10 @@ use borrow.Author.Needs.{needs}
 use Rattle.encoding.proofs.real64.Statement.{statement}
 use Rattle.encoding.proofs.real64.Tie as tie
 
-word64-requires : tie.Need-word64-requires
-word64-requires c κs = search needs
-
-float-requires : tie.Need-float-requires
-float-requires c κs = search needs
-
 returns : tie.Need-returns
 unfolding E.real64
 returns c =
     c .float .ensures ∙ ap (Ieee.ofBits Ieee.binary64) (c .before .word64 .ensures)
 
 pub real64-spec : {M : Type 1} → statement M
-real64-spec = tie.close (tie.spec word64-requires float-requires returns)
+real64-spec = tie.close (tie.spec (λ c κs. search needs) (λ c κs. search needs) returns)

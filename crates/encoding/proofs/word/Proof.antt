@@ -6,12 +6,6 @@ use borrow.Author.Needs.{needs}
 use Rattle.encoding.proofs.word.Statement.{statement}
 use Rattle.encoding.proofs.word.Tie as tie
 
-mul-result : tie.Need-mul-result
-mul-result c = search needs
-
-shared-slice-read-result : tie.Need-shared-slice-read-result
-shared-slice-read-result c = search needs
-
 returns : tie.Need-returns
 unfolding E.word
 returns c =
@@ -23,4 +17,4 @@ returns-2 c =
     sym (List·getD-eq-default (c .before .args .calls .now) 0 {n = c .before .args .k} (c .if1 .left))
 
 pub word-spec : {M : Type 1} → statement M
-word-spec = tie.close (tie.spec mul-result shared-slice-read-result returns returns-2)
+word-spec = tie.close (tie.spec (λ c. search needs) (λ c. search needs) returns returns-2)

@@ -4,27 +4,6 @@ use borrow.Author.Needs.{needs}
 use Rattle.encoding.proofs.word64.Statement.{statement}
 use Rattle.encoding.proofs.word64.Tie as tie
 
-word-requires : tie.Need-word-requires
-word-requires c κs = search needs
-
-add-word : tie.Need-add-word
-add-word c = search needs
-
-word-requires-2 : tie.Need-word-requires-2
-word-requires-2 c κs = search needs
-
-cast-result : tie.Need-cast-result
-cast-result c = search needs
-
-cast-result-2 : tie.Need-cast-result-2
-cast-result-2 c = search needs
-
-mul-result : tie.Need-mul-result
-mul-result c = search needs
-
-add-result : tie.Need-add-result
-add-result c = search needs
-
 returns : tie.Need-returns
 unfolding E.word64
 returns c =
@@ -33,12 +12,5 @@ returns c =
 pub word64-spec : {M : Type 1} → statement M
 word64-spec =
     tie.close
-    (tie.spec
-    word-requires
-    add-word
-    word-requires-2
-    cast-result
-    cast-result-2
-    mul-result
-    add-result
-    returns)
+    (tie.spec (λ c κs. search needs) (λ c. search needs) (λ c κs. search needs) (λ c. search needs) (λ c. search needs)
+    (λ c. search needs) (λ c. search needs) returns)

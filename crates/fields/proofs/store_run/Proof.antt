@@ -4,12 +4,6 @@ use borrow.Author.Needs.{needs}
 use Rattle.fields.proofs.store_run.Statement.{statement}
 use Rattle.fields.proofs.store_run.Tie as tie
 
-set-reg-requires : tie.Need-set-reg-requires
-set-reg-requires c κs = search needs
-
-store-done-requires : tie.Need-store-done-requires
-store-done-requires c κs = search needs
-
 store-count-requires : tie.Need-store-count-requires
 store-count-requires c κs =
     let s = c .before .before .before .before .before .before in
@@ -21,5 +15,4 @@ returns c =
     λ x. run-set (s .args .words .now) x _ _ _ (s .args .i) (s .args .t) (s .pre .0) (c .before .before .before .before .before .set-reg .ensures x) (c .before .before .store-done .ensures x) (c .store-count .ensures x)
 
 pub store-run-spec : {M : Type 1} → statement M
-store-run-spec =
-    tie.close (tie.spec set-reg-requires store-done-requires store-count-requires returns)
+store-run-spec = tie.close (tie.spec (λ c κs. search needs) (λ c κs. search needs) store-count-requires returns)

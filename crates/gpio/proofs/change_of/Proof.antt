@@ -9,18 +9,9 @@ returns : tie.Need-returns
 unfolding changeOf
 returns c = rw (eq-eqb _ _ (c .if1 .taken))
 
-sub-k : tie.Need-sub-k
-sub-k c = search needs
-
-cast-t6 : tie.Need-cast-t6
-cast-t6 c = search needs
-
-cast-t8 : tie.Need-cast-t8
-cast-t8 c = search needs
-
 returns-2 : tie.Need-returns-2
 unfolding changeOf
 returns-2 c = rw (ne-eqb _ _ (c .if1 .left))
 
 pub change-of-spec : {M : Type 1} → statement M
-change-of-spec = tie.close (tie.spec returns sub-k cast-t6 cast-t8 returns-2)
+change-of-spec = tie.close (tie.spec returns (λ c. search needs) (λ c. search needs) (λ c. search needs) returns-2)

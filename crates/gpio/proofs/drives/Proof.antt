@@ -19,14 +19,8 @@ returns c =
 returns-2 : tie.Need-returns-2
 returns-2 c = rw (eq-eqb _ _ (c .if2 .taken))
 
-cast-is-input : tie.Need-cast-is-input
-cast-is-input c = search needs
-
-is-input-requires : tie.Need-is-input-requires
-is-input-requires c κs = search needs
-
 returns-3 : tie.Need-returns-3
 returns-3 c = rw (ne-eqb _ _ (c .before .if2 .left)) (ap not (c .is-input .ensures))
 
 pub drives-spec : {M : Type 1} → statement M
-drives-spec = tie.close (tie.spec returns returns-2 cast-is-input is-input-requires returns-3)
+drives-spec = tie.close (tie.spec returns returns-2 (λ c. search needs) (λ c κs. search needs) returns-3)

@@ -19,32 +19,23 @@ signal-lt g h = go (eqb (g .cfg .mode) 2)
     go true = h
     go false = omega arith
 
-output-side-requires : tie.Need-output-side-requires
-output-side-requires c κs = search needs
-
 returns : tie.Need-returns
 unfolding sideOf
 returns c = rw (eq-eqb _ _ (c .before .if1 .taken)) (c .output-side .ensures)
 
-signal-of-requires : tie.Need-signal-of-requires
-signal-of-requires c κs = search needs
-
 drives-requires : tie.Need-drives-requires
 drives-requires c κs = rw (c .signal-of .ensures) (signal-lt (c .before .before .before .args .g) (c .before .before .before .pre))
-
-signal-side-requires : tie.Need-signal-side-requires
-signal-side-requires c κs = search needs
 
 returns-2 : tie.Need-returns-2
 unfolding sideOf
 returns-2 c = rw (ne-eqb _ _ (c .before .before .before .before .if1 .left), ap drives (sym (c .before .before .before .signal-of .ensures)) ∙ sym (c .before .before .drives .ensures) ∙ c .before .if2 .taken) (c .signal-side .ensures)
-
-input-side-requires : tie.Need-input-side-requires
-input-side-requires c κs = search needs
 
 returns-3 : tie.Need-returns-3
 unfolding sideOf
 returns-3 c = rw (ne-eqb _ _ (c .before .before .before .before .if1 .left), ap drives (sym (c .before .before .before .signal-of .ensures)) ∙ sym (c .before .before .drives .ensures) ∙ c .before .if2 .left) (c .input-side .ensures)
 
 pub side-of-spec : {M : Type 1} → statement M
-side-of-spec = tie.close (tie.spec output-side-requires returns signal-of-requires drives-requires signal-side-requires returns-2 input-side-requires returns-3)
+side-of-spec =
+    tie.close
+    (tie.spec (λ c κs. search needs) returns (λ c κs. search needs) drives-requires (λ c κs. search needs) returns-2
+    (λ c κs. search needs) returns-3)

@@ -8,14 +8,5 @@ use Rattle.line.proofs.named.Tie as tie
 slice-aggregate-call-of : tie.Need-slice-aggregate-call-of
 slice-aggregate-call-of c = sym (length-take-le _ _ (c .before .if1 .taken))
 
-call-of-requires : tie.Need-call-of-requires
-call-of-requires c κs = search needs
-
-returns : tie.Need-returns
-returns c = search needs
-
-returns-2 : tie.Need-returns-2
-returns-2 c = search needs
-
 pub named-spec : {M : Type 1} → statement M
-named-spec = tie.close (tie.spec slice-aggregate-call-of call-of-requires returns returns-2)
+named-spec = tie.close (tie.spec slice-aggregate-call-of (λ c κs. search needs) (λ c. search needs) (λ c. search needs))

@@ -10,21 +10,14 @@ use Rattle.nvic.proofs.driven.Tie as tie
 use Rattle.nvic.proofs.driven.Reads as reads
 use Rattle.nvic.proofs.driven.Lts as lts
 
--- src/lib.rt:85:13
 returns : tie.Need-returns
 returns c = rw (c .before .if1 .taken, eq-eqb _ _ (c .if2 .taken))
 
--- src/lib.rt:87:9
 returns-2 : tie.Need-returns-2
 returns-2 c = rw (c .before .if1 .taken, ne-eqb _ _ (c .if2 .left))
 
--- src/lib.rt:89:5
-mul-result : tie.Need-mul-result
-mul-result c = search needs
-
--- src/lib.rt:80:1
 returns-3 : tie.Need-returns-3
 returns-3 c = rw (c .if1 .left) (low-word (c .before .args .word / 2 % 2) (mod-lt (c .before .args .word / 2) (omega arith)))
 
 pub driven-spec : {M : Type 1} → statement M
-driven-spec = tie.close (tie.spec returns returns-2 mul-result returns-3)
+driven-spec = tie.close (tie.spec returns returns-2 (λ c. search needs) returns-3)

@@ -4,11 +4,8 @@ use borrow.Author.Needs.{needs}
 use Rattle.nvic.proofs.word_of.Statement.{statement}
 use Rattle.nvic.proofs.word_of.Tie as tie
 
-state-requires : tie.Need-state-requires
-state-requires c κs = search needs
-
 returns : tie.Need-returns
 returns c = rw (c .state .ensures) (word-line _)
 
 pub word-of-spec : {M : Type 1} → statement M
-word-of-spec = tie.close (tie.spec state-requires returns)
+word-of-spec = tie.close (tie.spec (λ c κs. search needs) returns)

@@ -6,32 +6,14 @@ use borrow.Author.Needs.{needs}
 use Rattle.periph.proofs.merge.Statement.{statement}
 use Rattle.periph.proofs.merge.Tie as tie
 
-shr-below : tie.Need-shr-below
-shr-below c = search needs
-
-shl-below : tie.Need-shl-below
-shl-below c = search needs
-
 sub-below : tie.Need-sub-below
 sub-below c = cut-le (c .args .old) (c .args .sh) (c .fits .old .fits)
-
-shr-above : tie.Need-shr-above
-shr-above c = search needs
-
-shl-above : tie.Need-shl-above
-shl-above c = search needs
-
-shl-result : tie.Need-shl-result
-shl-result c = search needs
 
 add-result : tie.Need-add-result
 add-result c = omega (arith, up-lt (c .args .lane) (c .args .sh) (c .pre .1 .1) (c .pre .0))
 
 add-result-2 : tie.Need-add-result-2
 add-result-2 c = omega (arith, up-lt (c .args .lane) (c .args .sh) (c .pre .1 .1) (c .pre .0), cut-le (c .args .old) (c .args .end) (c .fits .old .fits))
-
-cast-result : tie.Need-cast-result
-cast-result c = search needs
 
 returns : tie.Need-returns
 unfolding merged
@@ -40,14 +22,5 @@ returns c = rw (below (c .args .old) (c .args .sh) (c .fits .old .fits), cut (c 
 pub merge-spec : {M : Type 1} → statement M
 merge-spec =
     tie.close
-    (tie.spec
-    shr-below
-    shl-below
-    sub-below
-    shr-above
-    shl-above
-    shl-result
-    add-result
-    add-result-2
-    cast-result
-    returns)
+    (tie.spec (λ c. search needs) (λ c. search needs) sub-below (λ c. search needs) (λ c. search needs) (λ c. search needs)
+    add-result add-result-2 (λ c. search needs) returns)

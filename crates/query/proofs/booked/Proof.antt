@@ -6,23 +6,16 @@ use native.Mathlib.Omega.{arith}
 use Rattle.query.proofs.booked.Statement.{statement}
 use Rattle.query.proofs.booked.Tie as tie
 
-timer-count-requires : tie.Need-timer-count-requires
-timer-count-requires c κs = search needs
-
-refused-requires : tie.Need-refused-requires
-refused-requires c κs = search needs
-
 returns : tie.Need-returns
 returns c = no-timer _ _ _ _ _ (c .before .before .timer-count .ensures (c .before .before .before .args .reals .now)) (c .before .if1 .taken) (c .refused .ensures)
 
 booked-requires : tie.Need-booked-requires
 booked-requires c κs = omega (arith, c .if1 .left, c .before .timer-count .ensures (c .before .before .args .reals .now), bounded (c .before .before .args .words .now) (c .before .before .args .reals .now) .timers-le)
 
-served-requires : tie.Need-served-requires
-served-requires c κs = search needs
-
 returns-2 : tie.Need-returns-2
 returns-2 c = booked-told _ _ _ _ _ _ (c .before .before .before .timer-count .ensures (c .before .before .before .before .args .reals .now)) (c .before .before .if1 .left) (c .before .booked .ensures (c .before .before .before .before .args .reals .now)) (c .served .ensures)
 
 pub booked-spec : {M : Type 1} → statement M
-booked-spec = tie.close (tie.spec timer-count-requires refused-requires returns booked-requires served-requires returns-2)
+booked-spec =
+    tie.close
+    (tie.spec (λ c κs. search needs) (λ c κs. search needs) returns booked-requires (λ c κs. search needs) returns-2)

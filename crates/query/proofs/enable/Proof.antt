@@ -4,20 +4,11 @@ use borrow.Author.Needs.{needs}
 use Rattle.query.proofs.enable.Statement.{statement}
 use Rattle.query.proofs.enable.Tie as tie
 
-refused-requires : tie.Need-refused-requires
-refused-requires c κs = search needs
-
 returns : tie.Need-returns
 returns c = no-word _ _ _ _ _ (c .before .if1 .taken) (c .refused .ensures)
-
-set-enr-requires : tie.Need-set-enr-requires
-set-enr-requires c κs = search needs
-
-served-requires : tie.Need-served-requires
-served-requires c κs = search needs
 
 returns-2 : tie.Need-returns-2
 returns-2 c = word-set _ _ _ _ (c .served .ensures) _ _ (c .before .before .before .if1 .left) (c .before .set-enr .ensures (c .before .before .before .before .args .reals .now))
 
 pub enable-spec : {M : Type 1} → statement M
-enable-spec = tie.close (tie.spec refused-requires returns set-enr-requires served-requires returns-2)
+enable-spec = tie.close (tie.spec (λ c κs. search needs) returns (λ c κs. search needs) (λ c κs. search needs) returns-2)

@@ -4,14 +4,8 @@ use borrow.Author.Needs.{needs}
 use Rattle.query.proofs.line.Statement.{statement}
 use Rattle.query.proofs.line.Tie as tie
 
-line-state-requires : tie.Need-line-state-requires
-line-state-requires c κs = search needs
-
-served-requires : tie.Need-served-requires
-served-requires c κs = search needs
-
 returns : tie.Need-returns
 returns c = line-told _ _ _ _ _ (c .before .line-state .ensures (c .before .before .args .reals .now)) (c .served .ensures)
 
 pub line-spec : {M : Type 1} → statement M
-line-spec = tie.close (tie.spec line-state-requires served-requires returns)
+line-spec = tie.close (tie.spec (λ c κs. search needs) (λ c κs. search needs) returns)

@@ -4,29 +4,14 @@ use borrow.Author.Needs.{needs}
 use Rattle.query.proofs.time.Statement.{statement}
 use Rattle.query.proofs.time.Tie as tie
 
-is-astray-requires : tie.Need-is-astray-requires
-is-astray-requires c κs = search needs
-
-refused-requires : tie.Need-refused-requires
-refused-requires c κs = search needs
-
 returns : tie.Need-returns
 returns c = time-astray _ _ _ _ _ (c .before .before .is-astray .ensures (c .before .before .before .args .reals .now)) (c .before .if1 .taken) (c .refused .ensures)
-
-clock-requires : tie.Need-clock-requires
-clock-requires c κs = search needs
-
-time-at-requires : tie.Need-time-at-requires
-time-at-requires c κs = search needs
-
-bits-requires : tie.Need-bits-requires
-bits-requires c κs = search needs
-
-served-requires : tie.Need-served-requires
-served-requires c κs = search needs
 
 returns-2 : tie.Need-returns-2
 returns-2 c = time-told _ _ _ _ _ _ _ _ (c .before .before .before .before .before .is-astray .ensures (c .before .before .before .before .before .before .args .reals .now)) (c .before .before .before .before .if1 .left) (c .before .before .before .clock .ensures) (c .before .before .time-at .ensures) (c .before .bits .ensures) (c .served .ensures)
 
 pub time-spec : {M : Type 1} → statement M
-time-spec = tie.close (tie.spec is-astray-requires refused-requires returns clock-requires time-at-requires bits-requires served-requires returns-2)
+time-spec =
+    tie.close
+    (tie.spec (λ c κs. search needs) (λ c κs. search needs) returns (λ c κs. search needs) (λ c κs. search needs)
+    (λ c κs. search needs) (λ c κs. search needs) returns-2)

@@ -6,26 +6,17 @@ use native.Mathlib.Omega.{arith}
 use Rattle.query.proofs.volts.Statement.{statement}
 use Rattle.query.proofs.volts.Tie as tie
 
-pin-count-requires : tie.Need-pin-count-requires
-pin-count-requires c κs = search needs
-
-refused-requires : tie.Need-refused-requires
-refused-requires c κs = search needs
-
 returns : tie.Need-returns
 returns c = no-volts _ _ _ _ _ (c .before .before .pin-count .ensures (c .before .before .before .args .reals .now)) (c .before .if1 .taken) (c .refused .ensures)
 
 load-gpio-requires : tie.Need-load-gpio-requires
 load-gpio-requires c κs = omega (arith, c .if1 .left, c .before .pin-count .ensures (c .before .before .args .reals .now), bounded (c .before .before .args .words .now) (c .before .before .args .reals .now) .pins-le)
 
-bits-requires : tie.Need-bits-requires
-bits-requires c κs = search needs
-
-served-requires : tie.Need-served-requires
-served-requires c κs = search needs
-
 returns-2 : tie.Need-returns-2
 returns-2 c = volts-told _ _ _ _ _ _ _ (c .before .before .before .before .pin-count .ensures (c .before .before .before .before .before .args .reals .now)) (c .before .before .before .if1 .left) (c .before .before .load-gpio .ensures) (c .before .bits .ensures) (c .served .ensures)
 
 pub volts-spec : {M : Type 1} → statement M
-volts-spec = tie.close (tie.spec pin-count-requires refused-requires returns load-gpio-requires bits-requires served-requires returns-2)
+volts-spec =
+    tie.close
+    (tie.spec (λ c κs. search needs) (λ c κs. search needs) returns load-gpio-requires (λ c κs. search needs)
+    (λ c κs. search needs) returns-2)

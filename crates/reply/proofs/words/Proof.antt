@@ -12,23 +12,8 @@ Inv-loop out₀ n s at₀ i₀ out at i = Unit {0}
 abbrev μ-loop : tie.MeasureT-loop
 μ-loop out₀ n s at₀ i₀ out at i = length s - i
 
-room-requires : tie.Need-room-requires Inv-loop μ-loop
-room-requires c κs = search needs
-
 loop-holds : tie.Need-loop-holds Inv-loop μ-loop
 loop-holds c = tt
-
-shared-slice-read-put : tie.Need-shared-slice-read-put Inv-loop μ-loop
-shared-slice-read-put c = omega arith
-
-put-requires : tie.Need-put-requires Inv-loop μ-loop
-put-requires c κs = search needs
-
-add-i : tie.Need-add-i Inv-loop μ-loop
-add-i c = omega arith
-
-loop-less : tie.Need-loop-less Inv-loop μ-loop
-loop-less c = omega arith
 
 loop-again : tie.Need-loop-again Inv-loop μ-loop
 loop-again c = tt
@@ -39,14 +24,5 @@ returns c = tt
 pub words-spec : {M : Type 1} → statement M
 words-spec =
     tie.close
-    (tie.spec
-    Inv-loop
-    μ-loop
-    room-requires
-    loop-holds
-    shared-slice-read-put
-    put-requires
-    add-i
-    loop-less
-    loop-again
-    returns)
+    (tie.spec Inv-loop μ-loop (λ c κs. search needs) loop-holds (λ c. omega arith) (λ c κs. search needs) (λ c. omega arith)
+    (λ c. omega arith) loop-again returns)

@@ -6,19 +6,10 @@ use Rattle.scheduler.specs.Booking.{book}
 use Rattle.scheduler.proofs.book.Statement.{statement}
 use Rattle.scheduler.proofs.book.Tie as tie
 
-unbooked-requires : tie.Need-unbooked-requires
-unbooked-requires c κs = search needs
-
 returns : tie.Need-returns
 returns c =
     let s = c .before .before in
     c .unbooked .ensures ∙ ap (λ (k : ℕ). book (s .args .table) (s .args .owner) k) (sym (c .before .if1 .taken))
 
-rebooked-requires : tie.Need-rebooked-requires
-rebooked-requires c κs = search needs
-
-returns-2 : tie.Need-returns-2
-returns-2 c = search needs
-
 pub book-spec : {M : Type 1} → statement M
-book-spec = tie.close (tie.spec unbooked-requires returns rebooked-requires returns-2)
+book-spec = tie.close (tie.spec (λ c κs. search needs) returns (λ c κs. search needs) (λ c. search needs))

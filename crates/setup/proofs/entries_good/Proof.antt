@@ -18,20 +18,8 @@ abbrev μ-loop : tie.MeasureT-loop
 loop-holds : tie.Need-loop-holds Inv-loop μ-loop
 loop-holds c = (omega arith, refl)
 
-mul-if1 : tie.Need-mul-if1 Inv-loop μ-loop
-mul-if1 c = search needs
-
-shared-slice-read-if1 : tie.Need-shared-slice-read-if1 Inv-loop μ-loop
-shared-slice-read-if1 c = search needs
-
 returns : tie.Need-returns Inv-loop μ-loop
 returns c = entry-large (c .before .before .before .before .args .table .now) (c .before .before .before .loop .k) _ (c .before .before .before .loop .inv .1) (c .before .before .loop-test .taken) (c .if1 .taken)
-
-add-k : tie.Need-add-k Inv-loop μ-loop
-add-k c = search needs
-
-loop-less : tie.Need-loop-less Inv-loop μ-loop
-loop-less c = search needs
 
 loop-again : tie.Need-loop-again Inv-loop μ-loop
 loop-again c = (omega arith, entry-next (c .before .before .before .before .args .table .now) (c .before .before .before .loop .k) _ (c .before .before .before .loop .inv .1) (c .before .before .loop-test .taken) (c .if1 .left))
@@ -40,4 +28,7 @@ returns-2 : tie.Need-returns-2 Inv-loop μ-loop
 returns-2 c = entry-end (c .before .before .args .table .now) (c .before .loop .k) _ (c .before .loop .inv .1) (c .loop-test .left)
 
 pub entries-good-spec : {M : Type 1} → statement M
-entries-good-spec = tie.close (tie.spec Inv-loop μ-loop loop-holds mul-if1 shared-slice-read-if1 returns add-k loop-less loop-again returns-2)
+entries-good-spec =
+    tie.close
+    (tie.spec Inv-loop μ-loop loop-holds (λ c. search needs) (λ c. search needs) returns (λ c. search needs) (λ c. search needs)
+    loop-again returns-2)

@@ -24,12 +24,6 @@ inst-at-requires c κs = omega (arith, c .before .before .before .pre)
 returns : tie.Need-returns Inv-loop μ-loop
 returns c = let s = c .before .before .before .before .before .before in fresh-taken (s .args .timers .now) (s .args .count) (c .before .before .before .before .loop .i) _ _ (c .before .before .inst-at .ensures) (c .before .before .before .loop-test .taken) (s .args .n) (c .before .before .before .before .loop .inv .2) (c .if1 .taken)
 
-add-i : tie.Need-add-i Inv-loop μ-loop
-add-i c = search needs
-
-loop-less : tie.Need-loop-less Inv-loop μ-loop
-loop-less c = search needs
-
 loop-again : tie.Need-loop-again Inv-loop μ-loop
 loop-again c = let s = c .before .before .before .before .before .before in (omega (arith, c .before .before .before .before .loop .inv .0), omega (arith, c .before .before .before .loop-test .taken), fresh-next (s .args .timers .now) (s .args .count) (c .before .before .before .before .loop .i) _ _ (c .before .before .inst-at .ensures) (c .before .before .before .loop-test .taken) (s .args .n) (c .before .before .before .before .loop .inv .2) (c .if1 .left))
 
@@ -37,4 +31,6 @@ returns-2 : tie.Need-returns-2 Inv-loop μ-loop
 returns-2 c = let s = c .before .before .before in fresh-end (s .args .timers .now) (s .args .count) (c .before .loop .i) (s .args .n) _ (c .loop-test .left) (c .before .loop .inv .2)
 
 pub fresh-spec : {M : Type 1} → statement M
-fresh-spec = tie.close (tie.spec Inv-loop μ-loop loop-holds inst-at-requires returns add-i loop-less loop-again returns-2)
+fresh-spec =
+    tie.close
+    (tie.spec Inv-loop μ-loop loop-holds inst-at-requires returns (λ c. search needs) (λ c. search needs) loop-again returns-2)

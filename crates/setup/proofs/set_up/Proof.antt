@@ -7,14 +7,8 @@ use mathlib.Core.Path.{_∙_, sym}
 use Rattle.setup.proofs.set_up.Statement.{statement}
 use Rattle.setup.proofs.set_up.Tie as tie
 
-within-limits-requires : tie.Need-within-limits-requires
-within-limits-requires c κs = search needs
-
 returns : tie.Need-returns
 returns c = let s = c .before .before .before .before in outside (setupOf (s .args .hz) (s .args .vcc) (s .args .pins) (s .args .lines) (s .args .timers .now) (s .args .table .now)) (s .args .words .now) (s .args .reals .now) _ (c .before .within-limits .ensures (s .args .hz)) (c .if1 .taken)
-
-is-positive-requires : tie.Need-is-positive-requires
-is-positive-requires c κs = search needs
 
 returns-2 : tie.Need-returns-2
 returns-2 c = let s = c .before .before .before .before .before .before in no-clock (setupOf (s .args .hz) (s .args .vcc) (s .args .pins) (s .args .lines) (s .args .timers .now) (s .args .table .now)) (s .args .words .now) (s .args .reals .now) _ (c .before .before .before .within-limits .ensures (s .args .hz)) (c .before .before .if1 .left) _ (c .before .is-positive .ensures) (c .if2 .taken)
@@ -26,4 +20,4 @@ returns-3 : tie.Need-returns-3
 returns-3 c = let s = c .before .before .before .before .before .before .before .before .before in replaced (setupOf (s .args .hz) (s .args .vcc) (s .args .pins) (s .args .lines) (s .args .timers .now) (s .args .table .now)) (s .args .words .now) (s .args .reals .now) _ (c .before .before .before .before .before .before .within-limits .ensures (s .args .hz)) (c .before .before .before .before .before .if1 .left) _ (c .before .before .before .before .is-positive .ensures) (c .before .before .before .if2 .left) _ _ (c .fill .ensures)
 
 pub set-up-spec : {M : Type 1} → statement M
-set-up-spec = tie.close (tie.spec within-limits-requires returns is-positive-requires returns-2 fill-requires returns-3)
+set-up-spec = tie.close (tie.spec (λ c κs. search needs) returns (λ c κs. search needs) returns-2 fill-requires returns-3)

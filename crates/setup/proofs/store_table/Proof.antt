@@ -17,20 +17,8 @@ abbrev μ-loop : tie.MeasureT-loop
 loop-holds : tie.Need-loop-holds Inv-loop μ-loop
 loop-holds c = list-begins (c .before .args .table .now) (c .before .args .words .now)
 
-mul-set-af : tie.Need-mul-set-af Inv-loop μ-loop
-mul-set-af c = search needs
-
-shared-slice-read-set-af : tie.Need-shared-slice-read-set-af Inv-loop μ-loop
-shared-slice-read-set-af c = search needs
-
 set-af-requires : tie.Need-set-af-requires Inv-loop μ-loop
 set-af-requires c κs = let s = c .before .before .before .before .before in (omega (arith, s .pre .0, c .before .before .loop-test .taken), entry-at (s .args .table .now) (c .before .before .before .loop .k) (s .pre .1) (c .before .before .loop-test .taken))
-
-add-k : tie.Need-add-k Inv-loop μ-loop
-add-k c = search needs
-
-loop-less : tie.Need-loop-less Inv-loop μ-loop
-loop-less c = search needs
 
 loop-again : tie.Need-loop-again Inv-loop μ-loop
 loop-again c = let s = c .before .before .before .before .before .before in list-goes (s .args .table .now) (c .before .before .before .before .loop .k) (s .args .words .now) (c .before .before .before .before .loop .words) (c .before .before .before .before .loop .inv) (c .before .before .before .loop-test .taken) (s .pre .0) _ (c .set-af .ensures)
@@ -39,4 +27,7 @@ returns : tie.Need-returns Inv-loop μ-loop
 returns c = list-ends (c .before .before .before .args .table .now) (c .before .loop .k) (c .before .before .before .args .words .now) (c .before .loop .words) (c .before .loop .inv) (c .loop-test .left)
 
 pub store-table-spec : {M : Type 1} → statement M
-store-table-spec = tie.close (tie.spec Inv-loop μ-loop loop-holds mul-set-af shared-slice-read-set-af set-af-requires add-k loop-less loop-again returns)
+store-table-spec =
+    tie.close
+    (tie.spec Inv-loop μ-loop loop-holds (λ c. search needs) (λ c. search needs) set-af-requires (λ c. search needs)
+    (λ c. search needs) loop-again returns)

@@ -12,26 +12,14 @@ Inv-loop words₀ timers n i₀ words i = Storing timers i words₀ words
 abbrev μ-loop : tie.MeasureT-loop
 μ-loop words₀ timers n i₀ words i = n - i
 
-timer-count-requires : tie.Need-timer-count-requires Inv-loop μ-loop
-timer-count-requires c κs = search needs
-
 loop-holds : tie.Need-loop-holds Inv-loop μ-loop
 loop-holds c = store-begins (c .before .before .args .timers .now) (c .before .before .args .words .now)
 
 inst-at-requires : tie.Need-inst-at-requires Inv-loop μ-loop
 inst-at-requires c κs = omega (arith, c .before .before .before .before .pre, c .before .before .timer-count .ensures, c .loop-test .taken)
 
-new-requires : tie.Need-new-requires Inv-loop μ-loop
-new-requires c κs = search needs
-
 store-timer-requires : tie.Need-store-timer-requires Inv-loop μ-loop
 store-timer-requires c κs = (omega (arith, c .before .before .before .before .before .before .before .pre, c .before .before .before .before .before .timer-count .ensures, c .before .before .before .loop-test .taken), new-fit _ _ (c .before .new .ensures))
-
-add-i : tie.Need-add-i Inv-loop μ-loop
-add-i c = search needs
-
-loop-less : tie.Need-loop-less Inv-loop μ-loop
-loop-less c = search needs
 
 loop-again : tie.Need-loop-again Inv-loop μ-loop
 loop-again c = let s = c .before .before .before .before .before .before .before .before in store-goes (s .args .timers .now) (c .before .before .before .before .before .loop .i) (s .args .words .now) (c .before .before .before .before .before .loop .words) (c .before .before .before .before .before .loop .inv) (omega (arith, c .before .before .before .before .before .before .timer-count .ensures, c .before .before .before .before .loop-test .taken)) (s .pre) _ _ _ (c .before .before .before .inst-at .ensures) (c .before .before .new .ensures) (c .store-timer .ensures)
@@ -40,4 +28,7 @@ returns : tie.Need-returns Inv-loop μ-loop
 returns c = store-ends (c .before .before .before .before .args .timers .now) (c .before .loop .i) (c .before .before .before .before .args .words .now) (c .before .loop .words) (c .before .loop .inv) (omega (arith, c .before .before .timer-count .ensures, c .loop-test .left))
 
 pub store-timers-spec : {M : Type 1} → statement M
-store-timers-spec = tie.close (tie.spec Inv-loop μ-loop timer-count-requires loop-holds inst-at-requires new-requires store-timer-requires add-i loop-less loop-again returns)
+store-timers-spec =
+    tie.close
+    (tie.spec Inv-loop μ-loop (λ c κs. search needs) loop-holds inst-at-requires (λ c κs. search needs) store-timer-requires
+    (λ c. search needs) (λ c. search needs) loop-again returns)

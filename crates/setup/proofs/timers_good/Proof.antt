@@ -22,26 +22,14 @@ loop-holds c = (omega arith, good-start (c .before .args .timers .now) (c .befor
 inst-at-requires : tie.Need-inst-at-requires Inv-loop μ-loop
 inst-at-requires c κs = omega (arith, c .before .before .before .pre)
 
-inst-good-requires : tie.Need-inst-good-requires Inv-loop μ-loop
-inst-good-requires c κs = search needs
-
 returns : tie.Need-returns Inv-loop μ-loop
 returns c = good-bad (c .before .before .before .before .before .before .args .timers .now) (c .before .before .before .before .before .before .args .count) (c .before .before .before .before .loop .i) _ _ (c .before .before .inst-at .ensures) (c .before .before .before .loop-test .taken) (c .before .before .before .before .loop .inv .1) (sym (c .before .inst-good .ensures) ∙ not-true (c .before .inst-good .result) (c .if1 .taken))
-
-add-fresh : tie.Need-add-fresh Inv-loop μ-loop
-add-fresh c = search needs
 
 fresh-requires : tie.Need-fresh-requires Inv-loop μ-loop
 fresh-requires c κs = (omega (arith, c .before .before .before .loop-test .taken), c .before .before .before .before .before .before .pre)
 
 returns-2 : tie.Need-returns-2 Inv-loop μ-loop
 returns-2 c = good-twice (c .before .before .before .before .before .before .before .before .args .timers .now) (c .before .before .before .before .before .before .before .before .args .count) (c .before .before .before .before .before .before .loop .i) _ _ (c .before .before .before .before .inst-at .ensures) (c .before .before .before .before .before .loop-test .taken) (c .before .before .before .before .before .before .loop .inv .1) (sym (c .before .before .before .inst-good .ensures) ∙ not-false (c .before .before .before .inst-good .result) (c .before .before .if1 .left)) (sym (c .before .fresh .ensures) ∙ not-true (c .before .fresh .result) (c .if2 .taken))
-
-add-i : tie.Need-add-i Inv-loop μ-loop
-add-i c = search needs
-
-loop-less : tie.Need-loop-less Inv-loop μ-loop
-loop-less c = search needs
 
 loop-again : tie.Need-loop-again Inv-loop μ-loop
 loop-again c = (omega (arith, c .before .before .before .before .before .loop-test .taken), good-next (c .before .before .before .before .before .before .before .before .args .timers .now) (c .before .before .before .before .before .before .before .before .args .count) (c .before .before .before .before .before .before .loop .i) _ _ (c .before .before .before .before .inst-at .ensures) (c .before .before .before .before .before .loop-test .taken) (c .before .before .before .before .before .before .loop .inv .1) (sym (c .before .before .before .inst-good .ensures) ∙ not-false (c .before .before .before .inst-good .result) (c .before .before .if1 .left)) (sym (c .before .fresh .ensures) ∙ not-false (c .before .fresh .result) (c .if2 .left)))
@@ -50,4 +38,7 @@ returns-3 : tie.Need-returns-3 Inv-loop μ-loop
 returns-3 c = good-end (c .before .before .before .args .timers .now) (c .before .before .before .args .count) (c .before .loop .i) _ (c .loop-test .left) (c .before .loop .inv .1)
 
 pub timers-good-spec : {M : Type 1} → statement M
-timers-good-spec = tie.close (tie.spec Inv-loop μ-loop loop-holds inst-at-requires inst-good-requires returns add-fresh fresh-requires returns-2 add-i loop-less loop-again returns-3)
+timers-good-spec =
+    tie.close
+    (tie.spec Inv-loop μ-loop loop-holds inst-at-requires (λ c κs. search needs) returns (λ c. search needs) fresh-requires
+    returns-2 (λ c. search needs) (λ c. search needs) loop-again returns-3)

@@ -9,9 +9,6 @@ returns : tie.Need-returns
 unfolding isUart
 returns c = rw (lt-leb 1 _ (c .if1 .taken))
 
-cast-if2 : tie.Need-cast-if2
-cast-if2 c = search needs
-
 returns-2 : tie.Need-returns-2
 unfolding isUart
 returns-2 c = rw (le-leb 1 _ (c .before .if1 .left), lt-leb _ 9 (c .if2 .taken))
@@ -21,4 +18,4 @@ unfolding isUart
 returns-3 c = rw (le-leb 1 _ (c .before .if1 .left), le-leb _ 9 (c .if2 .left))
 
 pub is-uart-spec : {M : Type 1} → statement M
-is-uart-spec = tie.close (tie.spec returns cast-if2 returns-2 returns-3)
+is-uart-spec = tie.close (tie.spec returns (λ c. search needs) returns-2 returns-3)

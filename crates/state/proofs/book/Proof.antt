@@ -8,30 +8,6 @@ use borrow.Author.Needs.{needs}
 use Rattle.state.proofs.book.Statement.{statement}
 use Rattle.state.proofs.book.Tie as tie
 
-sized-requires : tie.Need-sized-requires
-sized-requires c κs = search needs
-
-bookings-requires : tie.Need-bookings-requires
-bookings-requires c κs = search needs
-
-book-requires : tie.Need-book-requires
-book-requires c κs = search needs
-
-mul-words : tie.Need-mul-words
-mul-words c = search needs
-
-array-read-words : tie.Need-array-read-words
-array-read-words c = search needs
-
-add-words : tie.Need-add-words
-add-words c = search needs
-
-mul-words-2 : tie.Need-mul-words-2
-mul-words-2 c = search needs
-
-element-write-words : tie.Need-element-write-words
-element-write-words c = search needs
-
 returns : tie.Need-returns
 returns c =
     let s = c .before .before .before .before .before in
@@ -41,4 +17,6 @@ returns c =
 
 pub book-spec : {M : Type 1} → statement M
 book-spec =
-    tie.close (tie.spec sized-requires bookings-requires book-requires mul-words array-read-words add-words mul-words-2 element-write-words returns)
+    tie.close
+    (tie.spec (λ c κs. search needs) (λ c κs. search needs) (λ c κs. search needs) (λ c. search needs) (λ c. search needs)
+    (λ c. search needs) (λ c. search needs) (λ c. search needs) returns)

@@ -7,14 +7,8 @@ use borrow.Author.Needs.{needs}
 use Rattle.state.proofs.booked.Statement.{statement}
 use Rattle.state.proofs.booked.Tie as tie
 
-bookings-requires : tie.Need-bookings-requires
-bookings-requires c κs = search needs
-
-booked-at-requires : tie.Need-booked-at-requires
-booked-at-requires c κs = search needs
-
 returns : tie.Need-returns
 returns c = λ x. c .booked-at .ensures ∙ ap (λ (m : List ℕ). cycleOf m (c .before .before .args .owner)) (c .before .bookings .ensures x)
 
 pub booked-spec : {M : Type 1} → statement M
-booked-spec = tie.close (tie.spec bookings-requires booked-at-requires returns)
+booked-spec = tie.close (tie.spec (λ c κs. search needs) (λ c κs. search needs) returns)

@@ -6,32 +6,8 @@ use borrow.Author.Needs.{needs}
 use Rattle.state.proofs.clear_pending.Statement.{statement}
 use Rattle.state.proofs.clear_pending.Tie as tie
 
-sized-requires : tie.Need-sized-requires
-sized-requires c κs = search needs
-
-has-line-requires : tie.Need-has-line-requires
-has-line-requires c κs = search needs
-
-add-at : tie.Need-add-at
-add-at c = search needs
-
-mul-line-of : tie.Need-mul-line-of
-mul-line-of c = search needs
-
 element-copy-out-line-of : tie.Need-element-copy-out-line-of
 element-copy-out-line-of c = let s = c .before .before .before .before .before in line-place (s .args .words .now) (s .args .irq) (c .before .has-line .result) (c .before .has-line .ensures) (c .if1 .taken)
-
-line-of-requires : tie.Need-line-of-requires
-line-of-requires c κs = search needs
-
-clear-pending-requires : tie.Need-clear-pending-requires
-clear-pending-requires c κs = search needs
-
-word-of-requires : tie.Need-word-of-requires
-word-of-requires c κs = search needs
-
-mul-words : tie.Need-mul-words
-mul-words c = search needs
 
 element-write-words : tie.Need-element-write-words
 element-write-words c = let s = c .before .before .before .before .before .before .before .before .before in line-place (s .args .words .now) (s .args .irq) (c .before .before .before .before .before .has-line .result) (c .before .before .before .before .before .has-line .ensures) (c .before .before .before .before .if1 .taken)
@@ -43,4 +19,8 @@ returns-2 : tie.Need-returns-2
 returns-2 c = let s = c .before .before .before .before .before in λ x. line-none (s .args .words .now) x (c .before .before .before .sized .ensures) lineCleared (s .args .irq) (line-absent (s .args .words .now) (s .args .irq) (c .before .has-line .result) (c .before .has-line .ensures) x (c .if1 .left))
 
 pub clear-pending-spec : {M : Type 1} → statement M
-clear-pending-spec = tie.close (tie.spec sized-requires has-line-requires add-at mul-line-of element-copy-out-line-of line-of-requires clear-pending-requires word-of-requires mul-words element-write-words returns returns-2)
+clear-pending-spec =
+    tie.close
+    (tie.spec (λ c κs. search needs) (λ c κs. search needs) (λ c. search needs) (λ c. search needs) element-copy-out-line-of
+    (λ c κs. search needs) (λ c κs. search needs) (λ c κs. search needs) (λ c. search needs) element-write-words returns
+    returns-2)

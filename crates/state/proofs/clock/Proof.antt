@@ -5,17 +5,8 @@ use mathlib.Core.Path.{sym}
 use Rattle.state.proofs.clock.Statement.{statement}
 use Rattle.state.proofs.clock.Tie as tie
 
-element-copy-out-t5 : tie.Need-element-copy-out-t5
-element-copy-out-t5 c = search needs
-
-element-copy-out-t8 : tie.Need-element-copy-out-t8
-element-copy-out-t8 c = search needs
-
-element-copy-out-t11 : tie.Need-element-copy-out-t11
-element-copy-out-t11 c = search needs
-
 returns : tie.Need-returns
 returns c = let s = c .before .before .before in sym (clock-read (s .args .words .now) (s .args .reals .now))
 
 pub clock-spec : {M : Type 1} → statement M
-clock-spec = tie.close (tie.spec element-copy-out-t5 element-copy-out-t8 element-copy-out-t11 returns)
+clock-spec = tie.close (tie.spec (λ c. search needs) (λ c. search needs) (λ c. search needs) returns)

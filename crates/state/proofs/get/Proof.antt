@@ -15,41 +15,17 @@ Inv-loop words at b₀ j₀ b j = (j ≤ length b₀) × ((length b ≡ length b
 abbrev μ-loop : tie.MeasureT-loop
 μ-loop words at b₀ j₀ b j = length b₀ - j
 
-sized-requires : tie.Need-sized-requires Inv-loop μ-loop
-sized-requires c κs = search needs
-
 loop-holds : tie.Need-loop-holds Inv-loop μ-loop
 loop-holds c = let s = c .before .before in (omega arith, (refl, paste-zero (s .args .b .now) 0 (drop (s .args .at) (s .args .words .now))))
 
-add-b : tie.Need-add-b Inv-loop μ-loop
-add-b c = search needs
-
-mul-b : tie.Need-mul-b Inv-loop μ-loop
-mul-b c = search needs
-
-element-copy-out-b : tie.Need-element-copy-out-b Inv-loop μ-loop
-element-copy-out-b c = search needs
-
-mul-b-2 : tie.Need-mul-b-2 Inv-loop μ-loop
-mul-b-2 c = search needs
-
-slice-write-b : tie.Need-slice-write-b Inv-loop μ-loop
-slice-write-b c = search needs
-
-add-j : tie.Need-add-j Inv-loop μ-loop
-add-j c = search needs
-
-loop-less : tie.Need-loop-less Inv-loop μ-loop
-loop-less c = search needs
-
 loop-again : tie.Need-loop-again Inv-loop μ-loop
 loop-again c = let s = c .before .before .before .before .before in (omega arith, (rw length-set (c .before .before .loop .inv .1 .0), get-step _ (s .args .b .now) _ (s .args .at) (c .before .before .loop .j) (c .before .before .before .sized .ensures) (s .pre) (search needs) (c .before .before .loop .inv .1 .1)))
-
-same-length : tie.Need-same-length Inv-loop μ-loop
-same-length c = search needs
 
 returns : tie.Need-returns Inv-loop μ-loop
 returns c = let s = c .before .before .before .before in get-done (s .args .words .now) (s .args .b .now) _ (s .args .at) (c .before .loop .j) (c .before .before .sized .ensures) (s .pre) (omega arith) (c .before .loop .inv .0) (c .before .loop .inv .1 .1)
 
 pub get-spec : {M : Type 1} → statement M
-get-spec = tie.close (tie.spec Inv-loop μ-loop sized-requires loop-holds add-b mul-b element-copy-out-b mul-b-2 slice-write-b add-j loop-less loop-again same-length returns)
+get-spec =
+    tie.close
+    (tie.spec Inv-loop μ-loop (λ c κs. search needs) loop-holds (λ c. search needs) (λ c. search needs) (λ c. search needs)
+    (λ c. search needs) (λ c. search needs) (λ c. search needs) (λ c. search needs) loop-again (λ c. search needs) returns)

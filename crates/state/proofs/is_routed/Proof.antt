@@ -13,19 +13,6 @@ use Rattle.state.proofs.is_routed.Tie as tie
 use Rattle.state.proofs.is_routed.Reads as reads
 use Rattle.state.proofs.is_routed.Lts as lts
 
--- src/lib.rt:220:11
-add-result : tie.Need-add-result
-add-result c = search needs
-
--- src/lib.rt:220:5
-mul-result : tie.Need-mul-result
-mul-result c = search needs
-
--- src/lib.rt:220:5
-element-copy-out-result : tie.Need-element-copy-out-result
-element-copy-out-result c = search needs
-
--- src/lib.rt:216:1
 -- a cut word is below the cut where the word is
 cut : (n : ℕ) → ltb n 128 ≡ ltb (min n 128) 128
 cut n = go (ltb n 128) refl
@@ -40,4 +27,4 @@ returns c =
     λ x. cut (getD (s .args .words .now) (348 + s .args .s) 0) ∙ ap (λ (n : ℕ). ltb n 128) (sym (route-read (s .args .words .now) x (s .args .s) (s .pre)))
 
 pub is-routed-spec : {M : Type 1} → statement M
-is-routed-spec = tie.close (tie.spec add-result mul-result element-copy-out-result returns)
+is-routed-spec = tie.close (tie.spec (λ c. search needs) (λ c. search needs) (λ c. search needs) returns)

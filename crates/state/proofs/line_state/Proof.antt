@@ -7,23 +7,8 @@ use mathlib.Core.Path.{sym}
 use Rattle.state.proofs.line_state.Statement.{statement}
 use Rattle.state.proofs.line_state.Tie as tie
 
-has-line-requires : tie.Need-has-line-requires
-has-line-requires c κs = search needs
-
-add-line-of : tie.Need-add-line-of
-add-line-of c = search needs
-
-mul-line-of : tie.Need-mul-line-of
-mul-line-of c = search needs
-
 element-copy-out-line-of : tie.Need-element-copy-out-line-of
 element-copy-out-line-of c = let s = c .before .before in line-place (s .args .words .now) (s .args .irq) (c .before .has-line .result) (c .before .has-line .ensures) (c .if1 .taken)
-
-line-of-requires : tie.Need-line-of-requires
-line-of-requires c κs = search needs
-
-state-requires : tie.Need-state-requires
-state-requires c κs = search needs
 
 returns : tie.Need-returns
 returns c = let s = c .before .before .before .before .before in λ x. rw (line-read (s .args .words .now) x (s .args .irq) (line-there (s .args .words .now) (s .args .irq) (c .before .before .before .before .has-line .result) (c .before .before .before .before .has-line .ensures) x (c .before .before .before .if1 .taken))) (cc)
@@ -32,4 +17,7 @@ returns-2 : tie.Need-returns-2
 returns-2 c = let s = c .before .before in λ x. sym (absent (view (s .args .words .now) x .nvic) (s .args .irq) (line-absent (s .args .words .now) (s .args .irq) (c .before .has-line .result) (c .before .has-line .ensures) x (c .if1 .left)))
 
 pub line-state-spec : {M : Type 1} → statement M
-line-state-spec = tie.close (tie.spec has-line-requires add-line-of mul-line-of element-copy-out-line-of line-of-requires state-requires returns returns-2)
+line-state-spec =
+    tie.close
+    (tie.spec (λ c κs. search needs) (λ c. search needs) (λ c. search needs) element-copy-out-line-of (λ c κs. search needs)
+    (λ c κs. search needs) returns returns-2)

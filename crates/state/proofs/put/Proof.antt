@@ -15,32 +15,8 @@ Inv-loop words₀ at b j₀ words j = (j ≤ length b) × (words ≡ paste words
 abbrev μ-loop : tie.MeasureT-loop
 μ-loop words₀ at b j₀ words j = length b - j
 
-sized-requires : tie.Need-sized-requires Inv-loop μ-loop
-sized-requires c κs = search needs
-
 loop-holds : tie.Need-loop-holds Inv-loop μ-loop
 loop-holds c = let s = c .before .before .before in (omega arith, paste-zero (s .args .words .now) (s .args .at) (s .args .b .now))
-
-mul-words : tie.Need-mul-words Inv-loop μ-loop
-mul-words c = search needs
-
-shared-slice-read-words : tie.Need-shared-slice-read-words Inv-loop μ-loop
-shared-slice-read-words c = search needs
-
-add-words : tie.Need-add-words Inv-loop μ-loop
-add-words c = search needs
-
-mul-words-2 : tie.Need-mul-words-2 Inv-loop μ-loop
-mul-words-2 c = search needs
-
-element-write-words : tie.Need-element-write-words Inv-loop μ-loop
-element-write-words c = search needs
-
-add-j : tie.Need-add-j Inv-loop μ-loop
-add-j c = search needs
-
-loop-less : tie.Need-loop-less Inv-loop μ-loop
-loop-less c = search needs
 
 loop-again : tie.Need-loop-again Inv-loop μ-loop
 loop-again c = let s = c .before .before .before .before .before .before in (omega arith, put-step (s .args .words .now) _ (s .args .b .now) (s .args .at) (c .before .before .loop .j) (c .before .before .before .sized .ensures) (s .pre) (search needs) (c .before .before .loop .inv .1))
@@ -49,4 +25,7 @@ returns : tie.Need-returns Inv-loop μ-loop
 returns c = let s = c .before .before .before .before .before in put-done (s .args .words .now) _ (s .args .b .now) (s .args .at) (c .before .loop .j) (c .loop-test .left) (c .before .loop .inv .0) (c .before .loop .inv .1)
 
 pub put-spec : {M : Type 1} → statement M
-put-spec = tie.close (tie.spec Inv-loop μ-loop sized-requires loop-holds mul-words shared-slice-read-words add-words mul-words-2 element-write-words add-j loop-less loop-again returns)
+put-spec =
+    tie.close
+    (tie.spec Inv-loop μ-loop (λ c κs. search needs) loop-holds (λ c. search needs) (λ c. search needs) (λ c. search needs)
+    (λ c. search needs) (λ c. search needs) (λ c. search needs) (λ c. search needs) loop-again returns)

@@ -4,20 +4,8 @@ use borrow.Author.Needs.{needs}
 use Rattle.state.proofs.set_sizes.Statement.{statement}
 use Rattle.state.proofs.set_sizes.Tie as tie
 
-sized-requires : tie.Need-sized-requires
-sized-requires c κs = search needs
-
-element-write-words : tie.Need-element-write-words
-element-write-words c = search needs
-
-element-write-words-2 : tie.Need-element-write-words-2
-element-write-words-2 c = search needs
-
-element-write-words-3 : tie.Need-element-write-words-3
-element-write-words-3 c = search needs
-
 returns : tie.Need-returns
 returns c = let s = c .before .before in λ x. sizes-set _ x (c .sized .ensures) (s .args .timers) (s .args .pins) (s .args .lines) (s .pre .0) (s .pre .1 .0) (s .pre .1 .1)
 
 pub set-sizes-spec : {M : Type 1} → statement M
-set-sizes-spec = tie.close (tie.spec sized-requires element-write-words element-write-words-2 element-write-words-3 returns)
+set-sizes-spec = tie.close (tie.spec (λ c κs. search needs) (λ c. search needs) (λ c. search needs) (λ c. search needs) returns)

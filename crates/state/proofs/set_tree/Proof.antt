@@ -7,29 +7,11 @@ use mathlib.Core.Path.{_∙_, ap}
 use Rattle.state.proofs.set_tree.Statement.{statement}
 use Rattle.state.proofs.set_tree.Tie as tie
 
-sized-requires : tie.Need-sized-requires
-sized-requires c κs = search needs
-
-sized-reals-requires : tie.Need-sized-reals-requires
-sized-reals-requires c κs = search needs
-
-pack-dividers-requires : tie.Need-pack-dividers-requires
-pack-dividers-requires c κs = search needs
-
-slice-aggregate-put : tie.Need-slice-aggregate-put
-slice-aggregate-put c = search needs
-
-put-requires : tie.Need-put-requires
-put-requires c κs = search needs
-
-element-write-reals : tie.Need-element-write-reals
-element-write-reals c = search needs
-
-element-write-reals-2 : tie.Need-element-write-reals-2
-element-write-reals-2 c = search needs
-
 returns : tie.Need-returns
 returns c = let s = c .before .before .before .before .before .before .before .before in rw (c .put .ensures) (tree-set (s .args .words .now) (s .args .reals .now) (c .before .before .before .before .before .before .sized .ensures) (c .before .before .before .before .sized-reals .ensures) (c .before .before .before .pack-dividers .result) (s .args .t .«sysclk_hz») (s .args .t .«hclk_hz») (search needs) ∙ ap (withTree (view (s .args .words .now) (s .args .reals .now))) (c .before .before .before .pack-dividers .ensures))
 
 pub set-tree-spec : {M : Type 1} → statement M
-set-tree-spec = tie.close (tie.spec sized-requires sized-reals-requires pack-dividers-requires slice-aggregate-put put-requires element-write-reals element-write-reals-2 returns)
+set-tree-spec =
+    tie.close
+    (tie.spec (λ c κs. search needs) (λ c κs. search needs) (λ c κs. search needs) (λ c. search needs) (λ c κs. search needs)
+    (λ c. search needs) (λ c. search needs) returns)

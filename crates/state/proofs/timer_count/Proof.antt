@@ -5,14 +5,8 @@ use mathlib.Core.Path.{_∙_, sym}
 use Rattle.state.proofs.timer_count.Statement.{statement}
 use Rattle.state.proofs.timer_count.Tie as tie
 
-element-copy-out-lesser : tie.Need-element-copy-out-lesser
-element-copy-out-lesser c = search needs
-
-lesser-requires : tie.Need-lesser-requires
-lesser-requires c κs = search needs
-
 returns : tie.Need-returns
 returns c = λ x. c .lesser .ensures ∙ sym (timers-read (c .before .before .args .words .now) x)
 
 pub timer-count-spec : {M : Type 1} → statement M
-timer-count-spec = tie.close (tie.spec element-copy-out-lesser lesser-requires returns)
+timer-count-spec = tie.close (tie.spec (λ c. search needs) (λ c κs. search needs) returns)

@@ -5,11 +5,8 @@ use mathlib.Core.Path.{sym}
 use Rattle.state.proofs.vcc.Statement.{statement}
 use Rattle.state.proofs.vcc.Tie as tie
 
-element-copy-out-result : tie.Need-element-copy-out-result
-element-copy-out-result c = search needs
-
 returns : tie.Need-returns
 returns c = λ w. sym (vcc-read w (c .before .args .reals .now))
 
 pub vcc-spec : {M : Type 1} → statement M
-vcc-spec = tie.close (tie.spec element-copy-out-result returns)
+vcc-spec = tie.close (tie.spec (λ c. search needs) returns)

@@ -1,45 +1,50 @@
--- The three parts of the table, one behind the other.
-use Prim.Native.Nat.{_+_, ℕ}
-use Rattle.text.proofs.WordLaws.{call-high, call-low, call-mid, high-most}
+-- Piece k of the text is word k of the table; a word that is none of the first k has its place among the rest.
+use Prim.Native.Nat.{ℕ, suc, _+_, _-_, _≤_}
+use Rattle.text.proofs.WordLaws.{There, piece-there, call-start, call-here, call-next, call-none, word-there, joined, starts}
+use Rattle.text.specs.Words.{placeIn, calls, callOf, sameWord}
 use borrow.Author.Needs.{needs}
-use mathlib.Core.Path.{_∙_, ap}
+use lib.ListN.{drop}
+use mathlib.Core.List.{List}
+use mathlib.Core.Path.{_≡_}
 use native.Mathlib.Omega.{arith}
 use Rattle.text.proofs.call_of.Statement.{statement}
 use Rattle.text.proofs.call_of.Tie as tie
 
-call-low-requires : tie.Need-call-low-requires
-call-low-requires c κs = search needs
+-- the code's text and its table
+abbrev text : List ℕ
+text = joined calls
 
-returns : tie.Need-returns
-returns c = c .before .call-low .ensures ∙ call-low _ (omega arith)
+abbrev places : List ℕ
+places = starts 0 calls
 
-call-mid-requires : tie.Need-call-mid-requires
-call-mid-requires c κs = search needs
+there : (k : ℕ) → suc k ≤ 18 → There text places k
+unfolding word-there sameWord
+there k h = piece-there text places tt k h
 
-add-result : tie.Need-add-result
-add-result c = omega arith
+abbrev Inv-loop : tie.InvT-loop
+Inv-loop word k₀ t5 k = (k ≤ 18) × (callOf word ≡ k + placeIn word (drop k calls))
 
-returns-2 : tie.Need-returns-2
-returns-2 c = ap (λ (n : ℕ). 6 + n) (c .before .call-mid .ensures) ∙ call-mid _ (omega arith) (omega arith)
+abbrev μ-loop : tie.MeasureT-loop
+μ-loop word k₀ t5 k = 18 - k
 
-call-high-requires : tie.Need-call-high-requires
-call-high-requires c κs = search needs
+loop-holds : tie.Need-loop-holds Inv-loop μ-loop
+loop-holds c = (omega arith, call-start _)
 
-add-result-2 : tie.Need-add-result-2
-add-result-2 c = omega (arith, c .call-high .ensures, high-most (c .before .before .before .before .before .before .args .word .now))
+is-part-requires : tie.Need-is-part-requires Inv-loop μ-loop
+is-part-requires c κs = let p = there (c .before .before .loop .k) (omega arith) in (p .from, p .to)
 
-returns-3 : tie.Need-returns-3
-returns-3 c = ap (λ (n : ℕ). 12 + n) (c .call-high .ensures) ∙ call-high _ (omega arith) (omega arith)
+returns : tie.Need-returns Inv-loop μ-loop
+returns c = let k = c .before .before .before .before .loop .k in call-here _ k _ _ (omega arith) (there k (omega arith) .word) (c .before .before .before .before .loop .inv .1) (c .before .is-part .ensures) (c .if1 .taken)
+
+loop-again : tie.Need-loop-again Inv-loop μ-loop
+loop-again c = let k = c .before .before .before .before .loop .k in (omega arith, call-next _ k _ _ (omega arith) (there k (omega arith) .word) (c .before .before .before .before .loop .inv .1) (c .before .is-part .ensures) (c .if1 .left))
+
+returns-2 : tie.Need-returns-2 Inv-loop μ-loop
+returns-2 c = call-none _ _ (omega arith) (c .before .loop .inv .1)
 
 pub call-of-spec : {M : Type 1} → statement M
 call-of-spec =
     tie.close
-    (tie.spec
-    call-low-requires
-    returns
-    call-mid-requires
-    add-result
-    returns-2
-    call-high-requires
-    add-result-2
-    returns-3)
+    (tie.spec Inv-loop μ-loop loop-holds (λ c. search needs) (λ c. search needs) (λ c. search needs) (λ c. search needs)
+    (λ c. search needs) (λ c. search needs) is-part-requires (λ c. search needs) returns (λ c. search needs) (λ c. search needs)
+    loop-again returns-2)

@@ -9,9 +9,6 @@ returns : tie.Need-returns
 unfolding digitOf
 returns c = rw (lt-ltb _ _ (c .if1 .taken))
 
-cast-result : tie.Need-cast-result
-cast-result c = search needs
-
 returns-2 : tie.Need-returns-2
 unfolding digitOf
 returns-2 c = rw (le-ltb _ _ (c .before .if1 .left), lt-ltb _ _ (c .if2 .taken))
@@ -20,12 +17,6 @@ returns-3 : tie.Need-returns-3
 unfolding digitOf
 returns-3 c = rw (le-ltb _ _ (c .before .before .if1 .left), le-ltb _ _ (c .before .if2 .left), lt-ltb _ _ (c .if3 .taken))
 
-sub-result : tie.Need-sub-result
-sub-result c = search needs
-
-cast-result-2 : tie.Need-cast-result-2
-cast-result-2 c = search needs
-
 returns-4 : tie.Need-returns-4
 unfolding digitOf
 returns-4 c = rw (le-ltb _ _ (c .before .before .before .if1 .left), le-ltb _ _ (c .before .before .if2 .left), le-ltb _ _ (c .before .if3 .left), lt-ltb _ _ (c .if4 .taken))
@@ -33,12 +24,6 @@ returns-4 c = rw (le-ltb _ _ (c .before .before .before .if1 .left), le-ltb _ _ 
 returns-5 : tie.Need-returns-5
 unfolding digitOf
 returns-5 c = rw (le-ltb _ _ (c .before .before .before .before .if1 .left), le-ltb _ _ (c .before .before .before .if2 .left), le-ltb _ _ (c .before .before .if3 .left), le-ltb _ _ (c .before .if4 .left), lt-ltb _ _ (c .if5 .taken))
-
-sub-result-2 : tie.Need-sub-result-2
-sub-result-2 c = search needs
-
-cast-result-3 : tie.Need-cast-result-3
-cast-result-3 c = search needs
 
 returns-6 : tie.Need-returns-6
 unfolding digitOf
@@ -51,16 +36,5 @@ returns-7 c = rw (le-ltb _ _ (c .before .before .before .before .before .if1 .le
 pub digit-spec : {M : Type 1} → statement M
 digit-spec =
     tie.close
-    (tie.spec
-    returns
-    cast-result
-    returns-2
-    returns-3
-    sub-result
-    cast-result-2
-    returns-4
-    returns-5
-    sub-result-2
-    cast-result-3
-    returns-6
-    returns-7)
+    (tie.spec returns (λ c. search needs) returns-2 returns-3 (λ c. search needs) (λ c. search needs) returns-4 returns-5
+    (λ c. search needs) (λ c. search needs) returns-6 returns-7)

@@ -17,21 +17,6 @@ returns c = field-none (c .before .args .call) (c .before .args .k) (c .if1 .tak
 returns-2 : tie.Need-returns-2
 returns-2 c = field-past (c .before .before .args .call) (c .before .before .args .k) (c .if2 .taken)
 
-mul-fields : tie.Need-mul-fields
-mul-fields c = search needs
-
-array-read-fields : tie.Need-array-read-fields
-array-read-fields c = search needs
-
-mul-place : tie.Need-mul-place
-mul-place c = search needs
-
-shr-result : tie.Need-shr-result
-shr-result c = search needs
-
-cast-result : tie.Need-cast-result
-cast-result c = search needs
-
 returns-3 : tie.Need-returns-3
 unfolding table right fieldOf
 returns-3 c = field-at table tt (c .before .before .args .call) (c .before .before .args .k) (search needs) (search needs)
@@ -39,12 +24,5 @@ returns-3 c = field-at table tt (c .before .before .args .call) (c .before .befo
 pub field-spec : {M : Type 1} → statement M
 field-spec =
     tie.close
-    (tie.spec
-    returns
-    returns-2
-    mul-fields
-    array-read-fields
-    mul-place
-    shr-result
-    cast-result
-    returns-3)
+    (tie.spec returns returns-2 (λ c. search needs) (λ c. search needs) (λ c. search needs) (λ c. search needs)
+    (λ c. search needs) returns-3)

@@ -9,12 +9,9 @@ returns : tie.Need-returns
 unfolding firstOf
 returns c = rw (eq-eqb _ _ (c .if1 .taken))
 
-more-requires : tie.Need-more-requires
-more-requires c κs = search needs
-
 returns-2 : tie.Need-returns-2
 unfolding firstOf
 returns-2 c = rw (ne-eqb _ _ (c .before .if1 .left)) (c .more .ensures)
 
 pub first-spec : {M : Type 1} → statement M
-first-spec = tie.close (tie.spec returns more-requires returns-2)
+first-spec = tie.close (tie.spec returns (λ c κs. search needs) returns-2)

@@ -5,9 +5,6 @@ use borrow.Author.Tests.{le-ltb, lt-ltb}
 use Rattle.text.proofs.large.Statement.{statement}
 use Rattle.text.proofs.large.Tie as tie
 
-digit-requires : tie.Need-digit-requires
-digit-requires c κs = search needs
-
 returns : tie.Need-returns
 unfolding largeOf
 returns c = rw (← c .before .digit .ensures, lt-ltb _ _ (c .if1 .taken))
@@ -17,4 +14,4 @@ unfolding largeOf
 returns-2 c = rw (← c .before .digit .ensures, le-ltb _ _ (c .if1 .left))
 
 pub large-spec : {M : Type 1} → statement M
-large-spec = tie.close (tie.spec digit-requires returns returns-2)
+large-spec = tie.close (tie.spec (λ c κs. search needs) returns returns-2)

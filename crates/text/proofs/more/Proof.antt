@@ -7,18 +7,9 @@ use native.Mathlib.Omega.{arith}
 use Rattle.text.proofs.more.Statement.{statement}
 use Rattle.text.proofs.more.Tie as tie
 
-digit-requires : tie.Need-digit-requires
-digit-requires c κs = search needs
-
 returns : tie.Need-returns
 unfolding moreOf
 returns c = rw (← c .before .digit .ensures, le-ltb _ _ (c .if1 .taken))
-
-sub-most : tie.Need-sub-most
-sub-most c = search needs
-
-div-most : tie.Need-div-most
-div-most c = search needs
 
 returns-2 : tie.Need-returns-2
 unfolding moreOf held
@@ -36,4 +27,5 @@ returns-3 c = rw (← c .before .before .digit .ensures, lt-ltb _ _ (c .before .
 
 pub more-spec : {M : Type 1} → statement M
 more-spec =
-    tie.close (tie.spec digit-requires returns sub-most div-most returns-2 mul-t7 add-t8 returns-3)
+    tie.close
+    (tie.spec (λ c κs. search needs) returns (λ c. search needs) (λ c. search needs) returns-2 mul-t7 add-t8 returns-3)

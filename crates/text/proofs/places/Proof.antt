@@ -14,14 +14,8 @@ Inv-loop n rest₀ k₀ rest k = (rest ≤ n) × (k + placesOf rest ≡ placesOf
 abbrev μ-loop : tie.MeasureT-loop
 μ-loop n rest₀ k₀ rest k = rest
 
-loop-holds : tie.Need-loop-holds Inv-loop μ-loop
-loop-holds c = omega arith
-
 add-k : tie.Need-add-k Inv-loop μ-loop
 add-k c = omega (arith, places-most 20 (c .before .before .args .n), places-pos 20 (c .before .loop .rest))
-
-loop-less : tie.Need-loop-less Inv-loop μ-loop
-loop-less c = omega arith
 
 loop-again : tie.Need-loop-again Inv-loop μ-loop
 loop-again c = omega (arith, count-step (c .before .loop .rest) (omega arith) (c .loop-test .taken))
@@ -30,4 +24,4 @@ returns : tie.Need-returns Inv-loop μ-loop
 returns c = omega (arith, places-one 20 (c .before .loop .rest) (c .loop-test .left))
 
 pub places-spec : {M : Type 1} → statement M
-places-spec = tie.close (tie.spec Inv-loop μ-loop loop-holds add-k loop-less loop-again returns)
+places-spec = tie.close (tie.spec Inv-loop μ-loop (λ c. omega arith) add-k (λ c. omega arith) loop-again returns)

@@ -13,12 +13,9 @@ returns-2 : tie.Need-returns-2
 unfolding secondOf
 returns-2 c = rw (ne-eqb _ _ (c .before .if1 .left), eq-eqb _ _ (c .if2 .taken))
 
-more-requires : tie.Need-more-requires
-more-requires c κs = search needs
-
 returns-3 : tie.Need-returns-3
 unfolding secondOf
 returns-3 c = rw (ne-eqb _ _ (c .before .before .if1 .left), ne-eqb _ _ (c .before .if2 .left)) (c .more .ensures)
 
 pub second-spec : {M : Type 1} → statement M
-second-spec = tie.close (tie.spec returns returns-2 more-requires returns-3)
+second-spec = tie.close (tie.spec returns returns-2 (λ c κs. search needs) returns-3)

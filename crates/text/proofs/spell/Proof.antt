@@ -19,23 +19,11 @@ abbrev μ-loop : tie.MeasureT-loop
 loop-holds : tie.Need-loop-holds Inv-loop μ-loop
 loop-holds c = (omega arith, refl, refl)
 
-sub-i : tie.Need-sub-i Inv-loop μ-loop
-sub-i c = search needs
-
 cast-out : tie.Need-cast-out Inv-loop μ-loop
 cast-out c = omega (arith, mod-lt (c .before .loop .rest) {m = 10} (omega arith))
 
 add-out : tie.Need-add-out Inv-loop μ-loop
 add-out c = omega (arith, mod-lt (c .before .loop .rest) {m = 10} (omega arith))
-
-add-out-2 : tie.Need-add-out-2 Inv-loop μ-loop
-add-out-2 c = omega arith
-
-slice-write-out : tie.Need-slice-write-out Inv-loop μ-loop
-slice-write-out c = omega arith
-
-loop-less : tie.Need-loop-less Inv-loop μ-loop
-loop-less c = omega arith
 
 loop-again : tie.Need-loop-again Inv-loop μ-loop
 loop-again c = (omega arith, simp length-set (c .before .loop .inv .1), spell-turn _ (c .before .loop .rest) (c .before .before .args .at) (c .before .loop .out) (c .loop-test .taken) (omega arith) ∙ c .before .loop .inv .2)
@@ -49,16 +37,5 @@ returns c = sym (spell-last (c .before .loop .i) (c .before .loop .rest) (c .bef
 pub spell-spec : {M : Type 1} → statement M
 spell-spec =
     tie.close
-    (tie.spec
-    Inv-loop
-    μ-loop
-    loop-holds
-    sub-i
-    cast-out
-    add-out
-    add-out-2
-    slice-write-out
-    loop-less
-    loop-again
-    same-length
-    returns)
+    (tie.spec Inv-loop μ-loop loop-holds (λ c. search needs) cast-out add-out (λ c. omega arith) (λ c. omega arith)
+    (λ c. omega arith) loop-again same-length returns)

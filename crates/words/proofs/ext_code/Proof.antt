@@ -5,18 +5,6 @@ use mathlib.Core.Path.{ap, sym}
 use Rattle.words.proofs.ext_code.Statement.{statement}
 use Rattle.words.proofs.ext_code.Tie as tie
 
-enum-told : tie.Need-enum-told
-enum-told c = search needs
-
-enum-told-2 : tie.Need-enum-told-2
-enum-told-2 c = search needs
-
-enum-told-3 : tie.Need-enum-told-3
-enum-told-3 c = search needs
-
-enum-told-4 : tie.Need-enum-told-4
-enum-told-4 c = search needs
-
 returns : tie.Need-returns
 unfolding extCode
 returns c = sym (ap extCode (c .enum-told .given .1))
@@ -34,4 +22,7 @@ unfolding extCode
 returns-4 c = sym (ap extCode (c .enum-told4 .given .1))
 
 pub ext-code-spec : {M : Type 1} → statement M
-ext-code-spec = tie.close (tie.spec enum-told enum-told-2 enum-told-3 enum-told-4 returns returns-2 returns-3 returns-4)
+ext-code-spec =
+    tie.close
+    (tie.spec (λ c. search needs) (λ c. search needs) (λ c. search needs) (λ c. search needs) returns returns-2 returns-3
+    returns-4)

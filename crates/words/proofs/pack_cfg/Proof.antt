@@ -4,23 +4,10 @@ use borrow.Author.Needs.{needs}
 use Rattle.words.proofs.pack_cfg.Statement.{statement}
 use Rattle.words.proofs.pack_cfg.Tie as tie
 
-cast-t2 : tie.Need-cast-t2
-cast-t2 c = search needs
-
-cast-t3 : tie.Need-cast-t3
-cast-t3 c = search needs
-
-cast-t4 : tie.Need-cast-t4
-cast-t4 c = search needs
-
-cast-t5 : tie.Need-cast-t5
-cast-t5 c = search needs
-
-cast-t6 : tie.Need-cast-t6
-cast-t6 c = search needs
-
 returns : tie.Need-returns
 returns c = cfg _ (search needs) (search needs)
 
 pub pack-cfg-spec : {M : Type 1} → statement M
-pack-cfg-spec = tie.close (tie.spec cast-t2 cast-t3 cast-t4 cast-t5 cast-t6 returns)
+pack-cfg-spec =
+    tie.close
+    (tie.spec (λ c. search needs) (λ c. search needs) (λ c. search needs) (λ c. search needs) (λ c. search needs) returns)

@@ -4,30 +4,6 @@ use borrow.Author.Needs.{needs}
 use Rattle.clk.proofs.ClockTree.is_good.Statement.{statement}
 use Rattle.clk.proofs.ClockTree.is_good.Tie as tie
 
-is-positive-requires : tie.Need-is-positive-requires
-is-positive-requires c κs = search needs
-
-is-positive-requires-2 : tie.Need-is-positive-requires-2
-is-positive-requires-2 c κs = search needs
-
-in-range-requires : tie.Need-in-range-requires
-in-range-requires c κs = search needs
-
-in-range-requires-2 : tie.Need-in-range-requires-2
-in-range-requires-2 c κs = search needs
-
-in-range-requires-3 : tie.Need-in-range-requires-3
-in-range-requires-3 c κs = search needs
-
-in-range-requires-4 : tie.Need-in-range-requires-4
-in-range-requires-4 c κs = search needs
-
-in-range-requires-5 : tie.Need-in-range-requires-5
-in-range-requires-5 c κs = search needs
-
-in-range-requires-6 : tie.Need-in-range-requires-6
-in-range-requires-6 c κs = search needs
-
 returns : tie.Need-returns
 unfolding good
 returns c =
@@ -45,13 +21,5 @@ returns c =
 pub is-good-spec : {M : Type 1} → statement M
 is-good-spec =
     tie.close
-    (tie.spec
-    is-positive-requires
-    is-positive-requires-2
-    in-range-requires
-    in-range-requires-2
-    in-range-requires-3
-    in-range-requires-4
-    in-range-requires-5
-    in-range-requires-6
-    returns)
+    (tie.spec (λ c κs. search needs) (λ c κs. search needs) (λ c κs. search needs) (λ c κs. search needs) (λ c κs. search needs)
+    (λ c κs. search needs) (λ c κs. search needs) (λ c κs. search needs) returns)

@@ -5,12 +5,6 @@ use borrow.Author.Needs.{needs}
 use Rattle.nvic.proofs.Line.state.Statement.{statement}
 use Rattle.nvic.proofs.Line.state.Tie as tie
 
-cast-high : tie.Need-cast-high
-cast-high c = search needs
-
-cast-pending : tie.Need-cast-pending
-cast-pending c = search needs
-
 mul-result : tie.Need-mul-result
 mul-result c = omega (arith, flag-le (c .before .before .args .self .pending))
 
@@ -21,4 +15,4 @@ returns : tie.Need-returns
 returns c = flags (c .before .before .args .self .high) (c .before .before .args .self .pending)
 
 pub state-spec : {M : Type 1} → statement M
-state-spec = tie.close (tie.spec cast-high cast-pending mul-result add-result returns)
+state-spec = tie.close (tie.spec (λ c. search needs) (λ c. search needs) mul-result add-result returns)

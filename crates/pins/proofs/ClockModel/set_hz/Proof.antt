@@ -6,11 +6,8 @@ use Rattle.pins.proofs.ClockModel.set_hz.Tie as tie
 returns : tie.Need-returns
 returns c = rw (c .if1 .taken)
 
-time-at-requires : tie.Need-time-at-requires
-time-at-requires c κs = search needs
-
 returns-2 : tie.Need-returns-2
 returns-2 c = rw (c .before .if1 .left, c .time-at .ensures)
 
 pub set-hz-spec : {M : Type 1} → statement M
-set-hz-spec = tie.close (tie.spec returns time-at-requires returns-2)
+set-hz-spec = tie.close (tie.spec returns (λ c κs. search needs) returns-2)

@@ -3,14 +3,8 @@ use borrow.Author.Needs.{needs}
 use Rattle.pins.proofs.ClockModel.time_at.Statement.{statement}
 use Rattle.pins.proofs.ClockModel.time_at.Tie as tie
 
-nearest-requires : tie.Need-nearest-requires
-nearest-requires c κs = search needs
-
-nearest-requires-2 : tie.Need-nearest-requires-2
-nearest-requires-2 c κs = search needs
-
 returns : tie.Need-returns
 returns c = rw (c .before .before .nearest2 .ensures, c .before .before .before .nearest .ensures)
 
 pub time-at-spec : {M : Type 1} → statement M
-time-at-spec = tie.close (tie.spec nearest-requires nearest-requires-2 returns)
+time-at-spec = tie.close (tie.spec (λ c κs. search needs) (λ c κs. search needs) returns)

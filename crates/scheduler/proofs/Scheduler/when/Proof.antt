@@ -8,16 +8,10 @@ use borrow.Author.Needs.{needs}
 use Rattle.scheduler.proofs.Scheduler.when.Statement.{statement}
 use Rattle.scheduler.proofs.Scheduler.when.Tie as tie
 
-mul-result : tie.Need-mul-result
-mul-result c = search needs
-
-array-read-result : tie.Need-array-read-result
-array-read-result c = search needs
-
 returns : tie.Need-returns
 returns c =
     let e : length (c .before .args .self .cycles) ≡ 8 = sized (c .before .args .self .cycles) (c .before .good .0 .1 .1 .0 .1 .0 .1) in
     read-at (c .before .args .self .cycles) (c .before .args .owner) 0 never (omega arith)
 
 pub when-spec : {M : Type 1} → statement M
-when-spec = tie.close (tie.spec mul-result array-read-result returns)
+when-spec = tie.close (tie.spec (λ c. search needs) (λ c. search needs) returns)

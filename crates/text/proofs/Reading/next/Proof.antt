@@ -5,29 +5,17 @@ use borrow.Author.Tests.{eq-eqb, le-ltb, lt-ltb, ne-eqb}
 use Rattle.text.proofs.Reading.next.Statement.{statement}
 use Rattle.text.proofs.Reading.next.Tie as tie
 
-first-requires : tie.Need-first-requires
-first-requires c κs = search needs
-
 returns : tie.Need-returns
 unfolding nextOf
 returns c = rw (eq-eqb _ _ (c .before .if1 .taken)) (c .first .ensures)
-
-second-requires : tie.Need-second-requires
-second-requires c κs = search needs
 
 returns-2 : tie.Need-returns-2
 unfolding nextOf
 returns-2 c = rw (ne-eqb _ _ (c .before .before .if1 .left), eq-eqb _ _ (c .before .if2 .taken)) (c .second .ensures)
 
-more-requires : tie.Need-more-requires
-more-requires c κs = search needs
-
 returns-3 : tie.Need-returns-3
 unfolding nextOf
 returns-3 c = rw (ne-eqb _ _ (c .before .before .before .if1 .left), ne-eqb _ _ (c .before .before .if2 .left), lt-ltb _ _ (c .before .if3 .taken)) (c .more .ensures)
-
-large-requires : tie.Need-large-requires
-large-requires c κs = search needs
 
 returns-4 : tie.Need-returns-4
 unfolding nextOf
@@ -40,13 +28,5 @@ returns-5 c = rw (ne-eqb _ _ (c .before .before .before .if1 .left), ne-eqb _ _ 
 pub next-spec : {M : Type 1} → statement M
 next-spec =
     tie.close
-    (tie.spec
-    first-requires
-    returns
-    second-requires
-    returns-2
-    more-requires
-    returns-3
-    large-requires
-    returns-4
-    returns-5)
+    (tie.spec (λ c κs. search needs) returns (λ c κs. search needs) returns-2 (λ c κs. search needs) returns-3
+    (λ c κs. search needs) returns-4 returns-5)
