@@ -18,20 +18,9 @@ use Rattle.gpio.specs.declared.Change.the-variants.{Same, Level}
 use Rattle.book.specs.Book.{Changes, Entry, entryOf, entriesOf}
 use Rattle.machine.specs.Board.{Pads}
 use Rattle.machine.specs.Deliver.{Turn, turn, turnOf, Run, run, stop, after, dueBy}
+use Rattle.machine.specs.Demand1.{Every, StampedAt, StampedBy, afterEvents, AllDue, dueCycle, dueCycles, stamps}
 
 -- ---- entries
-
--- each entry of a list is as P says
-unfoldable pub Every : (Entry → Type 0) → List Entry → Type 0
-Every P [] = Unit {0}
-Every P (e ∷ es) = P e × Every P es
-
--- "stamped": an entry of that cycle; one no later than it
-abbrev pub StampedAt : ℕ → Entry → Type 0
-StampedAt at e = e .cycle ≡ at
-
-abbrev pub StampedBy : ℕ → Entry → Type 0
-StampedBy now e = e .cycle ≤ now
 
 pub every-none : (P : Entry → Type 0) → Every P []
 unfolding Every
@@ -93,53 +82,26 @@ turnOf-stamped t p Stopped div now h = tt
 
 -- ---- the events of a delivery, one after the other
 
--- n events, each at its due cycle: the timer and the pads after them, and their entries joined
-unfoldable pub turned : ℕ → ℕ → Timer → Pads → Turn
-turned zero div t p = record { timer = t; pads = p; entries = [] }
-turned (suc n) div t p =
-    let s = turnOf t p (nextEvent t) div in
-    let r = turned n div (s .timer) (s .pads) in
-    record { timer = r .timer; pads = r .pads; entries = s .entries ++ r .entries }
-
--- each of the n events was due by now
-unfoldable pub AllDue : ℕ → ℕ → ℕ → Timer → Pads → Type 0
-AllDue zero now div t p = Unit {0}
-AllDue (suc n) now div t p =
-    let s = turnOf t p (nextEvent t) div in (dueBy (nextEvent t) now ≡ true) × AllDue n now div (s .timer) (s .pads)
-
--- the cycles of n events' entries: for each entry the due cycle of the event that made it
-abbrev pub dueCycle : Due → ℕ
-dueCycle (At at e) = at
-dueCycle Stopped = 0
-
-unfoldable pub dueCycles : ℕ → ℕ → Timer → Pads → List ℕ
-dueCycles zero div t p = []
-dueCycles (suc n) div t p =
-    let s = turnOf t p (nextEvent t) div in replicate (length (s .entries)) (dueCycle (nextEvent t)) ++ dueCycles n div (s .timer) (s .pads)
-
-abbrev pub cyclesOf : List Entry → List ℕ
-cyclesOf es = map (λ (e : Entry). e .cycle) es
-
-all-at : (at : ℕ) (es : List Entry) → Every (StampedAt at) es → cyclesOf es ≡ replicate (length es) at
+all-at : (at : ℕ) (es : List Entry) → Every (StampedAt at) es → stamps es ≡ replicate (length es) at
 unfolding Every
 all-at at [] h = refl
 all-at at (e ∷ es) h = rw (h .0, all-at at es (h .1)) refl
 
-turnOf-cycles : (t : Timer) (p : Pads) (d : Due) (div : ℕ) → cyclesOf (turnOf t p d div .entries) ≡ replicate (length (turnOf t p d div .entries)) (dueCycle d)
+turnOf-cycles : (t : Timer) (p : Pads) (d : Due) (div : ℕ) → stamps (turnOf t p d div .entries) ≡ replicate (length (turnOf t p d div .entries)) (dueCycle d)
 turnOf-cycles t p (At at e) div = all-at at (turn t p e at div .entries) (turn-stamped t p e at div)
 turnOf-cycles t p Stopped div = refl
 
-cycles-append : (xs ys : List Entry) → cyclesOf (xs ++ ys) ≡ cyclesOf xs ++ cyclesOf ys
+cycles-append : (xs ys : List Entry) → stamps (xs ++ ys) ≡ stamps xs ++ stamps ys
 cycles-append [] ys = refl
 cycles-append (x ∷ xs) ys = ap (λ (l : List ℕ). x .cycle ∷ l) (cycles-append xs ys)
 
-pub turned-cycles : (n div : ℕ) (t : Timer) (p : Pads) → cyclesOf (turned n div t p .entries) ≡ dueCycles n div t p
-unfolding turned dueCycles
+pub turned-cycles : (n div : ℕ) (t : Timer) (p : Pads) → stamps (afterEvents n div t p .entries) ≡ dueCycles n div t p
+unfolding afterEvents dueCycles
 turned-cycles zero div t p = refl
 turned-cycles (suc n) div t p =
     let s = turnOf t p (nextEvent t) div in
-    cycles-append (s .entries) (turned n div (s .timer) (s .pads) .entries)
-    ∙ ap (λ (l : List ℕ). l ++ cyclesOf (turned n div (s .timer) (s .pads) .entries)) (turnOf-cycles t p (nextEvent t) div)
+    cycles-append (s .entries) (afterEvents n div (s .timer) (s .pads) .entries)
+    ∙ ap (λ (l : List ℕ). l ++ stamps (afterEvents n div (s .timer) (s .pads) .entries)) (turnOf-cycles t p (nextEvent t) div)
     ∙ ap (λ (l : List ℕ). replicate (length (s .entries)) (dueCycle (nextEvent t)) ++ l) (turned-cycles n div (s .timer) (s .pads))
 
 abbrev pub turnPart : Run → Turn
@@ -148,7 +110,7 @@ turnPart r = record { timer = r .timer; pads = r .pads; entries = r .entries }
 -- what a delivery of at most so many events, with so many places, gives
 pub record Delivery (most now div left : ℕ) (t : Timer) (p : Pads) (r : Run) : Type 0 where
   -- it leaves the state that its events make, one after the other, and their entries joined: neither fewer events than it counts, nor others
-  pub state : turnPart r ≡ turned (r .events) div t p
+  pub state : turnPart r ≡ afterEvents (r .events) div t p
   pub all-due : AllDue (r .events) now div t p
   -- "A delivery stops when nothing is due (0), or with more due (8)"
   pub answer : r .number ≡ cond (dueBy (nextEvent (r .timer)) now) 8 0
@@ -161,7 +123,7 @@ pub record Delivery (most now div left : ℕ) (t : Timer) (p : Pads) (r : Run) :
 
 stop-law : (most now div left : ℕ) (t : Timer) (p : Pads) (due : Bool) → dueBy (nextEvent t) now ≡ due → (due ≡ true → min most (left / 4) ≤ 0)
     → Delivery most now div left t p (stop t p (cond due 8 0))
-unfolding turned AllDue Every
+unfolding afterEvents AllDue Every
 stop-law most now div left t p due e w = record {
   state = refl;
   all-due = tt;
@@ -181,7 +143,7 @@ after-law : (most now div left : ℕ) (t : Timer) (p : Pads) (s : Turn) (r : Run
     → Every (StampedBy now) (s .entries)
     → Delivery most now div (left - length (s .entries)) (s .timer) (s .pads) r
     → Delivery (suc most) now div left t p (after (s .entries) r)
-unfolding turned AllDue
+unfolding afterEvents AllDue
 after-law most now div left t p s r q d l f st h = record {
   state = rw (add-one, ← q, ← h .state) refl;
   all-due = rw (add-one, ← q) (d, h .all-due);

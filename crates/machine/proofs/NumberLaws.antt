@@ -1,13 +1,13 @@
 -- Every call is its refusals, in order, and then what it does: the laws behind Numbers. Assumes nothing.
-use mathlib.Core.Path.{_≡_, refl, ap}
-use mathlib.Core.Bool.{Bool, true, false, cond, _&&_, _||_}
+use mathlib.Core.Path.{_≡_, refl, ap, sym, _∙_}
+use mathlib.Core.Bool.{Bool, true, false, cond, not, _&&_, _||_}
 use mathlib.Core.List.{List, [], _∷_}
 use mathlib.Core.Logic.{_⊎_, inl, inr}
 use Prim.Native.Nat.{ℕ, zero, suc, _+_, _≤_, _<_}
 use native.Mathlib.Omega.{arith}
 use lib.Dec.{eqb, ltb, leb, lit≤}
 use lib.ListN.{length, set, length-append}
-use borrow.Author.Tests.{ltb-true, ltb-false, leb-true, eqb-true, eq-eqb}
+use borrow.Author.Tests.{ltb-true, ltb-false, leb-true, eqb-true, eqb-false, eq-eqb, leb-false, not-true, not-false}
 use Rattle.regs.specs.declared.Written.{Written}
 use Rattle.tim.specs.Next.{nextEvent}
 use Rattle.regs.specs.Regs as R
@@ -22,10 +22,11 @@ use Rattle.book.specs.Book.{Entry, entryOf}
 use Rattle.machine.specs.Board.{Board, timerAt, gpioAt, withClocks, withNvic, withLast, freshBoard}
 use Rattle.machine.specs.Sys as Sys
 use Rattle.machine.specs.Deliver.{dividerOf, delivered, mostEvents, dueBy}
-use Rattle.machine.specs.Call.{Call, setUp, clockTree, enable, setPin, drivePin, resetPins, read, write, peek, resetTimer, deliver, queryBooked, queryNext, queryLevel, queryVolts, queryLine, queryTime, clearPending, Outcome, refused, served}
-use Rattle.machine.specs.Step.{step, treeSet, moved, cfgOf, pinsReset, changesOf, clockOn, register, written, followed, timerReset, deliveredTo}
-use Rattle.machine.specs.Refusals.{Refusal, _when_, refusals, applies, holds, first, rises, ending, isDelivery, lent, bookCycle, most, lastAfter}
-use Rattle.machine.proofs.DeliverLaws.{Delivery, run-law, Every, every-none, every-append, StampedAt, entry-stamped, entries-stamped, entry-few, entries-few}
+use Rattle.machine.specs.Call.{Setup, Question, reading, peeking, booked, next, level, volts, line, time, BookCall, pinSetting, outsideDrive, pinReset, writing, resetting, delivery, Call, setUp, clockTree, enable, clearPending, ask, lend, isDelivery, lent, bookCycle, Outcome, refused, served, isRefusal}
+use Rattle.machine.specs.Step.{step, withinLimits, treeSet, moved, cfgOf, pinsReset, changesOf, clockOn, written, followed, timerReset, deliveredTo, asking, told}
+use Rattle.machine.specs.Refusals.{Refusal, _when_, noSuchIndex, ofQuestion, refusals, order, inOrder, placeIn, applies, holds, first, ending, most, lastAfter}
+use Rattle.machine.specs.Demand1.{Every, StampedAt}
+use Rattle.machine.proofs.DeliverLaws.{Delivery, run-law, every-none, every-append, entry-stamped, entries-stamped, entry-few, entries-few}
 
 -- ---- refusals in order, then what follows
 
@@ -33,49 +34,63 @@ unfoldable pub given : List Refusal → Board → Outcome → Outcome
 given [] b o = o
 given ((n when t) ∷ rs) b o = cond t (refused n b) (given rs b o)
 
--- either the first number that applies is given, from 1 to 7, or nothing applies
+-- either the first number that applies is given, a refusal, or nothing applies
 pub data Verdict (rs : List Refusal) (b : Board) (o : Outcome) : Type 0 where
-  refuses : (n : ℕ) → 1 ≤ n → n ≤ 7 → first rs ≡ n → applies rs ≡ true → given rs b o ≡ refused n b → Verdict rs b o
+  refuses : (n : ℕ) → 1 ≤ n → isRefusal n ≡ true → first rs ≡ n → applies rs ≡ true → given rs b o ≡ refused n b → Verdict rs b o
   passes : first rs ≡ 0 → applies rs ≡ false → given rs b o ≡ o → Verdict rs b o
 
 pub both : (a b : Bool) → (a && b) ≡ true → (a ≡ true) × (b ≡ true)
 both true b h = (refl, h)
 both false b h = (h, cc)
 
-pub verdict : (low : ℕ) (rs : List Refusal) (b : Board) (o : Outcome) → rises low rs ≡ true → Verdict rs b o
-unfolding given first applies rises
-verdict low [] b o h = passes refl refl refl
-verdict low ((n when true) ∷ rs) b o h =
-    refuses n (omega (arith, ltb-true low n (both (ltb low n) _ h .0))) (leb-true n 7 (both (leb n 7) (rises n rs) (both (ltb low n) _ h .1) .0)) refl refl refl
-verdict low ((n when false) ∷ rs) b o h =
-    on (verdict n rs b o (both (leb n 7) (rises n rs) (both (ltb low n) (leb n 7 && rises n rs) h .1) .1))
+-- ---- refusals are neither 0 nor 8
+
+pub refusal-positive : (n : ℕ) → isRefusal n ≡ true → 1 ≤ n
+refusal-positive n h = go (eqb n 0) refl h
+  where
+    go : (t : Bool) → eqb n 0 ≡ t → not (t || eqb n 8) ≡ true → 1 ≤ n
+    go true e h = let z : _≡_ {A = ℕ} 0 1 = cc in absurd (omega arith)
+    go false e h = let z = eqb-false n 0 e in omega arith
+
+pub refusal-nonzero : (n : ℕ) → isRefusal n ≡ true → n ≡ 0 → ⊥
+refusal-nonzero n h e = omega (arith, refusal-positive n h)
+
+pub no-both : (t : Bool) → t ≡ true → t ≡ false → ⊥
+no-both t p q = let z : _≡_ {A = ℕ} 0 1 = cc in omega arith
+
+-- ---- a list in order
+
+-- each number of an order is a refusal
+unfoldable pub allRefusals : List ℕ → Bool
+allRefusals [] = true
+allRefusals (o ∷ os) = isRefusal o && allRefusals os
+
+-- a list in order: its first number is a refusal, and the rest is in order
+pub record Behind (n : ℕ) (rs : List Refusal) : Type 0 where
+  pub refusal : isRefusal n ≡ true
+  pub rest : List ℕ
+  pub refusals : allRefusals rest ≡ true
+  pub ordered : inOrder rest rs ≡ true
+
+pub behind : (os : List ℕ) (n : ℕ) (t : Bool) (rs : List Refusal) → allRefusals os ≡ true → inOrder os ((n when t) ∷ rs) ≡ true → Behind n rs
+unfolding inOrder allRefusals
+behind [] n t rs a h = absurd (no-both false h refl)
+behind (o ∷ os) n t rs a h = go (eqb o n) refl h (both (isRefusal o) (allRefusals os) a) (behind os n t rs)
+  where
+    go : (e : Bool) → eqb o n ≡ e → cond e (inOrder os rs) (inOrder os ((n when t) ∷ rs)) ≡ true → (isRefusal o ≡ true) × (allRefusals os ≡ true)
+        → (allRefusals os ≡ true → inOrder os ((n when t) ∷ rs) ≡ true → Behind n rs) → Behind n rs
+    go true e h a i = record { refusal = rw (sym (eqb-true o n e)) (a .0); rest = os; refusals = a .1; ordered = h }
+    go false e h a i = i (a .1) h
+
+pub verdict : (os : List ℕ) (rs : List Refusal) (b : Board) (o : Outcome) → allRefusals os ≡ true → inOrder os rs ≡ true → Verdict rs b o
+unfolding given first applies
+verdict os [] b o a h = passes refl refl refl
+verdict os ((n when true) ∷ rs) b o a h = let r = behind os n true rs a h in refuses n (refusal-positive n (r .refusal)) (r .refusal) refl refl refl
+verdict os ((n when false) ∷ rs) b o a h = let r = behind os n false rs a h in on (verdict (r .rest) rs b o (r .refusals) (r .ordered))
   where
     on : Verdict rs b o → Verdict ((n when false) ∷ rs) b o
     on (refuses m l u e a g) = refuses m l u e a g
     on (passes e a g) = passes e a g
-
--- a number on the list is above the low one; the first that applies is the least that does, and applies
-above : (low n : ℕ) (rs : List Refusal) → rises low rs ≡ true → holds n rs ≡ true → low < n
-unfolding rises holds
-above low n [] r h = let z : _≡_ {A = ℕ} 0 1 = cc in absurd (omega arith)
-above low n ((m when false) ∷ rs) r h =
-    let q = both (ltb low m) _ r in omega (arith, ltb-true low m (q .0), above m n rs (both (leb m 7) _ (q .1) .1) h)
-above low n ((m when true) ∷ rs) r h =
-    let q = both (ltb low m) _ r in go (eqb m n) refl h (ltb-true low m (q .0)) (above m n rs (both (leb m 7) _ (q .1) .1))
-  where
-    go : (e : Bool) → eqb m n ≡ e → (e || holds n rs) ≡ true → low < m → (holds n rs ≡ true → m < n) → low < n
-    go true e h l f = omega (arith, eqb-true m n e)
-    go false e h l f = omega (arith, f h)
-
-pub first-least : (low n : ℕ) (rs : List Refusal) → rises low rs ≡ true → holds n rs ≡ true → first rs ≤ n
-unfolding rises holds first
-first-least low n [] r h = omega arith
-first-least low n ((m when false) ∷ rs) r h = first-least m n rs (both (leb m 7) _ (both (ltb low m) _ r .1) .1) h
-first-least low n ((m when true) ∷ rs) r h = go (eqb m n) refl h (above m n rs (both (leb m 7) _ (both (ltb low m) _ r .1) .1))
-  where
-    go : (e : Bool) → eqb m n ≡ e → (e || holds n rs) ≡ true → (holds n rs ≡ true → m < n) → m ≤ n
-    go true e h f = omega (arith, eqb-true m n e)
-    go false e h f = omega (arith, f h)
 
 pub holds-applies : (n : ℕ) (rs : List Refusal) → holds n rs ≡ true → applies rs ≡ true
 unfolding holds applies
@@ -89,81 +104,157 @@ first-holds [] h = h
 first-holds ((m when true) ∷ rs) h = rw (eq-eqb m m refl) refl
 first-holds ((m when false) ∷ rs) h = first-holds rs h
 
+-- ---- the first that applies stands before every other that does
+
+unfoldable pub among : ℕ → List ℕ → Bool
+among n [] = false
+among n (o ∷ os) = eqb o n || among n os
+
+-- no number twice
+unfoldable pub once : List ℕ → Bool
+once [] = true
+once (o ∷ os) = not (among o os) && once os
+
+same-number : (a b n : ℕ) → eqb a b ≡ true → eqb a n ≡ eqb b n
+same-number a b n e = ap (λ (k : ℕ). eqb k n) (eqb-true a b e)
+
+-- a number of a list in order is one of the order
+held-among : (os : List ℕ) (n : ℕ) (rs : List Refusal) → inOrder os rs ≡ true → holds n rs ≡ true → among n os ≡ true
+unfolding inOrder holds among
+held-among os n [] r h = absurd (no-both false h refl)
+held-among [] n (x ∷ rs) r h = absurd (no-both false r refl)
+held-among (o ∷ os) n ((m when t) ∷ rs) r h =
+    go (eqb o m) refl (eqb o n) refl r h (held-among os n rs) (held-among os n ((m when t) ∷ rs))
+  where
+    rest : (t e : Bool) → e ≡ false → ((t && e) || holds n rs) ≡ true → holds n rs ≡ true
+    rest true e z h = rw z at h
+    rest false e z h = h
+
+    go : (e : Bool) → eqb o m ≡ e → (f : Bool) → eqb o n ≡ f → cond e (inOrder os rs) (inOrder os ((m when t) ∷ rs)) ≡ true
+        → ((t && eqb m n) || holds n rs) ≡ true → (inOrder os rs ≡ true → holds n rs ≡ true → among n os ≡ true)
+        → (inOrder os ((m when t) ∷ rs) ≡ true → holds n ((m when t) ∷ rs) ≡ true → among n os ≡ true) → (f || among n os) ≡ true
+    go e p true q r h i j = refl
+    go true p false q r h i j = i r (rest t (eqb m n) (sym (same-number o m n p) ∙ q) h)
+    go false p false q r h i j = j r h
+
+-- a number further on in the order stands behind
+further : (o n f : ℕ) (os : List ℕ) → once (o ∷ os) ≡ true → among n os ≡ true → placeIn os f ≤ placeIn os n → placeIn (o ∷ os) f ≤ placeIn (o ∷ os) n
+unfolding once placeIn
+further o n f os a h l = go (eqb o n) refl (eqb o f) (not-true (among o os) (both (not (among o os)) (once os) a .0))
+  where
+    go : (e : Bool) → eqb o n ≡ e → (g : Bool) → among o os ≡ false → cond g 0 (suc (placeIn os f)) ≤ cond e 0 (suc (placeIn os n))
+    go true e g z = absurd (no-both (among n os) h (ap (λ (k : ℕ). among k os) (sym (eqb-true o n e)) ∙ z))
+    go false e true z = omega arith
+    go false e false z = omega arith
+
+pub first-before : (os : List ℕ) (n : ℕ) (rs : List Refusal) → once os ≡ true → inOrder os rs ≡ true → holds n rs ≡ true
+    → placeIn os (first rs) ≤ placeIn os n
+unfolding once inOrder holds first placeIn
+first-before os n [] a r h = absurd (no-both false h refl)
+first-before [] n (x ∷ rs) a r h = absurd (no-both false r refl)
+first-before (o ∷ os) n ((m when true) ∷ rs) a r h = go (eqb o m) refl r (first-before os n ((m when true) ∷ rs) (both (not (among o os)) (once os) a .1))
+  where
+    go : (e : Bool) → eqb o m ≡ e → cond e (inOrder os rs) (inOrder os ((m when true) ∷ rs)) ≡ true
+        → (inOrder os ((m when true) ∷ rs) ≡ true → holds n ((m when true) ∷ rs) ≡ true → placeIn os m ≤ placeIn os n)
+        → cond (eqb o m) 0 (suc (placeIn os m)) ≤ cond (eqb o n) 0 (suc (placeIn os n))
+    go true e r i = rw e (omega arith)
+    go false e r i = further o n m os a (held-among os n ((m when true) ∷ rs) r h) (i r h)
+first-before (o ∷ os) n ((m when false) ∷ rs) a r h =
+    go (eqb o m) refl r (first-before os n rs (both (not (among o os)) (once os) a .1)) (first-before os n ((m when false) ∷ rs) (both (not (among o os)) (once os) a .1))
+  where
+    go : (e : Bool) → eqb o m ≡ e → cond e (inOrder os rs) (inOrder os ((m when false) ∷ rs)) ≡ true
+        → (inOrder os rs ≡ true → holds n rs ≡ true → placeIn os (first rs) ≤ placeIn os n)
+        → (inOrder os ((m when false) ∷ rs) ≡ true → holds n ((m when false) ∷ rs) ≡ true → placeIn os (first rs) ≤ placeIn os n)
+        → cond (eqb o (first rs)) 0 (suc (placeIn os (first rs))) ≤ cond (eqb o n) 0 (suc (placeIn os n))
+    go true e r i j = further o n (first rs) os a (held-among os n rs r h) (i r h)
+    go false e r i j = further o n (first rs) os a (held-among os n ((m when false) ∷ rs) r h) (j r h)
+
+pub order-once : once order ≡ true
+unfolding once among
+order-once = refl
+
 -- ---- what each call does where nothing refuses it
+
+abbrev pub bookPerformed : Board → BookCall → ℕ → ℕ → Outcome
+bookPerformed b (pinSetting pin mode openDrain out pullup pulldown function) cycle places =
+    moved b cycle (Sys.setPin (b .pads) pin (cfgOf mode openDrain out pullup pulldown) function)
+bookPerformed b (outsideDrive pin e) cycle places = moved b cycle (Sys.drivePin (b .pads) pin e)
+bookPerformed b pinReset cycle places = pinsReset b cycle
+bookPerformed b (writing timer offset size value) cycle places =
+    cond (clockOn b (timerAt b timer)) (followed b timer cycle (written b (timerAt b timer) offset size value cycle)) (served 0 (withLast b cycle))
+bookPerformed b (resetting timer) cycle places = timerReset b timer cycle
+bookPerformed b (delivery timer) cycle places = deliveredTo b timer cycle places
 
 unfoldable pub performed : Board → Call → Outcome
 performed b (setUp s) = served 0 (freshBoard (s .hz) (s .vcc) (s .pins) (s .lines) (s .timers) (s .table))
 performed b (clockTree t cycle) = served 0 (withLast (treeSet b t cycle) cycle)
 performed b (enable word value) =
     served 0 (withClocks b (record { tree = b .clocks .tree; clock = b .clocks .clock; enr = set (b .clocks .enr) word value }))
-performed b (setPin pin mode openDrain out pullup pulldown function cycle places) =
-    moved b cycle (Sys.setPin (b .pads) pin (cfgOf mode openDrain out pullup pulldown) function)
-performed b (drivePin pin e cycle places) = moved b cycle (Sys.drivePin (b .pads) pin e)
-performed b (resetPins cycle places) = pinsReset b cycle
-performed b (read timer offset size cycle) =
-    served (cond (clockOn b (timerAt b timer)) (laneRead (R.regRead (timerAt b timer) (register offset) cycle) offset size) 0) b
-performed b (write timer offset size value cycle places) =
-    cond (clockOn b (timerAt b timer)) (followed b timer cycle (written b (timerAt b timer) offset size value cycle)) (served 0 (withLast b cycle))
-performed b (peek timer offset cycle) = served (R.regRead (timerAt b timer) (register offset) cycle) b
-performed b (resetTimer timer cycle places) = timerReset b timer cycle
-performed b (deliver timer cycle places) = deliveredTo b timer cycle places
-performed b (queryBooked timer) = served (S.cycleOf (b .booking) timer) b
-performed b queryNext = served (S.least (b .booking)) b
-performed b (queryLevel pin) = served (gpioAt (b .pads) pin .pin .level) b
-performed b (queryVolts pin) = served (bitsOf (gpioAt (b .pads) pin .pin .volts)) b
-performed b (queryLine irq) = served (N.stateOf (N.lineAt (b .nvic) irq)) b
-performed b (queryTime cycle) = served (bitsOf (Clock.timeAt (b .clocks .clock) cycle)) b
 performed b (clearPending irq) = served 0 (withNvic b (N.clearPending (b .nvic) irq))
+performed b (ask q) = served (told b q) b
+performed b (lend k cycle places) = bookPerformed b k cycle places
 
 -- a gate before a test is a test of both
 gated : {A : Type 0} (on test : Bool) (r f s : A) → cond on (cond test r f) s ≡ cond (on && test) r (cond on f s)
 gated true test r f s = refl
 gated false test r f s = refl
 
+asked-given : (b : Board) (q : Question) (o : Outcome) → asking b q o ≡ given (ofQuestion b q) b o
+unfolding given
+asked-given b (reading timer offset size cycle) o = refl
+asked-given b (peeking timer offset cycle) o = refl
+asked-given b (booked timer) o = refl
+asked-given b next o = refl
+asked-given b (level pin) o = refl
+asked-given b (volts pin) o = refl
+asked-given b (line irq) o = refl
+asked-given b (time cycle) o = refl
+
 pub step-given : (b : Board) (c : Call) → step b c ≡ given (refusals b c) b (performed b c)
 unfolding step given refusals performed
 step-given b (setUp s) = refl
 step-given b (clockTree t cycle) = refl
 step-given b (enable word value) = refl
-step-given b (setPin pin mode openDrain out pullup pulldown function cycle places) = refl
-step-given b (drivePin pin e cycle places) = refl
-step-given b (resetPins cycle places) = refl
-step-given b (read timer offset size cycle) = refl
-step-given b (write timer offset size value cycle places) = rw gated refl
-step-given b (peek timer offset cycle) = refl
-step-given b (resetTimer timer cycle places) = refl
-step-given b (deliver timer cycle places) = refl
-step-given b (queryBooked timer) = refl
-step-given b queryNext = refl
-step-given b (queryLevel pin) = refl
-step-given b (queryVolts pin) = refl
-step-given b (queryLine irq) = refl
-step-given b (queryTime cycle) = refl
 step-given b (clearPending irq) = refl
+step-given b (ask q) = asked-given b q (served (told b q) b)
+step-given b (lend (pinSetting pin mode openDrain out pullup pulldown function) cycle places) = refl
+step-given b (lend (outsideDrive pin e) cycle places) = refl
+step-given b (lend pinReset cycle places) = refl
+step-given b (lend (writing timer offset size value) cycle places) = rw gated refl
+step-given b (lend (resetting timer) cycle places) = refl
+step-given b (lend (delivery timer) cycle places) = refl
 
-pub numbers-rise : (b : Board) (c : Call) → rises 0 (refusals b c) ≡ true
-unfolding rises refusals
-numbers-rise b (setUp s) = refl
-numbers-rise b (clockTree t cycle) = refl
-numbers-rise b (enable word value) = refl
-numbers-rise b (setPin pin mode openDrain out pullup pulldown function cycle places) = refl
-numbers-rise b (drivePin pin e cycle places) = refl
-numbers-rise b (resetPins cycle places) = refl
-numbers-rise b (read timer offset size cycle) = refl
-numbers-rise b (write timer offset size value cycle places) = refl
-numbers-rise b (peek timer offset cycle) = refl
-numbers-rise b (resetTimer timer cycle places) = refl
-numbers-rise b (deliver timer cycle places) = refl
-numbers-rise b (queryBooked timer) = refl
-numbers-rise b queryNext = refl
-numbers-rise b (queryLevel pin) = refl
-numbers-rise b (queryVolts pin) = refl
-numbers-rise b (queryLine irq) = refl
-numbers-rise b (queryTime cycle) = refl
-numbers-rise b (clearPending irq) = refl
+asked-order : (b : Board) (q : Question) → inOrder order (ofQuestion b q) ≡ true
+unfolding inOrder
+asked-order b (reading timer offset size cycle) = refl
+asked-order b (peeking timer offset cycle) = refl
+asked-order b (booked timer) = refl
+asked-order b next = refl
+asked-order b (level pin) = refl
+asked-order b (volts pin) = refl
+asked-order b (line irq) = refl
+asked-order b (time cycle) = refl
+
+pub in-order : (b : Board) (c : Call) → inOrder order (refusals b c) ≡ true
+unfolding inOrder refusals
+in-order b (setUp s) = refl
+in-order b (clockTree t cycle) = refl
+in-order b (enable word value) = refl
+in-order b (clearPending irq) = refl
+in-order b (ask q) = asked-order b q
+in-order b (lend (pinSetting pin mode openDrain out pullup pulldown function) cycle places) = refl
+in-order b (lend (outsideDrive pin e) cycle places) = refl
+in-order b (lend pinReset cycle places) = refl
+in-order b (lend (writing timer offset size value) cycle places) = refl
+in-order b (lend (resetting timer) cycle places) = refl
+in-order b (lend (delivery timer) cycle places) = refl
+
+pub order-refuses : allRefusals order ≡ true
+unfolding allRefusals
+order-refuses = refl
 
 pub answered : (b : Board) (c : Call) → Verdict (refusals b c) b (performed b c)
-answered b c = verdict 0 (refusals b c) b (performed b c) (numbers-rise b c)
+answered b c = verdict order (refusals b c) b (performed b c) order-refuses (in-order b c)
 
 -- ---- what holds of each
 
@@ -182,69 +273,56 @@ unfolding performed ending followed timerReset deliveredTo
 performed-number b (setUp s) = refl
 performed-number b (clockTree t cycle) = refl
 performed-number b (enable word value) = refl
-performed-number b (setPin pin mode openDrain out pullup pulldown function cycle places) = refl
-performed-number b (drivePin pin e cycle places) = refl
-performed-number b (resetPins cycle places) = refl
-performed-number b (read timer offset size cycle) = refl
-performed-number b (write timer offset size value cycle places) =
-    either (λ (o : Outcome). o .number ≡ 0) (clockOn b (timerAt b timer)) refl refl
-performed-number b (peek timer offset cycle) = refl
-performed-number b (resetTimer timer cycle places) = refl
-performed-number b (deliver timer cycle places) = delivered-law b timer cycle places .answer
-performed-number b (queryBooked timer) = refl
-performed-number b queryNext = refl
-performed-number b (queryLevel pin) = refl
-performed-number b (queryVolts pin) = refl
-performed-number b (queryLine irq) = refl
-performed-number b (queryTime cycle) = refl
 performed-number b (clearPending irq) = refl
+performed-number b (ask q) = refl
+performed-number b (lend (pinSetting pin mode openDrain out pullup pulldown function) cycle places) = refl
+performed-number b (lend (outsideDrive pin e) cycle places) = refl
+performed-number b (lend pinReset cycle places) = refl
+performed-number b (lend (writing timer offset size value) cycle places) =
+    either (λ (o : Outcome). o .number ≡ 0) (clockOn b (timerAt b timer)) refl refl
+performed-number b (lend (resetting timer) cycle places) = refl
+performed-number b (lend (delivery timer) cycle places) = delivered-law b timer cycle places .answer
 
 pub ending-cases : (b : Board) (c : Call) → (ending b c ≡ 0) ⊎ ((ending b c ≡ 8) × (isDelivery c ≡ true))
 unfolding ending
 ending-cases b (setUp s) = inl refl
 ending-cases b (clockTree t cycle) = inl refl
 ending-cases b (enable word value) = inl refl
-ending-cases b (setPin pin mode openDrain out pullup pulldown function cycle places) = inl refl
-ending-cases b (drivePin pin e cycle places) = inl refl
-ending-cases b (resetPins cycle places) = inl refl
-ending-cases b (read timer offset size cycle) = inl refl
-ending-cases b (write timer offset size value cycle places) = inl refl
-ending-cases b (peek timer offset cycle) = inl refl
-ending-cases b (resetTimer timer cycle places) = inl refl
-ending-cases b (deliver timer cycle places) = go (dueBy (nextEvent (delivered b timer cycle places .timer)) cycle)
+ending-cases b (clearPending irq) = inl refl
+ending-cases b (ask q) = inl refl
+ending-cases b (lend (pinSetting pin mode openDrain out pullup pulldown function) cycle places) = inl refl
+ending-cases b (lend (outsideDrive pin e) cycle places) = inl refl
+ending-cases b (lend pinReset cycle places) = inl refl
+ending-cases b (lend (writing timer offset size value) cycle places) = inl refl
+ending-cases b (lend (resetting timer) cycle places) = inl refl
+ending-cases b (lend (delivery timer) cycle places) = go (dueBy (nextEvent (delivered b timer cycle places .timer)) cycle)
   where
     go : (d : Bool) → (_≡_ {A = ℕ} (cond d 8 0) 0) ⊎ ((_≡_ {A = ℕ} (cond d 8 0) 8) × (true ≡ true))
     go true = inr (refl, refl)
     go false = inl refl
-ending-cases b (queryBooked timer) = inl refl
-ending-cases b queryNext = inl refl
-ending-cases b (queryLevel pin) = inl refl
-ending-cases b (queryVolts pin) = inl refl
-ending-cases b (queryLine irq) = inl refl
-ending-cases b (queryTime cycle) = inl refl
-ending-cases b (clearPending irq) = inl refl
+
+-- what is performed is never answered with a refusal
+pub performed-served : (b : Board) (c : Call) → isRefusal (performed b c .number) ≡ false
+performed-served b c = rw (performed-number b c) (go (ending-cases b c))
+  where
+    go : (ending b c ≡ 0) ⊎ ((ending b c ≡ 8) × (isDelivery c ≡ true)) → isRefusal (ending b c) ≡ false
+    go (inl z) = rw z refl
+    go (inr z) = rw (z .0) refl
 
 pub performed-last : (b : Board) (c : Call) → performed b c .board .counts .last ≡ lastAfter b c
 unfolding performed freshBoard followed timerReset deliveredTo
 performed-last b (setUp s) = refl
 performed-last b (clockTree t cycle) = refl
 performed-last b (enable word value) = refl
-performed-last b (setPin pin mode openDrain out pullup pulldown function cycle places) = refl
-performed-last b (drivePin pin e cycle places) = refl
-performed-last b (resetPins cycle places) = refl
-performed-last b (read timer offset size cycle) = refl
-performed-last b (write timer offset size value cycle places) =
-    either (λ (o : Outcome). o .board .counts .last ≡ cycle) (clockOn b (timerAt b timer)) refl refl
-performed-last b (peek timer offset cycle) = refl
-performed-last b (resetTimer timer cycle places) = refl
-performed-last b (deliver timer cycle places) = refl
-performed-last b (queryBooked timer) = refl
-performed-last b queryNext = refl
-performed-last b (queryLevel pin) = refl
-performed-last b (queryVolts pin) = refl
-performed-last b (queryLine irq) = refl
-performed-last b (queryTime cycle) = refl
 performed-last b (clearPending irq) = refl
+performed-last b (ask q) = refl
+performed-last b (lend (pinSetting pin mode openDrain out pullup pulldown function) cycle places) = refl
+performed-last b (lend (outsideDrive pin e) cycle places) = refl
+performed-last b (lend pinReset cycle places) = refl
+performed-last b (lend (writing timer offset size value) cycle places) =
+    either (λ (o : Outcome). o .board .counts .last ≡ cycle) (clockOn b (timerAt b timer)) refl refl
+performed-last b (lend (resetting timer) cycle places) = refl
+performed-last b (lend (delivery timer) cycle places) = refl
 
 -- ---- entries
 
@@ -272,6 +350,14 @@ pub head-free : (n : ℕ) (t : Bool) (rs : List Refusal) → applies ((n when t)
 unfolding applies
 head-free n t rs h = none t (applies rs) h .0
 
+-- a timer or pin of a call that is not refused is there
+pub here : (i n : ℕ) (rs : List Refusal) → applies (noSuchIndex i n ∷ rs) ≡ false → i < n
+here i n rs h = leb-false n i (head-free 2 (leb n i) rs h)
+
+pub set-up-within : (b : Board) (s : Setup) → applies (refusals b (setUp s)) ≡ false → withinLimits s ≡ true
+unfolding refusals
+set-up-within b s h = not-false (withinLimits s) (head-free 1 (not (withinLimits s)) _ h)
+
 -- nor the second, third, fourth
 third : (n₁ n₂ n₃ : ℕ) (t₁ t₂ t₃ : Bool) (rs : List Refusal) → applies ((n₁ when t₁) ∷ (n₂ when t₂) ∷ (n₃ when t₃) ∷ rs) ≡ false → t₃ ≡ false
 unfolding applies
@@ -295,50 +381,34 @@ unfolding performed timerReset deliveredTo
 performed-few b (setUp s) = omega arith
 performed-few b (clockTree t cycle) = omega arith
 performed-few b (enable word value) = omega arith
-performed-few b (setPin pin mode openDrain out pullup pulldown function cycle places) =
+performed-few b (clearPending irq) = omega arith
+performed-few b (ask q) = omega arith
+performed-few b (lend (pinSetting pin mode openDrain out pullup pulldown function) cycle places) =
     entry-few cycle (Sys.setPin (b .pads) pin (cfgOf mode openDrain out pullup pulldown) function .change)
-performed-few b (drivePin pin e cycle places) =
-    entry-few cycle (Sys.drivePin (b .pads) pin e .change)
-performed-few b (resetPins cycle places) =
+performed-few b (lend (outsideDrive pin e) cycle places) = entry-few cycle (Sys.drivePin (b .pads) pin e .change)
+performed-few b (lend pinReset cycle places) =
     omega (arith, changes-few cycle (Sys.resetPins (b .pads) (b .counts .pins) .changes), resets b)
-performed-few b (read timer offset size cycle) = omega arith
-performed-few b (write timer offset size value cycle places) =
+performed-few b (lend (writing timer offset size value) cycle places) =
     either (λ (o : Outcome). length (o .entries) ≤ 4) (clockOn b (timerAt b timer))
     (followed-few b timer cycle (written b (timerAt b timer) offset size value cycle))
     (lit≤ tt)
-performed-few b (peek timer offset cycle) = omega arith
-performed-few b (resetTimer timer cycle places) =
+performed-few b (lend (resetting timer) cycle places) =
     entries-few cycle (Sys.driveOutputs (resetState (timerAt b timer .inst) (dividerOf b (timerAt b timer))) 0 (b .pads) .changes)
-performed-few b (deliver timer cycle places) =
-    delivered-law b timer cycle places .fits
-performed-few b (queryBooked timer) = omega arith
-performed-few b queryNext = omega arith
-performed-few b (queryLevel pin) = omega arith
-performed-few b (queryVolts pin) = omega arith
-performed-few b (queryLine irq) = omega arith
-performed-few b (queryTime cycle) = omega arith
-performed-few b (clearPending irq) = omega arith
+performed-few b (lend (delivery timer) cycle places) = delivered-law b timer cycle places .fits
 
 pub most-fits : (b : Board) (c : Call) → applies (refusals b c) ≡ false → most b c ≤ lent c
 unfolding refusals
 most-fits b (setUp s) h = omega arith
 most-fits b (clockTree t cycle) h = omega arith
 most-fits b (enable word value) h = omega arith
-most-fits b (setPin pin mode openDrain out pullup pulldown function cycle places) h = omega (arith, ltb-false places 4 (third 2 5 6 _ _ _ [] h))
-most-fits b (drivePin pin e cycle places) h = omega (arith, ltb-false places 4 (third 2 5 6 _ _ _ [] h))
-most-fits b (resetPins cycle places) h = ltb-false places (b .counts .pins) (second 5 6 _ _ [] h)
-most-fits b (read timer offset size cycle) h = omega arith
-most-fits b (write timer offset size value cycle places) h = ltb-false places 4 (fourth 2 3 5 6 _ _ _ _ _ h)
-most-fits b (peek timer offset cycle) h = omega arith
-most-fits b (resetTimer timer cycle places) h = ltb-false places 4 (third 2 5 6 _ _ _ [] h)
-most-fits b (deliver timer cycle places) h = omega arith
-most-fits b (queryBooked timer) h = omega arith
-most-fits b queryNext h = omega arith
-most-fits b (queryLevel pin) h = omega arith
-most-fits b (queryVolts pin) h = omega arith
-most-fits b (queryLine irq) h = omega arith
-most-fits b (queryTime cycle) h = omega arith
 most-fits b (clearPending irq) h = omega arith
+most-fits b (ask q) h = omega arith
+most-fits b (lend (pinSetting pin mode openDrain out pullup pulldown function) cycle places) h = omega (arith, ltb-false places 4 (third 2 5 6 _ _ _ [] h))
+most-fits b (lend (outsideDrive pin e) cycle places) h = omega (arith, ltb-false places 4 (third 2 5 6 _ _ _ [] h))
+most-fits b (lend pinReset cycle places) h = ltb-false places (b .counts .pins) (second 5 6 _ _ [] h)
+most-fits b (lend (writing timer offset size value) cycle places) h = ltb-false places 4 (fourth 2 3 5 6 _ _ _ _ _ h)
+most-fits b (lend (resetting timer) cycle places) h = ltb-false places 4 (third 2 5 6 _ _ _ [] h)
+most-fits b (lend (delivery timer) cycle places) h = omega arith
 
 -- ---- the entries' cycles
 
@@ -357,22 +427,16 @@ unfolding performed timerReset
 performed-stamped b (setUp s) h = every-none (StampedAt 0)
 performed-stamped b (clockTree t cycle) h = every-none (StampedAt 0)
 performed-stamped b (enable word value) h = every-none (StampedAt 0)
-performed-stamped b (setPin pin mode openDrain out pullup pulldown function cycle places) h = entry-stamped cycle (Sys.setPin (b .pads) pin (cfgOf mode openDrain out pullup pulldown) function .change)
-performed-stamped b (drivePin pin e cycle places) h = entry-stamped cycle (Sys.drivePin (b .pads) pin e .change)
-performed-stamped b (resetPins cycle places) h = changes-stamped cycle (Sys.resetPins (b .pads) (b .counts .pins) .changes)
-performed-stamped b (read timer offset size cycle) h = every-none (StampedAt 0)
-performed-stamped b (write timer offset size value cycle places) h =
+performed-stamped b (clearPending irq) h = every-none (StampedAt 0)
+performed-stamped b (ask q) h = every-none (StampedAt 0)
+performed-stamped b (lend (pinSetting pin mode openDrain out pullup pulldown function) cycle places) h =
+    entry-stamped cycle (Sys.setPin (b .pads) pin (cfgOf mode openDrain out pullup pulldown) function .change)
+performed-stamped b (lend (outsideDrive pin e) cycle places) h = entry-stamped cycle (Sys.drivePin (b .pads) pin e .change)
+performed-stamped b (lend pinReset cycle places) h = changes-stamped cycle (Sys.resetPins (b .pads) (b .counts .pins) .changes)
+performed-stamped b (lend (writing timer offset size value) cycle places) h =
     either (λ (o : Outcome). Every (StampedAt cycle) (o .entries)) (clockOn b (timerAt b timer))
     (followed-stamped b timer cycle (written b (timerAt b timer) offset size value cycle))
     (every-none (StampedAt cycle))
-performed-stamped b (peek timer offset cycle) h = every-none (StampedAt 0)
-performed-stamped b (resetTimer timer cycle places) h =
+performed-stamped b (lend (resetting timer) cycle places) h =
     entries-stamped cycle (Sys.driveOutputs (resetState (timerAt b timer .inst) (dividerOf b (timerAt b timer))) 0 (b .pads) .changes)
-performed-stamped b (deliver timer cycle places) h = let z : _≡_ {A = ℕ} 0 1 = cc in absurd (omega arith)
-performed-stamped b (queryBooked timer) h = every-none (StampedAt 0)
-performed-stamped b queryNext h = every-none (StampedAt 0)
-performed-stamped b (queryLevel pin) h = every-none (StampedAt 0)
-performed-stamped b (queryVolts pin) h = every-none (StampedAt 0)
-performed-stamped b (queryLine irq) h = every-none (StampedAt 0)
-performed-stamped b (queryTime cycle) h = every-none (StampedAt 0)
-performed-stamped b (clearPending irq) h = every-none (StampedAt 0)
+performed-stamped b (lend (delivery timer) cycle places) h = absurd (no-both true refl h)

@@ -16,14 +16,8 @@ use Rattle.pins.specs.Pins.{resolved}
 use lib.Ieee.{Float}
 use Rattle.book.specs.Book.{Entry, entryOf}
 use Rattle.machine.specs.Board.{Pads, gpioAt, routeOf, levelOf, withGpio, withRoute, noPin, noGpio}
+use Rattle.machine.specs.Demand1.{edgeOf, pinLevel}
 use Rattle.machine.specs.Sys.{updatePin, refreshPin, selectAf, selected, leave, take, setPin, drivePin}
-
--- a pin's level before and after a call at a cycle: no entry where they are the same, else one with the new level
-abbrev pub edgeOf : ℕ → ℕ → ℕ → ℕ → List Entry
-edgeOf pin before after cycle = cond (eqb after before) [] (record { pin = pin; level = after; cycle = cycle } ∷ [])
-
-abbrev pub levelAt : Pads → ℕ → ℕ
-levelAt p i = gpioAt p i .pin .level
 
 entry-of : (i new cycle : ℕ) (same : Bool) → entryOf cycle (cond same Same (Level i new)) ≡ cond same [] (record { pin = i; level = new; cycle = cycle } ∷ [])
 unfolding entryOf
@@ -44,19 +38,19 @@ unfolding refreshed
 refreshed-edge i g level vcc cycle = updated-edge i (withMcu g (sideOf g level)) vcc cycle
 
 pub update-edge : (p : Pads) (i cycle : ℕ) → i < length (p .gpio)
-    → entryOf cycle (updatePin p i .change) ≡ edgeOf i (levelAt p i) (levelAt (updatePin p i .pads) i) cycle
+    → entryOf cycle (updatePin p i .change) ≡ edgeOf i (pinLevel p i) (pinLevel (updatePin p i .pads) i) cycle
 unfolding updatePin
 update-edge p i cycle h =
     updated-edge i (gpioAt p i) (p .vcc) cycle
-    ∙ ap (λ (g : Gpio). edgeOf i (levelAt p i) (g .pin .level) cycle) (sym (put p i (updated i (gpioAt p i) (p .vcc) .gpio) h))
+    ∙ ap (λ (g : Gpio). edgeOf i (pinLevel p i) (g .pin .level) cycle) (sym (put p i (updated i (gpioAt p i) (p .vcc) .gpio) h))
 
 pub refresh-edge : (p : Pads) (i cycle : ℕ) → i < length (p .gpio)
-    → entryOf cycle (refreshPin p i .change) ≡ edgeOf i (levelAt p i) (levelAt (refreshPin p i .pads) i) cycle
+    → entryOf cycle (refreshPin p i .change) ≡ edgeOf i (pinLevel p i) (pinLevel (refreshPin p i .pads) i) cycle
 unfolding refreshPin
 refresh-edge p i cycle h =
     let l = levelOf p (signalOf (gpioAt p i)) in
     refreshed-edge i (gpioAt p i) l (p .vcc) cycle
-    ∙ ap (λ (g : Gpio). edgeOf i (levelAt p i) (g .pin .level) cycle) (sym (put p i (refreshed i (gpioAt p i) l (p .vcc) .gpio) h))
+    ∙ ap (λ (g : Gpio). edgeOf i (pinLevel p i) (g .pin .level) cycle) (sym (put p i (refreshed i (gpioAt p i) l (p .vcc) .gpio) h))
 
 -- routing leaves the pins
 leave-gpio : (p : Pads) (i s : ℕ) → leave p i s .gpio ≡ p .gpio
@@ -83,21 +77,21 @@ select-gpio p i c f =
 select-length : (p : Pads) (i : ℕ) (c : PinCfg) (f : ℕ) → length (selectAf p i c f .gpio) ≡ length (p .gpio)
 select-length p i c f = ap length (select-gpio p i c f) ∙ simp length-set
 
-select-level : (p : Pads) (i : ℕ) (c : PinCfg) (f : ℕ) → i < length (p .gpio) → levelAt (selectAf p i c f) i ≡ levelAt p i
+select-level : (p : Pads) (i : ℕ) (c : PinCfg) (f : ℕ) → i < length (p .gpio) → pinLevel (selectAf p i c f) i ≡ pinLevel p i
 select-level p i c f h =
     ap (λ (gs : List Gpio). getD gs i noGpio .pin .level) (select-gpio p i c f) ∙ ap (λ (g : Gpio). g .pin .level) (put p i _ h)
 
 pub set-edge : (p : Pads) (i : ℕ) (c : PinCfg) (f cycle : ℕ) → i < length (p .gpio)
-    → entryOf cycle (setPin p i c f .change) ≡ edgeOf i (levelAt p i) (levelAt (setPin p i c f .pads) i) cycle
+    → entryOf cycle (setPin p i c f .change) ≡ edgeOf i (pinLevel p i) (pinLevel (setPin p i c f .pads) i) cycle
 unfolding setPin
 set-edge p i c f cycle h =
     refresh-edge (selectAf p i c f) i cycle (omega (arith, select-length p i c f))
-    ∙ ap (λ (old : ℕ). edgeOf i old (levelAt (refreshPin (selectAf p i c f) i .pads) i) cycle) (select-level p i c f h)
+    ∙ ap (λ (old : ℕ). edgeOf i old (pinLevel (refreshPin (selectAf p i c f) i .pads) i) cycle) (select-level p i c f h)
 
 pub drive-edge : (p : Pads) (i : ℕ) (e : ExtDrive) (cycle : ℕ) → i < length (p .gpio)
-    → entryOf cycle (drivePin p i e .change) ≡ edgeOf i (levelAt p i) (levelAt (drivePin p i e .pads) i) cycle
+    → entryOf cycle (drivePin p i e .change) ≡ edgeOf i (pinLevel p i) (pinLevel (drivePin p i e .pads) i) cycle
 unfolding drivePin
 drive-edge p i e cycle h =
     let q = withGpio p i (connected (gpioAt p i) e) in
     update-edge q i cycle (simp length-set (h))
-    ∙ ap (λ (g : Gpio). edgeOf i (g .pin .level) (levelAt (updatePin q i .pads) i) cycle) (put p i (connected (gpioAt p i) e) h)
+    ∙ ap (λ (g : Gpio). edgeOf i (g .pin .level) (pinLevel (updatePin q i .pads) i) cycle) (put p i (connected (gpioAt p i) e) h)

@@ -25,11 +25,11 @@ use Rattle.gpio.specs.Gpio.{updated, configured, connected}
 use Rattle.machine.specs.Board.{Board, Pads, timerAt, gpioAt, routeOf, withGpio, withRoute, withPads, withTimer, withClocks, withLast, noPin, plainCfg, freshBoard, firstBoard, one}
 use Rattle.machine.specs.Sys as Sys
 use Rattle.machine.specs.Deliver.{dividerOf, delivered, settled, rebooked, lineSettled}
-use Rattle.machine.specs.Call.{Setup, Call, setUp, clockTree, enable, setPin, drivePin, resetPins, read, write, peek, resetTimer, deliver, queryBooked, queryNext, queryLevel, queryVolts, queryLine, queryTime, clearPending, Outcome}
+use Rattle.machine.specs.Call.{Setup, pinSetting, outsideDrive, pinReset, writing, resetting, delivery, Call, setUp, clockTree, enable, clearPending, ask, lend, Outcome}
 use Rattle.machine.specs.Step.{step, boardAfter, withinLimits, instsGood, entriesBelow, timerRetimed, allRetimed, treeSet, cfgOf, clockOn, written, followed, timerReset, deliveredTo}
 use Rattle.machine.specs.Refusals.{refusals, applies}
 use Rattle.machine.proofs.DeliverLaws.{turnPart}
-use Rattle.machine.proofs.NumberLaws.{Verdict, refuses, passes, answered, step-given, either, both, performed, delivered-law, head-free}
+use Rattle.machine.proofs.NumberLaws.{Verdict, refuses, passes, answered, step-given, either, both, performed, delivered-law, here, set-up-within}
 use Rattle.machine.proofs.PinLaws.{select-gpio}
 use Rattle.machine.proofs.Traces.{Wired, Kept, kept-trans, wired-kept, refresh-keeps, drive-moves, Turns, turned-turns}
 
@@ -191,38 +191,33 @@ followed-placed b i cycle w h =
 performed-placed : (b : Board) (c : Call) → Placed b → applies (refusals b c) ≡ false → Placed (performed b c .board)
 unfolding performed refusals timerReset deliveredTo settled rebooked lineSettled
 performed-placed b (setUp u) h a =
-    fresh-placed (u .hz) (u .vcc) (u .pins) (u .lines) (u .timers) (u .table) (within-pins u (not-false (withinLimits u) (head-free 1 (not (withinLimits u)) _ a)))
+    fresh-placed (u .hz) (u .vcc) (u .pins) (u .lines) (u .timers) (u .table) (within-pins u (set-up-within b u a))
 performed-placed b (clockTree t cycle) h a = let p = tree-placed b t cycle h in record { timers = p .timers; pins = p .pins; wired = p .wired }
 performed-placed b (enable word value) h a = record { timers = h .timers; pins = h .pins; wired = h .wired }
-performed-placed b (setPin pin mode openDrain out pullup pulldown function cycle places) h a =
+performed-placed b (clearPending irq) h a = record { timers = h .timers; pins = h .pins; wired = h .wired }
+performed-placed b (ask q) h a = h
+performed-placed b (lend (pinSetting pin mode openDrain out pullup pulldown function) cycle places) h a =
     left-placed b (Sys.setPin (b .pads) pin (cfgOf mode openDrain out pullup pulldown) function .pads) cycle h
     (set-left (b .pads) pin (cfgOf mode openDrain out pullup pulldown) function
-    (omega (arith, h .pins, leb-false (b .counts .pins) pin (head-free 2 (leb (b .counts .pins) pin) _ a))) (h .wired))
-performed-placed b (drivePin pin e cycle places) h a = left-placed b (Sys.drivePin (b .pads) pin e .pads) cycle h (drive-left (b .pads) pin e (h .wired))
-performed-placed b (resetPins cycle places) h a = left-placed b (Sys.resetPins (b .pads) (b .counts .pins) .pads) cycle h (resets-left (b .pads) (b .counts .pins))
-performed-placed b (read timer offset size cycle) h a = record { timers = h .timers; pins = h .pins; wired = h .wired }
-performed-placed b (write timer offset size value cycle places) h a =
+    (omega (arith, h .pins, here pin (b .counts .pins) _ a)) (h .wired))
+performed-placed b (lend (outsideDrive pin e) cycle places) h a =
+    left-placed b (Sys.drivePin (b .pads) pin e .pads) cycle h (drive-left (b .pads) pin e (h .wired))
+performed-placed b (lend pinReset cycle places) h a =
+    left-placed b (Sys.resetPins (b .pads) (b .counts .pins) .pads) cycle h (resets-left (b .pads) (b .counts .pins))
+performed-placed b (lend (writing timer offset size value) cycle places) h a =
     either (λ (o : Outcome). Placed (o .board)) (clockOn b (timerAt b timer))
     (followed-placed b timer cycle (written b (timerAt b timer) offset size value cycle) h)
     (record { timers = h .timers; pins = h .pins; wired = h .wired })
-performed-placed b (peek timer offset cycle) h a = record { timers = h .timers; pins = h .pins; wired = h .wired }
-performed-placed b (resetTimer timer cycle places) h a =
+performed-placed b (lend (resetting timer) cycle places) h a =
     let t = resetState (timerAt b timer .inst) (dividerOf b (timerAt b timer)) in
     let p = timer-placed b timer t (Sys.driveOutputs t 0 (b .pads) .pads) h (drive-moves t 0 (b .pads) (h .wired) .kept) in
     record { timers = p .timers; pins = p .pins; wired = p .wired }
-performed-placed b (deliver timer cycle places) h a =
+performed-placed b (lend (delivery timer) cycle places) h a =
     let r = delivered b timer cycle places in
     let d = delivered-law b timer cycle places in
     let u : Turns (b .pads) (turnPart r) = rw (d .state) (turned-turns _ (dividerOf b (timerAt b timer)) (timerAt b timer) (b .pads) (h .wired)) in
     let p = timer-placed b timer (r .timer) (r .pads) h (u .kept) in
     record { timers = p .timers; pins = p .pins; wired = p .wired }
-performed-placed b (queryBooked timer) h a = record { timers = h .timers; pins = h .pins; wired = h .wired }
-performed-placed b queryNext h a = record { timers = h .timers; pins = h .pins; wired = h .wired }
-performed-placed b (queryLevel pin) h a = record { timers = h .timers; pins = h .pins; wired = h .wired }
-performed-placed b (queryVolts pin) h a = record { timers = h .timers; pins = h .pins; wired = h .wired }
-performed-placed b (queryLine irq) h a = record { timers = h .timers; pins = h .pins; wired = h .wired }
-performed-placed b (queryTime cycle) h a = record { timers = h .timers; pins = h .pins; wired = h .wired }
-performed-placed b (clearPending irq) h a = record { timers = h .timers; pins = h .pins; wired = h .wired }
 
 pub step-placed : (b : Board) (c : Call) → Placed b → Placed (step b c .board)
 step-placed b c h = go (answered b c)

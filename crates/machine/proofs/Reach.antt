@@ -41,9 +41,11 @@ use Rattle.machine.specs.Board.{Board, Pads, Clocks, noInst, noTimer, no
 use Rattle.machine.specs.Sys as Sys
 use Rattle.machine.specs.Deliver.{Run, Turn, dividerOf, lineSettled, rebooked, applied, countAt, turn, turnOf, stop, dueBy, mostEvents, delivered, settled}
 use Rattle.machine.specs.Deliver as D
-use Rattle.machine.specs.Call.{Setup, Call, setUp, clockTree, enable, setPin, drivePin, resetPins, read, write, peek, resetTimer, deliver, queryBooked, queryNext, queryLevel, queryVolts, queryLine, queryTime, clearPending, Outcome}
-use Rattle.machine.specs.Step.{absent, oddSize, astray, bookFull, fresh, instGood, instsGood, withinLimits, clockOn, register, written, counterAstray, followed, timerReset, deliveredTo, timerRetimed, allRetimed, treeSet, cfgOf, step, boardAfter}
+use Rattle.machine.specs.Call.{Setup, pinSetting, outsideDrive, pinReset, writing, resetting, delivery, Call, setUp, clockTree, enable, clearPending, ask, lend, Outcome, isRefusal}
+use Rattle.machine.specs.Step.{fresh, instGood, instsGood, withinLimits, clockOn, register, told, written, followed, timerReset, deliveredTo, timerRetimed, allRetimed, treeSet, cfgOf, moved, step, boardAfter}
+use Rattle.machine.specs.Refusals.{refusals, applies}
 use Rattle.machine.specs.Sound.{SoundPads, Sound, Held, Elsewhere}
+use Rattle.machine.proofs.NumberLaws.{Verdict, refuses, passes, answered, step-given, performed, performed-served, no-both, here, set-up-within}
 use Rattle.machine.proofs.Routing.{either, by-test, unwired, unwired-pins, all-alike, idle-length, sound-outputs, sound-set, sound-drive, SparesAll, held-refl, held-trans, held-set, held-drive, held-outputs}
 
 -- ---- a timer keeps its place in the chip
@@ -383,128 +385,34 @@ sound-tree b t cycle h =
     let k = sound-clocks b _ h in
     either Sound (differing (b .clocks .tree) t) (sound-all-retimed (b .counts .timers) 0 cycle _ k) k
 
--- the calls that can change the board
-sound-setUp : (b : Board) (s : Setup) → Sound b → Good (step b (setUp s))
-unfolding step
-sound-setUp b s h =
-    by-test Good (not (withinLimits s)) (λ _. h)
-    (λ t.
-    let l = limits s (not-false (withinLimits s) t) in
-    either Good (not (positive (s .hz))) h (sound-fresh (s .hz) (s .vcc) (s .pins) (s .lines) (s .timers) (s .table) (l .few) (l .small) (l .apart)))
-
-sound-clockTree : (b : Board) (t : ClockTree) (cycle : ℕ) → Sound b → Good (step b (clockTree t cycle))
-unfolding step
-sound-clockTree b t cycle h =
-    either Good (not (good t)) h (either Good (astray b cycle) h (sound-last _ cycle (sound-tree b t cycle h)))
-
-sound-enable : (b : Board) (word value : ℕ) → Sound b → Good (step b (enable word value))
-unfolding step
-sound-enable b word value h = either Good (absent word 9) h (sound-clocks b _ h)
-
-sound-setPin : (b : Board) (pin mode od out pu pd f cycle places : ℕ) → Sound b → Good (step b (setPin pin mode od out pu pd f cycle places))
-unfolding step
-sound-setPin b pin mode od out pu pd f cycle places h =
-    either Good (absent pin (b .counts .pins)) h
-    (either Good (astray b cycle) h
-    (either Good (bookFull places) h
-    (sound-last _ cycle (sound-pads b _ h (sound-set (b .pads) pin (cfgOf mode od out pu pd) f (h .pads))))))
-
-sound-drivePin : (b : Board) (pin : ℕ) (e : ExtDrive) (cycle places : ℕ) → Sound b → Good (step b (drivePin pin e cycle places))
-unfolding step
-sound-drivePin b pin e cycle places h =
-    either Good (absent pin (b .counts .pins)) h
-    (either Good (astray b cycle) h
-    (either Good (bookFull places) h
-    (sound-last _ cycle (sound-pads b _ h (sound-drive (b .pads) pin e (h .pads))))))
-
-sound-resetPins : (b : Board) (cycle places : ℕ) → Sound b → Good (step b (resetPins cycle places))
-unfolding step
-sound-resetPins b cycle places h =
-    either Good (astray b cycle) h
-    (either Good (ltb places (b .counts .pins)) h
-    (sound-last _ cycle (sound-pads b _ h (unwired-pins (b .pads) (b .counts .pins) (h .pads) .sound))))
-
-sound-read : (b : Board) (timer offset size cycle : ℕ) → Sound b → Good (step b (read timer offset size cycle))
-unfolding step
-sound-read b timer offset size cycle h =
-    either Good (absent timer (b .counts .timers)) h (either Good (oddSize size) h (either Good (astray b cycle) h h))
-
-sound-write : (b : Board) (timer offset size value cycle places : ℕ) → Sound b → Good (step b (write timer offset size value cycle places))
-unfolding step
-sound-write b timer offset size value cycle places h =
-    let w = written b (timerAt b timer) offset size value cycle in
-    either Good (absent timer (b .counts .timers)) h
-    (either Good (oddSize size) h
-    (either Good (astray b cycle) h
-    (either Good (bookFull places) h
-    (either Good (clockOn b (timerAt b timer))
-    (either Good (counterAstray (register offset) (w .timer)) h
-    (sound-followed b timer cycle w (inst-written b (timerAt b timer) offset size value cycle) h))
-    (sound-last b cycle h)))))
-
-sound-peek : (b : Board) (timer offset cycle : ℕ) → Sound b → Good (step b (peek timer offset cycle))
-unfolding step
-sound-peek b timer offset cycle h = either Good (absent timer (b .counts .timers)) h (either Good (astray b cycle) h h)
-
-sound-resetTimer : (b : Board) (timer cycle places : ℕ) → Sound b → Good (step b (resetTimer timer cycle places))
-unfolding step
-sound-resetTimer b timer cycle places h =
-    either Good (absent timer (b .counts .timers)) h
-    (either Good (astray b cycle) h (either Good (bookFull places) h (sound-reset b timer cycle h)))
-
-sound-deliver : (b : Board) (timer cycle places : ℕ) → Sound b → Good (step b (deliver timer cycle places))
-unfolding step
-sound-deliver b timer cycle places h =
-    either Good (absent timer (b .counts .timers)) h
-    (either Good (astray b cycle) h (either Good (bookFull places) h (sound-delivered b timer cycle places h)))
-
-sound-queryBooked : (b : Board) (timer : ℕ) → Sound b → Good (step b (queryBooked timer))
-unfolding step
-sound-queryBooked b timer h = either Good (absent timer (b .counts .timers)) h h
-
-sound-queryNext : (b : Board) → Sound b → Good (step b queryNext)
-unfolding step
-sound-queryNext b h = h
-
-sound-queryLevel : (b : Board) (pin : ℕ) → Sound b → Good (step b (queryLevel pin))
-unfolding step
-sound-queryLevel b pin h = either Good (absent pin (b .counts .pins)) h h
-
-sound-queryVolts : (b : Board) (pin : ℕ) → Sound b → Good (step b (queryVolts pin))
-unfolding step
-sound-queryVolts b pin h = either Good (absent pin (b .counts .pins)) h h
-
-sound-queryLine : (b : Board) (irq : ℕ) → Sound b → Good (step b (queryLine irq))
-unfolding step
-sound-queryLine b irq h = h
-
-sound-queryTime : (b : Board) (cycle : ℕ) → Sound b → Good (step b (queryTime cycle))
-unfolding step
-sound-queryTime b cycle h = either Good (astray b cycle) h h
-
-sound-clearPending : (b : Board) (irq : ℕ) → Sound b → Good (step b (clearPending irq))
-unfolding step
-sound-clearPending b irq h = sound-nvic b _ h
+-- a call that is not refused
+sound-performed : (b : Board) (c : Call) → Sound b → applies (refusals b c) ≡ false → Good (performed b c)
+unfolding performed refusals
+sound-performed b (setUp s) h a =
+    let l = limits s (set-up-within b s a) in
+    sound-fresh (s .hz) (s .vcc) (s .pins) (s .lines) (s .timers) (s .table) (l .few) (l .small) (l .apart)
+sound-performed b (clockTree t cycle) h a = sound-last _ cycle (sound-tree b t cycle h)
+sound-performed b (enable word value) h a = sound-clocks b _ h
+sound-performed b (clearPending irq) h a = sound-nvic b _ h
+sound-performed b (ask q) h a = h
+sound-performed b (lend (pinSetting pin mode od out pu pd f) cycle places) h a =
+    sound-last _ cycle (sound-pads b _ h (sound-set (b .pads) pin (cfgOf mode od out pu pd) f (h .pads)))
+sound-performed b (lend (outsideDrive pin e) cycle places) h a = sound-last _ cycle (sound-pads b _ h (sound-drive (b .pads) pin e (h .pads)))
+sound-performed b (lend pinReset cycle places) h a =
+    sound-last _ cycle (sound-pads b _ h (unwired-pins (b .pads) (b .counts .pins) (h .pads) .sound))
+sound-performed b (lend (writing timer offset size value) cycle places) h a =
+    either Good (clockOn b (timerAt b timer))
+    (sound-followed b timer cycle (written b (timerAt b timer) offset size value cycle) (inst-written b (timerAt b timer) offset size value cycle) h)
+    (sound-last b cycle h)
+sound-performed b (lend (resetting timer) cycle places) h a = sound-reset b timer cycle h
+sound-performed b (lend (delivery timer) cycle places) h a = sound-delivered b timer cycle places h
 
 pub sound-step : (b : Board) (c : Call) → Sound b → Sound (step b c .board)
-sound-step b (setUp s) h = sound-setUp b s h
-sound-step b (clockTree t cycle) h = sound-clockTree b t cycle h
-sound-step b (enable word value) h = sound-enable b word value h
-sound-step b (setPin pin mode od out pu pd f cycle places) h = sound-setPin b pin mode od out pu pd f cycle places h
-sound-step b (drivePin pin e cycle places) h = sound-drivePin b pin e cycle places h
-sound-step b (resetPins cycle places) h = sound-resetPins b cycle places h
-sound-step b (read timer offset size cycle) h = sound-read b timer offset size cycle h
-sound-step b (write timer offset size value cycle places) h = sound-write b timer offset size value cycle places h
-sound-step b (peek timer offset cycle) h = sound-peek b timer offset cycle h
-sound-step b (resetTimer timer cycle places) h = sound-resetTimer b timer cycle places h
-sound-step b (deliver timer cycle places) h = sound-deliver b timer cycle places h
-sound-step b (queryBooked timer) h = sound-queryBooked b timer h
-sound-step b queryNext h = sound-queryNext b h
-sound-step b (queryLevel pin) h = sound-queryLevel b pin h
-sound-step b (queryVolts pin) h = sound-queryVolts b pin h
-sound-step b (queryLine irq) h = sound-queryLine b irq h
-sound-step b (queryTime cycle) h = sound-queryTime b cycle h
-sound-step b (clearPending irq) h = sound-clearPending b irq h
+sound-step b c h = go (answered b c)
+  where
+    go : Verdict (refusals b c) b (performed b c) → Sound (step b c .board)
+    go (refuses n l u f a g) = rw (step-given b c ∙ g) h
+    go (passes f a g) = rw (step-given b c ∙ g) (sound-performed b c h a)
 
 pub sound-run : (b : Board) (cs : List Call) → Sound b → Sound (boardAfter b cs)
 unfolding boardAfter
@@ -740,33 +648,18 @@ module _ (b : Board) (i ch s p : ℕ) (w : Wired b i ch s p) where
   frame-last : (cycle : ℕ) → Rest i s p b (record { number = 0; value = 0; entries = []; board = withLast b cycle })
   frame-last cycle = record { past = past-last i s p b b cycle (past-refl i s p b); spared = tt }
 
-  pub frame-enable : (word value : ℕ) → Rest i s p b (step b (enable word value))
-  unfolding step
-  frame-enable word value =
-      let k = past-refl i s p b in
-      either (Rest i s p b) (absent word 9) (rest-still i s p b 2 0)
-      (record { past = record { held = k .held; timer = k .timer; tree = refl; timers = refl }; spared = tt })
-
-  pub frame-setPin : (q mode od out pu pd f cycle places : ℕ) → (q ≡ p → ⊥) → (Sys.selected (b .pads) q (cfgOf mode od out pu pd) f ≡ s → ⊥)
-      → Rest i s p b (step b (setPin q mode od out pu pd f cycle places))
-  unfolding step
-  frame-setPin q mode od out pu pd f cycle places ne free =
+  rest-set : (q mode od out pu pd f cycle : ℕ) → (q ≡ p → ⊥) → (Sys.selected (b .pads) q (cfgOf mode od out pu pd) f ≡ s → ⊥)
+      → Rest i s p b (moved b cycle (Sys.setPin (b .pads) q (cfgOf mode od out pu pd) f))
+  rest-set q mode od out pu pd f cycle ne free =
       let m = Sys.setPin (b .pads) q (cfgOf mode od out pu pd) f in
       let k = held-set (b .pads) s p q (cfgOf mode od out pu pd) f (w .route) ne free in
-      either (Rest i s p b) (absent q (b .counts .pins)) (rest-still i s p b 2 0)
-      (either (Rest i s p b) (astray b cycle) (rest-still i s p b 5 0)
-      (either (Rest i s p b) (bookFull places) (rest-still i s p b 6 0)
-      (record { past = past-last i s p b (withPads b (m .pads)) cycle (past-pads i s p b (m .pads) (k .held)); spared = spared-entry p cycle (m .change) (k .elsewhere) })))
+      record { past = past-last i s p b (withPads b (m .pads)) cycle (past-pads i s p b (m .pads) (k .held)); spared = spared-entry p cycle (m .change) (k .elsewhere) }
 
-  pub frame-drivePin : (q : ℕ) (e : ExtDrive) (cycle places : ℕ) → Rest i s p b (step b (drivePin q e cycle places))
-  unfolding step
-  frame-drivePin q e cycle places =
+  rest-drive : (q : ℕ) (e : ExtDrive) (cycle : ℕ) → Rest i s p b (moved b cycle (Sys.drivePin (b .pads) q e))
+  rest-drive q e cycle =
       let m = Sys.drivePin (b .pads) q e in
       let k = held-drive (b .pads) s p (w .sound .pads) (signal-small b i ch s p w) (w .pin) (w .route) (signal-drives b i ch s p w) (w .push-pull) q e in
-      either (Rest i s p b) (absent q (b .counts .pins)) (rest-still i s p b 2 0)
-      (either (Rest i s p b) (astray b cycle) (rest-still i s p b 5 0)
-      (either (Rest i s p b) (bookFull places) (rest-still i s p b 6 0)
-      (record { past = past-last i s p b (withPads b (m .pads)) cycle (past-pads i s p b (m .pads) (k .held)); spared = spared-entry p cycle (m .change) (k .elsewhere) })))
+      record { past = past-last i s p b (withPads b (m .pads)) cycle (past-pads i s p b (m .pads) (k .held)); spared = spared-entry p cycle (m .change) (k .elsewhere) }
 
   -- the outputs of another timer
   outputs-other : (j : ℕ) (t : Timer) (cnt : ℕ) → j < b .counts .timers → (j ≡ i → ⊥) → t .inst ≡ timerAt b j .inst → SparesAll s p (b .pads) (Sys.driveOutputs t cnt (b .pads))
@@ -782,64 +675,32 @@ module _ (b : Board) (i ch s p : ℕ) (w : Wired b i ch s p) where
       (past-other i s p b j (x .timer) _ ne (either (Held s p (b .pads)) (x .drive) (k .held) (held-refl s p (b .pads))))
       (either (Spared p) (x .drive) (spared-entries s p cycle (b .pads) d k) tt)
 
-  pub frame-write-other : (j offset size value cycle places : ℕ) → (j ≡ i → ⊥) → Rest i s p b (step b (write j offset size value cycle places))
-  unfolding step
-  frame-write-other j offset size value cycle places ne =
-      let x = written b (timerAt b j) offset size value cycle in
-      by-test (Rest i s p b) (absent j (b .counts .timers)) (λ _. rest-still i s p b 2 0)
-      (λ t. either (Rest i s p b) (oddSize size) (rest-still i s p b 3 0)
-      (either (Rest i s p b) (astray b cycle) (rest-still i s p b 5 0)
-      (either (Rest i s p b) (bookFull places) (rest-still i s p b 6 0)
-      (either (Rest i s p b) (clockOn b (timerAt b j))
-      (either (Rest i s p b) (counterAstray (register offset) (x .timer)) (rest-still i s p b 7 0)
-      (followed-other j cycle x (leb-false (b .counts .timers) j t) ne (inst-written b (timerAt b j) offset size value cycle)))
-      (frame-last cycle)))))
-
   followed-quiet : (cycle : ℕ) (x : Written) → Quiet (timerAt b i) x → Rest i s p b (followed b i cycle x)
   followed-quiet cycle x q =
       rest-followed b i s p i cycle x
       (past-own i s p b (x .timer) _ (omega (arith, w .sound .timers, w .sound .few-timers, w .timer)) (q .timer) (rw (q .drive) (held-refl s p (b .pads))))
       (rw (q .drive) tt)
 
-  pub frame-write-quiet : (offset size value cycle places : ℕ)
-      → (eqb (register offset) 0x04 || (eqb (register offset) 0x08 || (eqb (register offset) 0x0c || eqb (register offset) 0x10))) ≡ true
-      → Rest i s p b (step b (write i offset size value cycle places))
-  unfolding step
-  frame-write-quiet offset size value cycle places q =
-      let x = written b (timerAt b i) offset size value cycle in
-      either (Rest i s p b) (absent i (b .counts .timers)) (rest-still i s p b 2 0)
-      (either (Rest i s p b) (oddSize size) (rest-still i s p b 3 0)
-      (either (Rest i s p b) (astray b cycle) (rest-still i s p b 5 0)
-      (either (Rest i s p b) (bookFull places) (rest-still i s p b 6 0)
-      (either (Rest i s p b) (clockOn b (timerAt b i))
-      (either (Rest i s p b) (counterAstray (register offset) (x .timer)) (rest-still i s p b 7 0)
-      (followed-quiet cycle x (quiet-written b (timerAt b i) offset size value cycle q)))
-      (frame-last cycle)))))
-
-  -- with the clock gate shut a write does nothing
-  pub frame-write-gated : (offset size value cycle places : ℕ) → clockOn b (timerAt b i) ≡ false → Rest i s p b (step b (write i offset size value cycle places))
-  unfolding step
-  frame-write-gated offset size value cycle places q =
-      either (Rest i s p b) (absent i (b .counts .timers)) (rest-still i s p b 2 0)
-      (either (Rest i s p b) (oddSize size) (rest-still i s p b 3 0)
-      (either (Rest i s p b) (astray b cycle) (rest-still i s p b 5 0)
-      (either (Rest i s p b) (bookFull places) (rest-still i s p b 6 0)
-      (by-test (Rest i s p b) (clockOn b (timerAt b i)) (λ t. let z : _≡_ {A = ℕ} 0 1 = cc in absurd (omega arith)) (λ _. frame-last cycle)))))
-
-  -- any of them
-  pub frame-write : (j offset size value cycle places : ℕ)
+  -- a write that leaves the pilot alone: to another timer, to a quiet register, or stopped by the clock gate
+  rest-write : (j offset size value cycle : ℕ) → j < b .counts .timers
       → (not (eqb j i) || ((eqb (register offset) 0x04 || (eqb (register offset) 0x08 || (eqb (register offset) 0x0c || eqb (register offset) 0x10))) || not (clockOn b (timerAt b i)))) ≡ true
-      → Rest i s p b (step b (write j offset size value cycle places))
-  frame-write j offset size value cycle places h = go (eqb j i) refl h
+      → Rest i s p b (cond (clockOn b (timerAt b j)) (followed b j cycle (written b (timerAt b j) offset size value cycle)) (record { number = 0; value = 0; entries = []; board = withLast b cycle }))
+  rest-write j offset size value cycle l h = go (eqb j i) refl h
     where
-      own : (x y : Bool) → (eqb (register offset) 0x04 || (eqb (register offset) 0x08 || (eqb (register offset) 0x0c || eqb (register offset) 0x10))) ≡ x → clockOn b (timerAt b i) ≡ y → (x || not y) ≡ true → Rest i s p b (step b (write i offset size value cycle places))
-      own true y q g h = frame-write-quiet offset size value cycle places q
-      own false false q g h = frame-write-gated offset size value cycle places g
-      own false true q g h = let z : _≡_ {A = ℕ} 0 1 = cc in absurd (omega arith)
+      own : (x y : Bool) → (eqb (register offset) 0x04 || (eqb (register offset) 0x08 || (eqb (register offset) 0x0c || eqb (register offset) 0x10))) ≡ x
+          → clockOn b (timerAt b i) ≡ y → (x || not y) ≡ true
+          → Rest i s p b (cond y (followed b i cycle (written b (timerAt b i) offset size value cycle)) (record { number = 0; value = 0; entries = []; board = withLast b cycle }))
+      own x false q g h = frame-last cycle
+      own true true q g h = followed-quiet cycle _ (quiet-written b (timerAt b i) offset size value cycle q)
+      own false true q g h = absurd (no-both false h refl)
 
-      go : (x : Bool) → eqb j i ≡ x → (not x || ((eqb (register offset) 0x04 || (eqb (register offset) 0x08 || (eqb (register offset) 0x0c || eqb (register offset) 0x10))) || not (clockOn b (timerAt b i)))) ≡ true → Rest i s p b (step b (write j offset size value cycle places))
-      go true e q = rw (eqb-true j i e) (own (eqb (register offset) 0x04 || (eqb (register offset) 0x08 || (eqb (register offset) 0x0c || eqb (register offset) 0x10))) (clockOn b (timerAt b i)) refl refl q)
-      go false e q = frame-write-other j offset size value cycle places (eqb-false j i e)
+      go : (x : Bool) → eqb j i ≡ x
+          → (not x || ((eqb (register offset) 0x04 || (eqb (register offset) 0x08 || (eqb (register offset) 0x0c || eqb (register offset) 0x10))) || not (clockOn b (timerAt b i)))) ≡ true
+          → Rest i s p b (cond (clockOn b (timerAt b j)) (followed b j cycle (written b (timerAt b j) offset size value cycle)) (record { number = 0; value = 0; entries = []; board = withLast b cycle }))
+      go true e q = rw (eqb-true j i e) (own _ (clockOn b (timerAt b i)) refl refl q)
+      go false e q =
+          either (Rest i s p b) (clockOn b (timerAt b j))
+          (followed-other j cycle _ l (eqb-false j i e) (inst-written b (timerAt b j) offset size value cycle)) (frame-last cycle)
 
   reset-other : (j cycle : ℕ) → j < b .counts .timers → (j ≡ i → ⊥) → Rest i s p b (timerReset b j cycle)
   unfolding timerReset lineSettled
@@ -853,13 +714,6 @@ module _ (b : Board) (i ch s p : ℕ) (w : Wired b i ch s p) where
         spared = spared-entries s p cycle (b .pads) d k;
       }
 
-  pub frame-reset-other : (j cycle places : ℕ) → (j ≡ i → ⊥) → Rest i s p b (step b (resetTimer j cycle places))
-  unfolding step
-  frame-reset-other j cycle places ne =
-      by-test (Rest i s p b) (absent j (b .counts .timers)) (λ _. rest-still i s p b 2 0)
-      (λ t. either (Rest i s p b) (astray b cycle) (rest-still i s p b 5 0)
-      (either (Rest i s p b) (bookFull places) (rest-still i s p b 6 0) (reset-other j cycle (leb-false (b .counts .timers) j t) ne)))
-
   past-settled : (j now : ℕ) (t : Timer) (x : Pads) → (j ≡ i → ⊥) → Held s p (b .pads) x → Past i s p b (settled b j now t x)
   unfolding settled rebooked lineSettled
   past-settled j now t x ne h = past-booking i s p b _ _ (past-nvic i s p b (withPads (withTimer b j t) x) _ (past-other i s p b j t x ne h))
@@ -872,186 +726,48 @@ module _ (b : Board) (i ch s p : ℕ) (w : Wired b i ch s p) where
       (record { inst = refl; pads = w .sound .pads }) (w .route) in
       record { past = past-last i s p b _ cycle (past-settled j cycle _ _ ne (k .held)); spared = k .spared }
 
-  pub frame-deliver-other : (j cycle places : ℕ) → (j ≡ i → ⊥) → Rest i s p b (step b (deliver j cycle places))
-  unfolding step
-  frame-deliver-other j cycle places ne =
-      by-test (Rest i s p b) (absent j (b .counts .timers)) (λ _. rest-still i s p b 2 0)
-      (λ t. either (Rest i s p b) (astray b cycle) (rest-still i s p b 5 0)
-      (either (Rest i s p b) (bookFull places) (rest-still i s p b 6 0) (delivered-other j cycle places (leb-false (b .counts .timers) j t) ne)))
-
--- the calls that ask, whatever the pilot
-module _ (b : Board) (i s p : ℕ) where
-  pub frame-read : (j offset size cycle : ℕ) → Rest i s p b (step b (read j offset size cycle))
-  unfolding step
-  frame-read j offset size cycle =
-      either (Rest i s p b) (absent j (b .counts .timers)) (rest-still i s p b 2 0)
-      (either (Rest i s p b) (oddSize size) (rest-still i s p b 3 0) (either (Rest i s p b) (astray b cycle) (rest-still i s p b 5 0) (rest-still i s p b 0 _)))
-
-  pub frame-peek : (j offset cycle : ℕ) → Rest i s p b (step b (peek j offset cycle))
-  unfolding step
-  frame-peek j offset cycle =
-      either (Rest i s p b) (absent j (b .counts .timers)) (rest-still i s p b 2 0)
-      (either (Rest i s p b) (astray b cycle) (rest-still i s p b 5 0) (rest-still i s p b 0 _))
-
-  pub frame-queryBooked : (j : ℕ) → Rest i s p b (step b (queryBooked j))
-  unfolding step
-  frame-queryBooked j = either (Rest i s p b) (absent j (b .counts .timers)) (rest-still i s p b 2 0) (rest-still i s p b 0 _)
-
-  pub frame-queryNext : Rest i s p b (step b queryNext)
-  unfolding step
-  frame-queryNext = rest-still i s p b 0 _
-
-  pub frame-queryLevel : (pin : ℕ) → Rest i s p b (step b (queryLevel pin))
-  unfolding step
-  frame-queryLevel pin = either (Rest i s p b) (absent pin (b .counts .pins)) (rest-still i s p b 2 0) (rest-still i s p b 0 _)
-
-  pub frame-queryVolts : (pin : ℕ) → Rest i s p b (step b (queryVolts pin))
-  unfolding step
-  frame-queryVolts pin = either (Rest i s p b) (absent pin (b .counts .pins)) (rest-still i s p b 2 0) (rest-still i s p b 0 _)
-
-  pub frame-queryLine : (irq : ℕ) → Rest i s p b (step b (queryLine irq))
-  unfolding step
-  frame-queryLine irq = rest-still i s p b 0 _
-
-  pub frame-queryTime : (cycle : ℕ) → Rest i s p b (step b (queryTime cycle))
-  unfolding step
-  frame-queryTime cycle = either (Rest i s p b) (astray b cycle) (rest-still i s p b 5 0) (rest-still i s p b 0 _)
-
-  pub frame-clearPending : (irq : ℕ) → Rest i s p b (step b (clearPending irq))
-  unfolding step
-  frame-clearPending irq = record { past = past-nvic i s p b b _ (past-refl i s p b); spared = tt }
-
 -- a call that leaves the pilot of timer i on pin p by signal s alone, deliveries to the timer itself aside
 abbrev pub Leaves : ℕ → ℕ → ℕ → Board → Call → Type 0
 Leaves i p s b (setUp _) = ⊥
 Leaves i p s b (clockTree _ _) = ⊥
 Leaves i p s b (enable _ _) = Unit {0}
-Leaves i p s b (setPin q mode od out pu pd f cycle places) = (q ≡ p → ⊥) × (Sys.selected (b .pads) q (cfgOf mode od out pu pd) f ≡ s → ⊥)
-Leaves i p s b (drivePin _ _ _ _) = Unit {0}
-Leaves i p s b (resetPins _ _) = ⊥
-Leaves i p s b (read _ _ _ _) = Unit {0}
-Leaves i p s b (write j offset size value cycle places) =
-    (not (eqb j i) || ((eqb (register offset) 0x04 || (eqb (register offset) 0x08 || (eqb (register offset) 0x0c || eqb (register offset) 0x10))) || not (clockOn b (timerAt b i)))) ≡ true
-Leaves i p s b (peek _ _ _) = Unit {0}
-Leaves i p s b (resetTimer j _ _) = j ≡ i → ⊥
-Leaves i p s b (deliver j _ _) = j ≡ i → ⊥
-Leaves i p s b (queryBooked _) = Unit {0}
-Leaves i p s b queryNext = Unit {0}
-Leaves i p s b (queryLevel _) = Unit {0}
-Leaves i p s b (queryVolts _) = Unit {0}
-Leaves i p s b (queryLine _) = Unit {0}
-Leaves i p s b (queryTime _) = Unit {0}
 Leaves i p s b (clearPending _) = Unit {0}
+Leaves i p s b (ask _) = Unit {0}
+Leaves i p s b (lend (pinSetting q mode od out pu pd f) _ _) = (q ≡ p → ⊥) × (Sys.selected (b .pads) q (cfgOf mode od out pu pd) f ≡ s → ⊥)
+Leaves i p s b (lend (outsideDrive _ _) _ _) = Unit {0}
+Leaves i p s b (lend pinReset _ _) = ⊥
+Leaves i p s b (lend (writing j offset size value) _ _) =
+    (not (eqb j i) || ((eqb (register offset) 0x04 || (eqb (register offset) 0x08 || (eqb (register offset) 0x0c || eqb (register offset) 0x10))) || not (clockOn b (timerAt b i)))) ≡ true
+Leaves i p s b (lend (resetting j) _ _) = j ≡ i → ⊥
+Leaves i p s b (lend (delivery j) _ _) = j ≡ i → ⊥
+
+frame-performed : (b : Board) (i ch s p : ℕ) → Wired b i ch s p → (c : Call) → Leaves i p s b c → applies (refusals b c) ≡ false → Rest i s p b (performed b c)
+unfolding performed refusals
+frame-performed b i ch s p w (setUp x) h a = absurd h
+frame-performed b i ch s p w (clockTree t cycle) h a = absurd h
+frame-performed b i ch s p w (enable word value) h a =
+    let k = past-refl i s p b in record { past = record { held = k .held; timer = k .timer; tree = refl; timers = refl }; spared = tt }
+frame-performed b i ch s p w (clearPending irq) h a = record { past = past-nvic i s p b b _ (past-refl i s p b); spared = tt }
+frame-performed b i ch s p w (ask q) h a = rest-still i s p b 0 (told b q)
+frame-performed b i ch s p w (lend (pinSetting q mode od out pu pd f) cycle places) h a = rest-set b i ch s p w q mode od out pu pd f cycle (h .0) (h .1)
+frame-performed b i ch s p w (lend (outsideDrive q e) cycle places) h a = rest-drive b i ch s p w q e cycle
+frame-performed b i ch s p w (lend pinReset cycle places) h a = absurd h
+frame-performed b i ch s p w (lend (writing j offset size value) cycle places) h a =
+    rest-write b i ch s p w j offset size value cycle (here j (b .counts .timers) _ a) h
+frame-performed b i ch s p w (lend (resetting j) cycle places) h a = reset-other b i ch s p w j cycle (here j (b .counts .timers) _ a) h
+frame-performed b i ch s p w (lend (delivery j) cycle places) h a = delivered-other b i ch s p w j cycle places (here j (b .counts .timers) _ a) h
 
 pub frame-step : (b : Board) (i ch s p : ℕ) → Wired b i ch s p → (c : Call) → Leaves i p s b c → Rest i s p b (step b c)
-frame-step b i ch s p w (setUp x) h = absurd h
-frame-step b i ch s p w (clockTree t cycle) h = absurd h
-frame-step b i ch s p w (enable word value) h = frame-enable b i ch s p w word value
-frame-step b i ch s p w (setPin q mode od out pu pd f cycle places) h = frame-setPin b i ch s p w q mode od out pu pd f cycle places (h .0) (h .1)
-frame-step b i ch s p w (drivePin q e cycle places) h = frame-drivePin b i ch s p w q e cycle places
-frame-step b i ch s p w (resetPins cycle places) h = absurd h
-frame-step b i ch s p w (read j offset size cycle) h = frame-read b i s p j offset size cycle
-frame-step b i ch s p w (write j offset size value cycle places) h = frame-write b i ch s p w j offset size value cycle places h
-frame-step b i ch s p w (peek j offset cycle) h = frame-peek b i s p j offset cycle
-frame-step b i ch s p w (resetTimer j cycle places) h = frame-reset-other b i ch s p w j cycle places h
-frame-step b i ch s p w (deliver j cycle places) h = frame-deliver-other b i ch s p w j cycle places h
-frame-step b i ch s p w (queryBooked j) h = frame-queryBooked b i s p j
-frame-step b i ch s p w queryNext h = frame-queryNext b i s p
-frame-step b i ch s p w (queryLevel pin) h = frame-queryLevel b i s p pin
-frame-step b i ch s p w (queryVolts pin) h = frame-queryVolts b i s p pin
-frame-step b i ch s p w (queryLine irq) h = frame-queryLine b i s p irq
-frame-step b i ch s p w (queryTime cycle) h = frame-queryTime b i s p cycle
-frame-step b i ch s p w (clearPending irq) h = frame-clearPending b i s p irq
+frame-step b i ch s p w c h = go (answered b c)
+  where
+    go : Verdict (refusals b c) b (performed b c) → Rest i s p b (step b c)
+    go (refuses n l u f a g) = rw (step-given b c ∙ g) (rest-still i s p b n 0)
+    go (passes f a g) = rw (step-given b c ∙ g) (frame-performed b i ch s p w c h a)
 
--- ---- "1 to 7 [..] change nothing"
-
--- an outcome of the board b: a number from 1 to 7 left it as it was
-record Honest (b : Board) (o : Outcome) : Type 0 where
-  board : 1 ≤ o .number → o .number ≤ 7 → o .board ≡ b
-  entries : 1 ≤ o .number → o .number ≤ 7 → o .entries ≡ []
-
-honest-served : (b : Board) (o : Outcome) → o .number ≡ 0 → Honest b o
-honest-served b o e = record { board = λ l h. absurd (omega arith); entries = λ l h. absurd (omega arith) }
-
-honest-refused : (b : Board) (n : ℕ) → Honest b (record { number = n; value = 0; entries = []; board = b })
-honest-refused b n = record { board = λ _ _. refl; entries = λ _ _. refl }
-
-run-number : (n now div left : ℕ) (t : Timer) (x : Pads) → 1 ≤ D.run n now div left t x .number → D.run n now div left t x .number ≤ 7 → ⊥
-unfolding D.run
-run-number zero now div left t x = either (λ (k : ℕ). 1 ≤ k → k ≤ 7 → ⊥) (dueBy (nextEvent t) now) (λ l h. omega arith) (λ l h. omega arith)
-run-number (suc n) now div left t x =
-    let u = turnOf t x (nextEvent t) div in
-    let r = run-number n now div (left - length (u .entries)) (u .timer) (u .pads) in
-    either (λ (y : Run). 1 ≤ y .number → y .number ≤ 7 → ⊥) (dueBy (nextEvent t) now)
-    (either (λ (y : Run). 1 ≤ y .number → y .number ≤ 7 → ⊥) (ltb left 4) (λ l h. omega arith) r)
-    (λ l h. omega arith)
-
-honest-delivered : (b : Board) (j cycle places : ℕ) → Honest b (deliveredTo b j cycle places)
-unfolding deliveredTo delivered
-honest-delivered b j cycle places =
-    let r = run-number mostEvents cycle (dividerOf b (timerAt b j)) places (timerAt b j) (b .pads) in
-    record { board = λ l h. absurd (r l h); entries = λ l h. absurd (r l h) }
-
-honest-followed : (b : Board) (j cycle : ℕ) (x : Written) → Honest b (followed b j cycle x)
-unfolding followed
-honest-followed b j cycle x = honest-served b _ refl
-
-honest-reset : (b : Board) (j cycle : ℕ) → Honest b (timerReset b j cycle)
-unfolding timerReset
-honest-reset b j cycle = honest-served b _ refl
-
-honest : (b : Board) (c : Call) → Honest b (step b c)
-unfolding step
-honest b (setUp x) =
-    either (Honest b) (not (withinLimits x)) (honest-refused b 1) (either (Honest b) (not (positive (x .hz))) (honest-refused b 4) (honest-served b _ refl))
-honest b (clockTree t cycle) =
-    either (Honest b) (not (good t)) (honest-refused b 4) (either (Honest b) (astray b cycle) (honest-refused b 5) (honest-served b _ refl))
-honest b (enable word value) = either (Honest b) (absent word 9) (honest-refused b 2) (honest-served b _ refl)
-honest b (setPin q mode od out pu pd f cycle places) =
-    either (Honest b) (absent q (b .counts .pins)) (honest-refused b 2)
-    (either (Honest b) (astray b cycle) (honest-refused b 5) (either (Honest b) (bookFull places) (honest-refused b 6) (honest-served b _ refl)))
-honest b (drivePin q e cycle places) =
-    either (Honest b) (absent q (b .counts .pins)) (honest-refused b 2)
-    (either (Honest b) (astray b cycle) (honest-refused b 5) (either (Honest b) (bookFull places) (honest-refused b 6) (honest-served b _ refl)))
-honest b (resetPins cycle places) =
-    either (Honest b) (astray b cycle) (honest-refused b 5) (either (Honest b) (ltb places (b .counts .pins)) (honest-refused b 6) (honest-served b _ refl))
-honest b (read j offset size cycle) =
-    either (Honest b) (absent j (b .counts .timers)) (honest-refused b 2)
-    (either (Honest b) (oddSize size) (honest-refused b 3) (either (Honest b) (astray b cycle) (honest-refused b 5) (honest-served b _ refl)))
-honest b (write j offset size value cycle places) =
-    let x = written b (timerAt b j) offset size value cycle in
-    either (Honest b) (absent j (b .counts .timers)) (honest-refused b 2)
-    (either (Honest b) (oddSize size) (honest-refused b 3)
-    (either (Honest b) (astray b cycle) (honest-refused b 5)
-    (either (Honest b) (bookFull places) (honest-refused b 6)
-    (either (Honest b) (clockOn b (timerAt b j))
-    (either (Honest b) (counterAstray (register offset) (x .timer)) (honest-refused b 7) (honest-followed b j cycle x))
-    (honest-served b _ refl)))))
-honest b (peek j offset cycle) =
-    either (Honest b) (absent j (b .counts .timers)) (honest-refused b 2) (either (Honest b) (astray b cycle) (honest-refused b 5) (honest-served b _ refl))
-honest b (resetTimer j cycle places) =
-    either (Honest b) (absent j (b .counts .timers)) (honest-refused b 2)
-    (either (Honest b) (astray b cycle) (honest-refused b 5) (either (Honest b) (bookFull places) (honest-refused b 6) (honest-reset b j cycle)))
-honest b (deliver j cycle places) =
-    either (Honest b) (absent j (b .counts .timers)) (honest-refused b 2)
-    (either (Honest b) (astray b cycle) (honest-refused b 5) (either (Honest b) (bookFull places) (honest-refused b 6) (honest-delivered b j cycle places)))
-honest b (queryBooked j) = either (Honest b) (absent j (b .counts .timers)) (honest-refused b 2) (honest-served b _ refl)
-honest b queryNext = honest-served b _ refl
-honest b (queryLevel pin) = either (Honest b) (absent pin (b .counts .pins)) (honest-refused b 2) (honest-served b _ refl)
-honest b (queryVolts pin) = either (Honest b) (absent pin (b .counts .pins)) (honest-refused b 2) (honest-served b _ refl)
-honest b (queryLine irq) = honest-served b _ refl
-honest b (queryTime cycle) = either (Honest b) (astray b cycle) (honest-refused b 5) (honest-served b _ refl)
-honest b (clearPending irq) = honest-served b _ refl
-
-pub refused-board : (b : Board) (c : Call) → 1 ≤ step b c .number → step b c .number ≤ 7 → step b c .board ≡ b
-refused-board b c l h = honest b c .board l h
-
-pub refused-entries : (b : Board) (c : Call) → 1 ≤ step b c .number → step b c .number ≤ 7 → step b c .entries ≡ []
-refused-entries b c l h = honest b c .entries l h
-
--- so a refused call of any kind leaves the pilot alone
-pub frame-refused : (b : Board) (i s p : ℕ) (c : Call) → 1 ≤ step b c .number → step b c .number ≤ 7 → Rest i s p b (step b c)
-frame-refused b i s p c l h = record {
-  past = rw (refused-board b c l h) (past-refl i s p b);
-  spared = rw (refused-entries b c l h) tt;
-}
+-- "change nothing": a refused call of any kind leaves the pilot alone
+pub frame-refused : (b : Board) (i s p : ℕ) (c : Call) → isRefusal (step b c .number) ≡ true → Rest i s p b (step b c)
+frame-refused b i s p c h = go (answered b c)
+  where
+    go : Verdict (refusals b c) b (performed b c) → Rest i s p b (step b c)
+    go (refuses n l u f a g) = rw (step-given b c ∙ g) (rest-still i s p b n 0)
+    go (passes f a g) = absurd (no-both _ h (ap (λ (o : Outcome). isRefusal (o .number)) (step-given b c ∙ g) ∙ performed-served b c))

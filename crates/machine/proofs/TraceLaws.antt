@@ -15,13 +15,13 @@ use Rattle.book.specs.Book.{Entry, entriesOf}
 use Rattle.machine.specs.Board.{Board, Pads, timerAt}
 use Rattle.machine.specs.Sys as Sys
 use Rattle.machine.specs.Deliver.{dividerOf, delivered, settled, rebooked, lineSettled}
-use Rattle.machine.specs.Call.{Call, setUp, clockTree, enable, setPin, drivePin, resetPins, read, write, peek, resetTimer, deliver, queryBooked, queryNext, queryLevel, queryVolts, queryLine, queryTime, clearPending, Outcome}
+use Rattle.machine.specs.Call.{pinSetting, outsideDrive, pinReset, writing, resetting, delivery, Call, setUp, clockTree, enable, clearPending, ask, lend, isSetUp, Outcome}
 use Rattle.machine.specs.Step.{timerRetimed, allRetimed, treeSet, cfgOf, changesOf, clockOn, written, followed, timerReset, deliveredTo}
-use Rattle.machine.specs.Refusals.{refusals, applies, isSetUp}
+use Rattle.machine.specs.Refusals.{refusals, applies}
+use Rattle.machine.specs.Demand1.{pinLevel, Traced}
 use Rattle.machine.proofs.DeliverLaws.{turnPart}
-use Rattle.machine.proofs.NumberLaws.{either, performed, delivered-law, head-free}
-use Rattle.machine.proofs.PinLaws.{levelAt}
-use Rattle.machine.proofs.Traces.{Traced, traced-none, Wired, drive-moves, Turns, turned-turns, set-traced, drive-traced, resets-traced}
+use Rattle.machine.proofs.NumberLaws.{no-both, either, performed, delivered-law, here}
+use Rattle.machine.proofs.Traces.{traced-none, Wired, drive-moves, Turns, turned-turns, set-traced, drive-traced, resets-traced}
 
 -- a clock change leaves the pins
 retimed-pads : (i cycle : ℕ) (b : Board) → timerRetimed i cycle b .pads ≡ b .pads
@@ -71,31 +71,23 @@ pub performed-traced : (b : Board) (c : Call) → Wired (b .pads) → b .counts 
     → isSetUp c ≡ false
     → Traced (b .pads) (performed b c .board .pads) (performed b c .entries)
 unfolding performed refusals timerReset deliveredTo settled rebooked lineSettled
-performed-traced b (setUp u) w s a n = let z : _≡_ {A = ℕ} 0 1 = cc in absurd (omega arith)
-performed-traced b (clockTree t cycle) w s a n = traced-none (b .pads) (treeSet b t cycle .pads) (λ i. ap (λ (q : Pads). levelAt q i) (tree-pads b t cycle))
+performed-traced b (setUp u) w s a n = absurd (no-both true refl n)
+performed-traced b (clockTree t cycle) w s a n = traced-none (b .pads) (treeSet b t cycle .pads) (λ i. ap (λ (q : Pads). pinLevel q i) (tree-pads b t cycle))
 performed-traced b (enable word value) w s a n = traced-none (b .pads) (b .pads) (λ i. refl)
-performed-traced b (setPin pin mode openDrain out pullup pulldown function cycle places) w s a n =
-    set-traced (b .pads) pin (cfgOf mode openDrain out pullup pulldown) function cycle
-    (omega (arith, leb-false (b .counts .pins) pin (head-free 2 (leb (b .counts .pins) pin) _ a)))
-performed-traced b (drivePin pin e cycle places) w s a n =
-    drive-traced (b .pads) pin e cycle (omega (arith, leb-false (b .counts .pins) pin (head-free 2 (leb (b .counts .pins) pin) _ a)))
-performed-traced b (resetPins cycle places) w s a n = pins-traced b cycle s
-performed-traced b (read timer offset size cycle) w s a n = traced-none (b .pads) (b .pads) (λ i. refl)
-performed-traced b (write timer offset size value cycle places) w s a n =
+performed-traced b (clearPending irq) w s a n = traced-none (b .pads) (b .pads) (λ i. refl)
+performed-traced b (ask q) w s a n = traced-none (b .pads) (b .pads) (λ i. refl)
+performed-traced b (lend (pinSetting pin mode openDrain out pullup pulldown function) cycle places) w s a n =
+    set-traced (b .pads) pin (cfgOf mode openDrain out pullup pulldown) function cycle (omega (arith, here pin (b .counts .pins) _ a))
+performed-traced b (lend (outsideDrive pin e) cycle places) w s a n =
+    drive-traced (b .pads) pin e cycle (omega (arith, here pin (b .counts .pins) _ a))
+performed-traced b (lend pinReset cycle places) w s a n = pins-traced b cycle s
+performed-traced b (lend (writing timer offset size value) cycle places) w s a n =
     either (λ (o : Outcome). Traced (b .pads) (o .board .pads) (o .entries)) (clockOn b (timerAt b timer))
     (followed-traced b timer cycle (written b (timerAt b timer) offset size value cycle) w)
     (traced-none (b .pads) (b .pads) (λ i. refl))
-performed-traced b (peek timer offset cycle) w s a n = traced-none (b .pads) (b .pads) (λ i. refl)
-performed-traced b (resetTimer timer cycle places) w s a n =
+performed-traced b (lend (resetting timer) cycle places) w s a n =
     drive-moves (resetState (timerAt b timer .inst) (dividerOf b (timerAt b timer))) 0 (b .pads) w .traced cycle
-performed-traced b (deliver timer cycle places) w s a n =
+performed-traced b (lend (delivery timer) cycle places) w s a n =
     let d = delivered-law b timer cycle places in
     let u : Turns (b .pads) (turnPart (delivered b timer cycle places)) = rw (d .state) (turned-turns _ (dividerOf b (timerAt b timer)) (timerAt b timer) (b .pads) w) in
     u .traced
-performed-traced b (queryBooked timer) w s a n = traced-none (b .pads) (b .pads) (λ i. refl)
-performed-traced b queryNext w s a n = traced-none (b .pads) (b .pads) (λ i. refl)
-performed-traced b (queryLevel pin) w s a n = traced-none (b .pads) (b .pads) (λ i. refl)
-performed-traced b (queryVolts pin) w s a n = traced-none (b .pads) (b .pads) (λ i. refl)
-performed-traced b (queryLine irq) w s a n = traced-none (b .pads) (b .pads) (λ i. refl)
-performed-traced b (queryTime cycle) w s a n = traced-none (b .pads) (b .pads) (λ i. refl)
-performed-traced b (clearPending irq) w s a n = traced-none (b .pads) (b .pads) (λ i. refl)

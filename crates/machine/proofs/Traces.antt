@@ -26,27 +26,12 @@ use Rattle.machine.specs.Board.{Pads, gpioAt, routeOf, levelOf, withGpio
 use Rattle.machine.specs.Sys.{Move, still, updatePin, refreshPin, selectAf, selected, sigOut, Drive, driveChannel, driver, driveOutputs, setPin, drivePin, resetPin, resetFrom}
 use Rattle.machine.specs.Deliver.{Turn, turn, turnOf, applied, countAt}
 use Rattle.machine.specs.Step.{changesOf}
-use Rattle.machine.proofs.DeliverLaws.{turned}
+use Rattle.machine.specs.Demand1.{edgeOf, pinLevel, levelAfter, Edges, Traced, afterEvents}
 use Rattle.machine.proofs.NumberLaws.{either}
-use Rattle.machine.proofs.PinLaws.{edgeOf, levelAt, update-edge, refresh-edge, select-gpio}
+use Rattle.machine.proofs.PinLaws.{update-edge, refresh-edge, select-gpio}
 
--- a pin's level after entries, from a level: that of its last entry
-unfoldable pub seen : List Entry → ℕ → ℕ → ℕ
-seen [] pin l = l
-seen (e ∷ es) pin l = seen es pin (cond (eqb (e .pin) pin) (e .level) l)
-
--- from the pins' levels on, each entry is another level of its pin
-unfoldable pub Edges : List Entry → (ℕ → ℕ) → Type 0
-Edges [] f = Unit {0}
-Edges (e ∷ es) f = (eqb (e .level) (f (e .pin)) ≡ false) × Edges es (λ i. cond (eqb (e .pin) i) (e .level) (f i))
-
--- "An entry is made exactly when a pin's level changes": between two pads, the entries are the changes, in order
-pub record Traced (p q : Pads) (es : List Entry) : Type 0 where
-  pub after : (i : ℕ) → levelAt q i ≡ seen es i (levelAt p i)
-  pub edges : Edges es (λ i. levelAt p i)
-
-seen-append : (es fs : List Entry) (i l : ℕ) → seen (es ++ fs) i l ≡ seen fs i (seen es i l)
-unfolding seen
+seen-append : (es fs : List Entry) (i l : ℕ) → levelAfter (es ++ fs) i l ≡ levelAfter fs i (levelAfter es i l)
+unfolding levelAfter
 seen-append [] fs i l = refl
 seen-append (e ∷ es) fs i l = seen-append es fs i (cond (eqb (e .pin) i) (e .level) l)
 
@@ -59,53 +44,53 @@ edges-same (e ∷ es) f g q h = (
       (λ i. ap (λ (l : ℕ). cond (eqb (e .pin) i) (e .level) l) (q i)) (h .1),
 )
 
-edges-append : (es fs : List Entry) (f : ℕ → ℕ) → Edges es f → Edges fs (λ i. seen es i (f i)) → Edges (es ++ fs) f
-unfolding Edges seen
+edges-append : (es fs : List Entry) (f : ℕ → ℕ) → Edges es f → Edges fs (λ i. levelAfter es i (f i)) → Edges (es ++ fs) f
+unfolding Edges levelAfter
 edges-append [] fs f h k = k
 edges-append (e ∷ es) fs f h k = (h .0, edges-append es fs (λ i. cond (eqb (e .pin) i) (e .level) (f i)) (h .1) k)
 
 pub traced-append : (p q r : Pads) (es fs : List Entry) → Traced p q es → Traced q r fs → Traced p r (es ++ fs)
 traced-append p q r es fs a b = record {
-  after = λ i. b .after i ∙ ap (λ (l : ℕ). seen fs i l) (a .after i) ∙ sym (seen-append es fs i (levelAt p i));
-  edges = edges-append es fs (λ i. levelAt p i) (a .edges) (edges-same fs (λ i. levelAt q i) (λ i. seen es i (levelAt p i)) (a .after) (b .edges));
+  after = λ i. b .after i ∙ ap (λ (l : ℕ). levelAfter fs i l) (a .after i) ∙ sym (seen-append es fs i (pinLevel p i));
+  edges = edges-append es fs (λ i. pinLevel p i) (a .edges) (edges-same fs (λ i. pinLevel q i) (λ i. levelAfter es i (pinLevel p i)) (a .after) (b .edges));
 }
 
-pub traced-none : (p q : Pads) → ((i : ℕ) → levelAt q i ≡ levelAt p i) → Traced p q []
-unfolding seen Edges
+pub traced-none : (p q : Pads) → ((i : ℕ) → pinLevel q i ≡ pinLevel p i) → Traced p q []
+unfolding levelAfter Edges
 traced-none p q h = record { after = h; edges = tt }
 
 -- ---- one pin
 
-same-level : (p q : Pads) (i : ℕ) → levelAt q i ≡ levelAt p i → ((j : ℕ) → (j ≡ i → ⊥) → levelAt q j ≡ levelAt p j) → (j : ℕ) → levelAt q j ≡ levelAt p j
+same-level : (p q : Pads) (i : ℕ) → pinLevel q i ≡ pinLevel p i → ((j : ℕ) → (j ≡ i → ⊥) → pinLevel q j ≡ pinLevel p j) → (j : ℕ) → pinLevel q j ≡ pinLevel p j
 same-level p q i e f j = go (eqb j i) refl
   where
-    go : (t : Bool) → eqb j i ≡ t → levelAt q j ≡ levelAt p j
-    go true t = let z = eqb-true j i t in ap (λ (k : ℕ). levelAt q k) z ∙ e ∙ sym (ap (λ (k : ℕ). levelAt p k) z)
+    go : (t : Bool) → eqb j i ≡ t → pinLevel q j ≡ pinLevel p j
+    go true t = let z = eqb-true j i t in ap (λ (k : ℕ). pinLevel q k) z ∙ e ∙ sym (ap (λ (k : ℕ). pinLevel p k) z)
     go false t = f j (eqb-false j i t)
 
-other-level : (p q : Pads) (i : ℕ) → ((j : ℕ) → (j ≡ i → ⊥) → levelAt q j ≡ levelAt p j) → (j : ℕ) → levelAt q j ≡ cond (eqb i j) (levelAt q i) (levelAt p j)
+other-level : (p q : Pads) (i : ℕ) → ((j : ℕ) → (j ≡ i → ⊥) → pinLevel q j ≡ pinLevel p j) → (j : ℕ) → pinLevel q j ≡ cond (eqb i j) (pinLevel q i) (pinLevel p j)
 other-level p q i f j = go (eqb i j) refl
   where
-    go : (t : Bool) → eqb i j ≡ t → levelAt q j ≡ cond t (levelAt q i) (levelAt p j)
-    go true t = sym (ap (λ (k : ℕ). levelAt q k) (eqb-true i j t))
+    go : (t : Bool) → eqb i j ≡ t → pinLevel q j ≡ cond t (pinLevel q i) (pinLevel p j)
+    go true t = sym (ap (λ (k : ℕ). pinLevel q k) (eqb-true i j t))
     go false t = f j (λ z. eqb-false i j t (sym z))
 
-traced-edge : (p q : Pads) (i cycle : ℕ) → ((j : ℕ) → (j ≡ i → ⊥) → levelAt q j ≡ levelAt p j) → Traced p q (edgeOf i (levelAt p i) (levelAt q i) cycle)
-unfolding seen Edges
-traced-edge p q i cycle f = go (eqb (levelAt q i) (levelAt p i)) refl
+traced-edge : (p q : Pads) (i cycle : ℕ) → ((j : ℕ) → (j ≡ i → ⊥) → pinLevel q j ≡ pinLevel p j) → Traced p q (edgeOf i (pinLevel p i) (pinLevel q i) cycle)
+unfolding levelAfter Edges
+traced-edge p q i cycle f = go (eqb (pinLevel q i) (pinLevel p i)) refl
   where
-    go : (s : Bool) → eqb (levelAt q i) (levelAt p i) ≡ s → Traced p q (cond s [] (record { pin = i; level = levelAt q i; cycle = cycle } ∷ []))
-    go true e = traced-none p q (same-level p q i (eqb-true (levelAt q i) (levelAt p i) e) f)
+    go : (s : Bool) → eqb (pinLevel q i) (pinLevel p i) ≡ s → Traced p q (cond s [] (record { pin = i; level = pinLevel q i; cycle = cycle } ∷ []))
+    go true e = traced-none p q (same-level p q i (eqb-true (pinLevel q i) (pinLevel p i) e) f)
     go false e = record { after = other-level p q i f; edges = (e, tt) }
 
 -- the pins with one another, of the same level
-put-level : (p q : Pads) (i : ℕ) (g : Gpio) → q .gpio ≡ set (p .gpio) i g → g .pin .level ≡ levelAt p i → i < length (p .gpio) → (j : ℕ) → levelAt q j ≡ levelAt p j
+put-level : (p q : Pads) (i : ℕ) (g : Gpio) → q .gpio ≡ set (p .gpio) i g → g .pin .level ≡ pinLevel p i → i < length (p .gpio) → (j : ℕ) → pinLevel q j ≡ pinLevel p j
 put-level p q i g e l h =
     same-level p q i
     (ap (λ (gs : List Gpio). getD gs i noGpio .pin .level) e ∙ ap (λ (x : Gpio). x .pin .level) (getD-set-same (p .gpio) i g noGpio h) ∙ l)
     (λ j n. ap (λ (gs : List Gpio). getD gs j noGpio .pin .level) e ∙ ap (λ (x : Gpio). x .pin .level) (getD-set-other (p .gpio) i j g noGpio n))
 
-put-other : (p : Pads) (i : ℕ) (g : Gpio) (j : ℕ) → (j ≡ i → ⊥) → levelAt (withGpio p i g) j ≡ levelAt p j
+put-other : (p : Pads) (i : ℕ) (g : Gpio) (j : ℕ) → (j ≡ i → ⊥) → pinLevel (withGpio p i g) j ≡ pinLevel p j
 put-other p i g j n = ap (λ (x : Gpio). x .pin .level) (getD-set-other (p .gpio) i j g noGpio n)
 
 -- the routes and the number of pins stay
@@ -132,11 +117,11 @@ pub refresh-keeps : (p : Pads) (i : ℕ) → Kept p (refreshPin p i .pads)
 unfolding refreshPin
 refresh-keeps p i = record { route = refl; size = simp length-set }
 
-refresh-other : (p : Pads) (i j : ℕ) → (j ≡ i → ⊥) → levelAt (refreshPin p i .pads) j ≡ levelAt p j
+refresh-other : (p : Pads) (i j : ℕ) → (j ≡ i → ⊥) → pinLevel (refreshPin p i .pads) j ≡ pinLevel p j
 unfolding refreshPin
 refresh-other p i j n = put-other p i (refreshed i (gpioAt p i) (levelOf p (signalOf (gpioAt p i))) (p .vcc) .gpio) j n
 
-update-other : (p : Pads) (i j : ℕ) → (j ≡ i → ⊥) → levelAt (updatePin p i .pads) j ≡ levelAt p j
+update-other : (p : Pads) (i j : ℕ) → (j ≡ i → ⊥) → pinLevel (updatePin p i .pads) j ≡ pinLevel p j
 unfolding updatePin
 update-other p i j n = put-other p i (updated i (gpioAt p i) (p .vcc) .gpio) j n
 
@@ -221,14 +206,14 @@ turnOf-turns : (t : Timer) (p : Pads) (d : Due) (div : ℕ) → Wired p → Turn
 turnOf-turns t p (At at e) div w = turn-turns t p e at div w
 turnOf-turns t p Stopped div w = record { traced = traced-none p p (λ i. refl); kept = record { route = refl; size = refl } }
 
-pub turned-turns : (n div : ℕ) (t : Timer) (p : Pads) → Wired p → Turns p (turned n div t p)
-unfolding turned
+pub turned-turns : (n div : ℕ) (t : Timer) (p : Pads) → Wired p → Turns p (afterEvents n div t p)
+unfolding afterEvents
 turned-turns zero div t p w = record { traced = traced-none p p (λ i. refl); kept = record { route = refl; size = refl } }
 turned-turns (suc n) div t p w =
     let s = turnOf t p (nextEvent t) div in
     let h = turnOf-turns t p (nextEvent t) div w in
     let k = turned-turns n div (s .timer) (s .pads) (wired-kept p (s .pads) (h .kept) w) in
-    let r = turned n div (s .timer) (s .pads) in
+    let r = afterEvents n div (s .timer) (s .pads) in
     record {
       traced = traced-append p (s .pads) (r .pads) (s .entries) (r .entries) (h .traced) (k .traced);
       kept = kept-trans p (s .pads) (r .pads) (h .kept) (k .kept);

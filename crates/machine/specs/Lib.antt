@@ -5,3 +5,4 @@ pub mod Call
 pub mod Step
 pub mod Refusals
 pub mod Sound
+pub mod Demand1

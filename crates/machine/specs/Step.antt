@@ -24,7 +24,7 @@ use Rattle.book.specs.Book.{Entry, entryOf, entriesOf}
 use Rattle.machine.specs.Board.{Board, Pads, Clocks, timerAt, gpioAt, withTimer, withPads, withNvic, withBooking, withClocks, withLast, freshBoard, firstBoard}
 use Rattle.machine.specs.Sys as Sys
 use Rattle.machine.specs.Deliver.{dividerOf, lineSettled, rebooked, delivered, settled}
-use Rattle.machine.specs.Call.{Setup, Call, setUp, clockTree, enable, setPin, drivePin, resetPins, read, write, peek, resetTimer, deliver, queryBooked, queryNext, queryLevel, queryVolts, queryLine, queryTime, clearPending, Outcome, refused, served}
+use Rattle.machine.specs.Call.{Setup, Question, reading, peeking, booked, next, level, volts, line, time, BookCall, pinSetting, outsideDrive, pinReset, writing, resetting, delivery, Call, setUp, clockTree, enable, clearPending, ask, lend, Outcome, refused, served}
 
 -- ---- refusals: "The lowest number that applies is given."
 
@@ -44,9 +44,9 @@ oddSize size = not (eqb size 1 || (eqb size 2 || eqb size 4))
 abbrev pub astray : Board → ℕ → Bool
 astray b cycle = ltb 4611686018427387904 cycle || ltb cycle (b .counts .last)
 
--- 6: "with under 4 places"
-abbrev pub bookFull : ℕ → Bool
-bookFull places = ltb places 4
+-- 6: fewer places than the call needs
+abbrev pub bookFull : ℕ → ℕ → Bool
+bookFull need places = ltb places need
 
 -- ---- set-up: "Set-up limits"
 
@@ -169,6 +169,67 @@ pinsReset b cycle =
     let r = Sys.resetPins (b .pads) (b .counts .pins) in
     record { number = 0; value = 0; entries = changesOf cycle (r .changes); board = withLast (withPads b (r .pads)) cycle }
 
+-- ---- calls that ask
+
+-- the numbers 2, 3 and 5 of a question, then what follows
+abbrev pub asking : Board → Question → Outcome → Outcome
+asking b (reading timer offset size cycle) o =
+    refuseIf (absent timer (b .counts .timers)) 2 b (refuseIf (oddSize size) 3 b (refuseIf (astray b cycle) 5 b o))
+asking b (peeking timer offset cycle) o = refuseIf (absent timer (b .counts .timers)) 2 b (refuseIf (astray b cycle) 5 b o)
+asking b (booked timer) o = refuseIf (absent timer (b .counts .timers)) 2 b o
+asking b next o = o
+asking b (level pin) o = refuseIf (absent pin (b .counts .pins)) 2 b o
+asking b (volts pin) o = refuseIf (absent pin (b .counts .pins)) 2 b o
+asking b (line irq) o = o
+asking b (time cycle) o = refuseIf (astray b cycle) 5 b o
+
+-- the value: "the register for a read or peek, .. what a query asks"
+abbrev pub told : Board → Question → ℕ
+told b (reading timer offset size cycle) =
+    let t = timerAt b timer in cond (clockOn b t) (laneRead (R.regRead t (register offset) cycle) offset size) 0
+told b (peeking timer offset cycle) = R.regRead (timerAt b timer) (register offset) cycle
+told b (booked timer) = S.cycleOf (b .booking) timer
+told b next = S.least (b .booking)
+told b (level pin) = gpioAt (b .pads) pin .pin .level
+told b (volts pin) = bitsOf (gpioAt (b .pads) pin .pin .volts)
+told b (line irq) = N.stateOf (N.lineAt (b .nvic) irq)
+told b (time cycle) = bitsOf (Clock.timeAt (b .clocks .clock) cycle)
+
+-- ---- calls that are lent a book
+
+-- the numbers 2 and 3 of such a call, then what follows
+abbrev pub fitting : Board → BookCall → Outcome → Outcome
+fitting b (pinSetting pin mode openDrain out pullup pulldown function) o = refuseIf (absent pin (b .counts .pins)) 2 b o
+fitting b (outsideDrive pin e) o = refuseIf (absent pin (b .counts .pins)) 2 b o
+fitting b pinReset o = o
+fitting b (writing timer offset size value) o = refuseIf (absent timer (b .counts .timers)) 2 b (refuseIf (oddSize size) 3 b o)
+fitting b (resetting timer) o = refuseIf (absent timer (b .counts .timers)) 2 b o
+fitting b (delivery timer) o = refuseIf (absent timer (b .counts .timers)) 2 b o
+
+-- 6: "a write, delivery, timer reset, pin setting or outside drive with under 4 places; a pin reset with fewer places than pins"
+abbrev pub needed : Board → BookCall → ℕ
+needed b (pinSetting pin mode openDrain out pullup pulldown function) = 4
+needed b (outsideDrive pin e) = 4
+needed b pinReset = b .counts .pins
+needed b (writing timer offset size value) = 4
+needed b (resetting timer) = 4
+needed b (delivery timer) = 4
+
+-- what it does; a write can still be refused with 7
+abbrev pub doing : Board → BookCall → ℕ → ℕ → Outcome
+doing b (pinSetting pin mode openDrain out pullup pulldown function) cycle places =
+    moved b cycle (Sys.setPin (b .pads) pin (cfgOf mode openDrain out pullup pulldown) function)
+doing b (outsideDrive pin e) cycle places = moved b cycle (Sys.drivePin (b .pads) pin e)
+doing b pinReset cycle places = pinsReset b cycle
+doing b (writing timer offset size value) cycle places =
+    let t = timerAt b timer in
+    let w = written b t offset size value cycle in
+    cond (clockOn b t)
+    (refuseIf (counterAstray (register offset) (w .timer)) 7 b (followed b timer cycle w))
+    (served 0 (withLast b cycle))
+doing b (resetting timer) cycle places = timerReset b timer cycle
+doing b (delivery timer) cycle places = deliveredTo b timer cycle places
+
 -- ---- every call
 
 unfoldable pub step : Board → Call → Outcome
@@ -183,61 +244,13 @@ step b (clockTree t cycle) =
 step b (enable word value) =
     refuseIf (absent word 9) 2 b
     (served 0 (withClocks b (record { tree = b .clocks .tree; clock = b .clocks .clock; enr = set (b .clocks .enr) word value })))
-step b (setPin pin mode openDrain out pullup pulldown function cycle places) =
-    refuseIf (absent pin (b .counts .pins)) 2 b
-    (refuseIf (astray b cycle) 5 b
-    (refuseIf (bookFull places) 6 b
-    (moved b cycle (Sys.setPin (b .pads) pin (cfgOf mode openDrain out pullup pulldown) function))))
-step b (drivePin pin e cycle places) =
-    refuseIf (absent pin (b .counts .pins)) 2 b
-    (refuseIf (astray b cycle) 5 b
-    (refuseIf (bookFull places) 6 b
-    (moved b cycle (Sys.drivePin (b .pads) pin e))))
-step b (resetPins cycle places) =
-    refuseIf (astray b cycle) 5 b
-    (refuseIf (ltb places (b .counts .pins)) 6 b
-    (pinsReset b cycle))
-step b (read timer offset size cycle) =
-    refuseIf (absent timer (b .counts .timers)) 2 b
-    (refuseIf (oddSize size) 3 b
-    (refuseIf (astray b cycle) 5 b
-    (let t = timerAt b timer in
-    served (cond (clockOn b t) (laneRead (R.regRead t (register offset) cycle) offset size) 0) b)))
-step b (write timer offset size value cycle places) =
-    refuseIf (absent timer (b .counts .timers)) 2 b
-    (refuseIf (oddSize size) 3 b
-    (refuseIf (astray b cycle) 5 b
-    (refuseIf (bookFull places) 6 b
-    (let t = timerAt b timer in
-    let w = written b t offset size value cycle in
-    cond (clockOn b t)
-    (refuseIf (counterAstray (register offset) (w .timer)) 7 b (followed b timer cycle w))
-    (served 0 (withLast b cycle))))))
-step b (peek timer offset cycle) =
-    refuseIf (absent timer (b .counts .timers)) 2 b
-    (refuseIf (astray b cycle) 5 b
-    (served (R.regRead (timerAt b timer) (register offset) cycle) b))
-step b (resetTimer timer cycle places) =
-    refuseIf (absent timer (b .counts .timers)) 2 b
-    (refuseIf (astray b cycle) 5 b
-    (refuseIf (bookFull places) 6 b
-    (timerReset b timer cycle)))
-step b (deliver timer cycle places) =
-    refuseIf (absent timer (b .counts .timers)) 2 b
-    (refuseIf (astray b cycle) 5 b
-    (refuseIf (bookFull places) 6 b
-    (deliveredTo b timer cycle places)))
-step b (queryBooked timer) =
-    refuseIf (absent timer (b .counts .timers)) 2 b (served (S.cycleOf (b .booking) timer) b)
-step b queryNext = served (S.least (b .booking)) b
-step b (queryLevel pin) =
-    refuseIf (absent pin (b .counts .pins)) 2 b (served (gpioAt (b .pads) pin .pin .level) b)
-step b (queryVolts pin) =
-    refuseIf (absent pin (b .counts .pins)) 2 b (served (bitsOf (gpioAt (b .pads) pin .pin .volts)) b)
-step b (queryLine irq) = served (N.stateOf (N.lineAt (b .nvic) irq)) b
-step b (queryTime cycle) =
-    refuseIf (astray b cycle) 5 b (served (bitsOf (Clock.timeAt (b .clocks .clock) cycle)) b)
 step b (clearPending irq) = served 0 (withNvic b (N.clearPending (b .nvic) irq))
+step b (ask q) = asking b q (served (told b q) b)
+step b (lend k cycle places) =
+    fitting b k
+    (refuseIf (astray b cycle) 5 b
+    (refuseIf (bookFull (needed b k) places) 6 b
+    (doing b k cycle places)))
 
 -- a list of calls: each gets the board that the last one left
 unfoldable pub run : Board → List Call → List Outcome
