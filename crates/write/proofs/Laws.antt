@@ -18,7 +18,7 @@ use Rattle.regs.specs.Regs as R
 use Rattle.tim.proofs.Fit.{either}
 use Rattle.regs.proofs.Fixed.{inst-written}
 use Rattle.periph.specs.Lane.{laneWrite}
-use Rattle.book.specs.Book.{Entry, Book, book, puts, entriesOf, Holds}
+use Rattle.book.specs.Book.{Entry, Book, book, puts, entriesOf, Holds, Lent, Room}
 use Rattle.book.proofs.Laws.{holds}
 use Rattle.machine.specs.Board.{Board, timerAt, withTimer, withPads, withLast}
 use Rattle.machine.specs.Sys.{driveOutputs}
@@ -110,11 +110,11 @@ module _ (w : List ℕ) (x : List Float) (i off v cycle div : ℕ) (t : Timer) (
   write-astray a h o r q =
       away w x (writtenBy (view w x) i off v cycle) 7 (rw (ap (λ (y : Written). counterAstray off (y .timer)) (sym is-written) ∙ sym h ∙ o) refl) r q
 
-  pub write-astray-book : (a : Bool) → a ≡ counterAstray off (u .timer) → a ≡ true → (r : Answer) → r ≡ answer 7 0 0 → (p l c : List ℕ)
-      → Holds (writtenBy (view w x) i off v cycle .entries) p p l l c c (r .count)
+  pub write-astray-book : (a : Bool) → a ≡ counterAstray off (u .timer) → a ≡ true → (r : Answer) → r ≡ answer 7 0 0 → (s : Lent)
+      → Holds (writtenBy (view w x) i off v cycle .entries) s s (r .count)
   unfolding writtenBy
-  write-astray-book a h o r q p l c =
-      unbooked (writtenBy (view w x) i off v cycle) p l c (r .count) (ap (λ (y : Answer). y .count) q)
+  write-astray-book a h o r q s =
+      unbooked (writtenBy (view w x) i off v cycle) s (r .count) (ap (λ (y : Answer). y .count) q)
       (rw (ap (λ (y : Written). counterAstray off (y .timer)) (sym is-written) ∙ sym h ∙ o) refl)
 
   module _ (a : Bool) (h : a ≡ counterAstray off (u .timer)) (o : a ≡ false) where
@@ -122,14 +122,14 @@ module _ (w : List ℕ) (x : List Float) (i off v cycle div : ℕ) (t : Timer) (
     unfolding writtenBy
     writes = rw (ap (λ (y : Written). counterAstray off (y .timer)) (sym is-written) ∙ sym h ∙ o) (ap (followed (view w x) i cycle) (sym is-written))
 
-    pub write-follows : (w₁ : List ℕ) (x₁ : List Float) (p p₁ l l₁ c c₁ : List ℕ) (k : ℕ)
-        → Leaves (followed (view w x) i cycle u) (view w₁ x₁) (book p l c 0) (book p₁ l₁ c₁ k)
-        → k ≤ length p → k ≤ length l → k ≤ length c
+    pub write-follows : (w₁ : List ℕ) (x₁ : List Float) (s s₁ : Lent) (k : ℕ)
+        → Leaves (followed (view w x) i cycle u) (view w₁ x₁) (book s 0) (book s₁ k)
+        → Room k s
         → Answers (writtenBy (view w x) i off v cycle) (answer 0 0 k) w w₁ x x₁
-        × Holds (writtenBy (view w x) i off v cycle .entries) p p₁ l l₁ c c₁ k
+        × Holds (writtenBy (view w x) i off v cycle .entries) s s₁ k
     unfolding followed
-    write-follows w₁ x₁ p p₁ l l₁ c c₁ k m a b d =
-        let q = holds (followed (view w x) i cycle u .entries) p l c p₁ l₁ c₁ k (m .entries) a b d in
+    write-follows w₁ x₁ s s₁ k m f =
+        let q = holds (followed (view w x) i cycle u .entries) s s₁ k (m .entries) f in
         rw writes (gives (followed (view w x) i cycle u) (answer 0 0 k) w w₁ x x₁ refl refl (q .count) (m .board) (λ y z. omega arith), q)
 
 -- the timer that a write leaves: its bounds, and its fixed parts
@@ -145,9 +145,9 @@ module _ (w : List ℕ) (x : List Float) (i offset size value cycle v : ℕ)
       → Answers (writtenOn (view w x) i offset size value cycle) r w w₁ x x₁
   on-merged r w₁ x₁ m = subst (λ (k : ℕ). Answers (writtenBy (view w x) i (register offset) k cycle) r w w₁ x x₁) e m
 
-  pub on-merged-book : (p p₁ l l₁ c c₁ : List ℕ) (k : ℕ) → Holds (writtenBy (view w x) i (register offset) v cycle .entries) p p₁ l l₁ c c₁ k
-      → Holds (writtenOn (view w x) i offset size value cycle .entries) p p₁ l l₁ c c₁ k
-  on-merged-book p p₁ l l₁ c c₁ k m = subst (λ (z : ℕ). Holds (writtenBy (view w x) i (register offset) z cycle .entries) p p₁ l l₁ c c₁ k) e m
+  pub on-merged-book : (s s₁ : Lent) (k : ℕ) → Holds (writtenBy (view w x) i (register offset) v cycle .entries) s s₁ k
+      → Holds (writtenOn (view w x) i offset size value cycle .entries) s s₁ k
+  on-merged-book s s₁ k m = subst (λ (z : ℕ). Holds (writtenBy (view w x) i (register offset) z cycle .entries) s s₁ k) e m
 
 -- a whole write is its value
 pub whole : (old offset size value : ℕ) → size ≡ 4 → value ≡ laneWrite old offset size value
@@ -158,8 +158,8 @@ whole old offset size value h = rw (eq-eqb size 4 h)
 pub coded : (o : Outcome) (a r : Answer) (w w₁ : List ℕ) (x x₁ : List Float) → r ≡ a → Answers o a w w₁ x x₁ → Answers o r w w₁ x x₁
 coded o a r w w₁ x x₁ e m = subst (λ (y : Answer). Answers o y w w₁ x x₁) (sym e) m
 
-pub coded-book : (es : List Entry) (a r : Answer) (p p₁ l l₁ c c₁ : List ℕ) → r ≡ a → Holds es p p₁ l l₁ c c₁ (a .count) → Holds es p p₁ l l₁ c c₁ (r .count)
-coded-book es a r p p₁ l l₁ c c₁ e m = subst (λ (y : Answer). Holds es p p₁ l l₁ c c₁ (y .count)) (sym e) m
+pub coded-book : (es : List Entry) (a r : Answer) (s s₁ : Lent) → r ≡ a → Holds es s s₁ (a .count) → Holds es s s₁ (r .count)
+coded-book es a r s s₁ e m = subst (λ (y : Answer). Holds es s s₁ (y .count)) (sym e) m
 
 pub coding : (k : ℕ) → answerOf (4294967296 * k) ≡ answer 0 0 k
 coding k =
@@ -202,9 +202,9 @@ module _ (w : List ℕ) (x : List Float) (i off v cycle : ℕ) (h : plain off �
   plain-gives w₁ e r a =
       rw (plain-by, a) (gives (followed (view w x) i cycle (plainly (timerAt (view w x) i) off v)) (answer 0 0 0) w w₁ x x refl refl refl e (λ y z. omega arith))
 
-  pub plain-book : (r : Answer) → r ≡ answer 0 0 0 → (p l c : List ℕ) → Holds (writtenBy (view w x) i off v cycle .entries) p p l l c c (r .count)
+  pub plain-book : (r : Answer) → r ≡ answer 0 0 0 → (s : Lent) → Holds (writtenBy (view w x) i off v cycle .entries) s s (r .count)
   unfolding followed
-  plain-book r a p l c = unbooked (writtenBy (view w x) i off v cycle) p l c (r .count) (ap (λ (y : Answer). y .count) a) (rw plain-by refl)
+  plain-book r a s = unbooked (writtenBy (view w x) i off v cycle) s (r .count) (ap (λ (y : Answer). y .count) a) (rw plain-by refl)
 
 -- the registers stored, the line settled
 pub plain-follows : (b b₁ b₂ b₃ : Board) (i off v cycle : ℕ) (on : Bool) → i < length (b .timers) → on ≡ lines off
@@ -275,10 +275,10 @@ module _ (w : List ℕ) (x : List Float) (i v cycle : ℕ) where
     pub cr1-gives : Answers (writtenBy (view w x) i off v cycle) r w w₁ x x
     cr1-gives = subst (λ (n : ℕ). Answers (writtenBy (view w x) i n v cycle) r w w₁ x x) (sym h) m
 
-    pub cr1-book : (p l c : List ℕ) → Holds (writtenBy (view w x) i off v cycle .entries) p p l l c c (r .count)
-    cr1-book p l c =
-        subst (λ (n : ℕ). Holds (writtenBy (view w x) i n v cycle .entries) p p l l c c (r .count)) (sym h)
-        (unbooked (writtenBy (view w x) i 0 v cycle) p l c (r .count) (m .count ∙ ap length cr1-entries) cr1-entries)
+    pub cr1-book : (s : Lent) → Holds (writtenBy (view w x) i off v cycle .entries) s s (r .count)
+    cr1-book s =
+        subst (λ (n : ℕ). Holds (writtenBy (view w x) i n v cycle .entries) s s (r .count)) (sym h)
+        (unbooked (writtenBy (view w x) i 0 v cycle) s (r .count) (m .count ∙ ap length cr1-entries) cr1-entries)
 
 -- ---- compares
 
@@ -362,12 +362,12 @@ module _ (w : List ℕ) (x : List Float) (i off v cycle : ℕ) (h : R.isCcr off 
       let other : (n : ℕ) → n < 0x34 → eqb off n ≡ false = λ n l. ne-eqb off n (λ e. omega (arith, e, channel-lt off h .0)) in
       simp (other 0x00 (omega arith), other 0x04 (omega arith), other 0x08 (omega arith), other 0x0c (omega arith), other 0x10 (omega arith), other 0x14 (omega arith), other 0x18 (omega arith), other 0x1c (omega arith), other 0x20 (omega arith), other 0x24 (omega arith), other 0x28 (omega arith), other 0x2c (omega arith), h)
 
-  pub compare-gives : (w₁ : List ℕ) (x₁ : List Float) (p p₁ l l₁ c c₁ : List ℕ) (k : ℕ) → Leaves compared (view w₁ x₁) (book p l c 0) (book p₁ l₁ c₁ k)
-      → k ≤ length p → k ≤ length l → k ≤ length c
-      → Answers (writtenBy (view w x) i off v cycle) (answer 0 0 k) w w₁ x x₁ × Holds (writtenBy (view w x) i off v cycle .entries) p p₁ l l₁ c c₁ k
+  pub compare-gives : (w₁ : List ℕ) (x₁ : List Float) (s s₁ : Lent) (k : ℕ) → Leaves compared (view w₁ x₁) (book s 0) (book s₁ k)
+      → Room k s
+      → Answers (writtenBy (view w x) i off v cycle) (answer 0 0 k) w w₁ x x₁ × Holds (writtenBy (view w x) i off v cycle .entries) s s₁ k
   unfolding followed
-  compare-gives w₁ x₁ p p₁ l l₁ c c₁ k m a b d =
-      let q = holds (compared .entries) p l c p₁ l₁ c₁ k (m .entries) a b d in
+  compare-gives w₁ x₁ s s₁ k m f =
+      let q = holds (compared .entries) s s₁ k (m .entries) f in
       rw compare-by (gives compared (answer 0 0 k) w w₁ x x₁ refl refl (q .count) (m .board) (λ y z. omega arith), q)
 
 -- ---- the call
@@ -386,8 +386,8 @@ module _ (w : List ℕ) (x : List Float) (timer offset size value cycle room num
   pub write-away : (num ≡ 0 → ⊥) → (r : Answer) → r ≡ answer num 0 0 → Answers (step (view w x) writing) r w w x x
   write-away z r a = turns-away w x writing num r (refusing z) z a
 
-  pub write-away-book : (num ≡ 0 → ⊥) → (r : Answer) → r ≡ answer num 0 0 → (p l c : List ℕ) → Holds (step (view w x) writing .entries) p p l l c c (r .count)
-  write-away-book z r a p l c = turns-away-book (view w x) writing num r p l c (refusing z) z a
+  pub write-away-book : (num ≡ 0 → ⊥) → (r : Answer) → r ≡ answer num 0 0 → (s : Lent) → Holds (step (view w x) writing .entries) s s (r .count)
+  write-away-book z r a s = turns-away-book (view w x) writing num r s (refusing z) z a
 
   module _ (z : num ≡ 0) (on : Bool) (gate : on ≡ clockOn (view w x) (timerAt (view w x) timer)) where
     -- the four tests pass: the gate, and what is below it
@@ -403,12 +403,12 @@ module _ (w : List ℕ) (x : List Float) (timer offset size value cycle room num
         → Answers (step (view w x) writing) r w w₁ x x₁
     write-below o r w₁ x₁ m = rw (write-gated, o) m
 
-    pub write-below-book : on ≡ true → (p p₁ l l₁ c c₁ : List ℕ) (k : ℕ) → Holds (writtenOn (view w x) timer offset size value cycle .entries) p p₁ l l₁ c c₁ k
-        → Holds (step (view w x) writing .entries) p p₁ l l₁ c c₁ k
-    write-below-book o p p₁ l l₁ c c₁ k m = rw (write-gated, o) m
+    pub write-below-book : on ≡ true → (s s₁ : Lent) (k : ℕ) → Holds (writtenOn (view w x) timer offset size value cycle .entries) s s₁ k
+        → Holds (step (view w x) writing .entries) s s₁ k
+    write-below-book o s s₁ k m = rw (write-gated, o) m
 
     pub write-off : on ≡ false → (w₁ : List ℕ) → view w₁ x ≡ withLast (view w x) cycle → (r : Answer) → r ≡ answer 0 0 0 → Answers (step (view w x) writing) r w w₁ x x
     write-off o w₁ s r a = rw (write-gated, o, a) (gives (served 0 (withLast (view w x) cycle)) (answer 0 0 0) w w₁ x x refl refl refl s (λ y z. omega arith))
 
-    pub write-off-book : on ≡ false → (r : Answer) → r ≡ answer 0 0 0 → (p l c : List ℕ) → Holds (step (view w x) writing .entries) p p l l c c (r .count)
-    write-off-book o r a p l c = unbooked (step (view w x) writing) p l c (r .count) (ap (λ (y : Answer). y .count) a) (rw (write-gated, o) refl)
+    pub write-off-book : on ≡ false → (r : Answer) → r ≡ answer 0 0 0 → (s : Lent) → Holds (step (view w x) writing .entries) s s (r .count)
+    write-off-book o r a s = unbooked (step (view w x) writing) s (r .count) (ap (λ (y : Answer). y .count) a) (rw (write-gated, o) refl)

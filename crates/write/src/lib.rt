@@ -14,7 +14,7 @@ ghost use Rattle.tim.specs.Timer.{Fit};
 ghost use Rattle.regs.specs.Regs as R;
 ghost use Rattle.periph.specs.Lane.{laneWrite};
 ghost use Rattle.state.specs.View.{view};
-ghost use Rattle.book.specs.Book.{book, places, Holds};
+ghost use Rattle.book.specs.Book.{book, places, Holds, slices, Room};
 ghost use Rattle.machine.specs.Board.{timerAt};
 ghost use Rattle.machine.specs.Call as Call;
 ghost use Rattle.machine.specs.Sys.{driveOutputs};
@@ -78,8 +78,8 @@ fn drive(
     cycle: u64,
 ) -> usize
     requires { ⌜ i < 8 ⌝ }
-    requires { ⌜ (4 ≤ length (now pins)) × (4 ≤ length (now levels)) × (4 ≤ length (now cycles)) ⌝ }
-    ensures { λ r. ⌜ Driven on (timerAt (view (now (words .entry)) (now (reals .entry))) i) cnt cycle (view (now (words .entry)) (now (reals .entry))) (view (now (words .exit)) (now (reals .exit))) (book (now (pins .entry)) (now (levels .entry)) (now (cycles .entry)) 0) (book (now (pins .exit)) (now (levels .exit)) (now (cycles .exit)) r) ⌝ }
+    requires { ⌜ Room 4 (slices (now pins) (now levels) (now cycles)) ⌝ }
+    ensures { λ r. ⌜ Driven on (timerAt (view (now (words .entry)) (now (reals .entry))) i) cnt cycle (view (now (words .entry)) (now (reals .entry))) (view (now (words .exit)) (now (reals .exit))) (book (slices (now (pins .entry)) (now (levels .entry)) (now (cycles .entry))) 0) (book (slices (now (pins .exit)) (now (levels .exit)) (now (cycles .exit))) r) ⌝ }
     ensures { λ r. ⌜ r ≤ 4 ⌝ }
 {
     if on {
@@ -118,8 +118,8 @@ fn follow(
     cycle: u64,
 ) -> usize
     requires { ⌜ (i < 8) × (Fit (w .timer)) × ((x : List Float) → w .timer .inst ≡ timerAt (view (now words) x) i .inst) ⌝ }
-    requires { ⌜ (4 ≤ length (now pins)) × (4 ≤ length (now levels)) × (4 ≤ length (now cycles)) ⌝ }
-    ensures { λ r. ⌜ Leaves (followed (view (now (words .entry)) (now (reals .entry))) i cycle w) (view (now (words .exit)) (now (reals .exit))) (book (now (pins .entry)) (now (levels .entry)) (now (cycles .entry)) 0) (book (now (pins .exit)) (now (levels .exit)) (now (cycles .exit)) r) ⌝ }
+    requires { ⌜ Room 4 (slices (now pins) (now levels) (now cycles)) ⌝ }
+    ensures { λ r. ⌜ Leaves (followed (view (now (words .entry)) (now (reals .entry))) i cycle w) (view (now (words .exit)) (now (reals .exit))) (book (slices (now (pins .entry)) (now (levels .entry)) (now (cycles .entry))) 0) (book (slices (now (pins .exit)) (now (levels .exit)) (now (cycles .exit))) r) ⌝ }
     ensures { λ r. ⌜ r ≤ 4 ⌝ }
 {
     let t = w.timer;
@@ -167,9 +167,9 @@ fn write_timer(
     cycle: u64,
 ) -> u64
     requires { ⌜ (i < 8) × (cycle ≤ 4611686018427387904) × (off ≡ 0 → ⊥) ⌝ }
-    requires { ⌜ (4 ≤ length (now pins)) × (4 ≤ length (now levels)) × (4 ≤ length (now cycles)) ⌝ }
+    requires { ⌜ Room 4 (slices (now pins) (now levels) (now cycles)) ⌝ }
     ensures { λ r. ⌜ Answers (writtenBy (view (now (words .entry)) (now (reals .entry))) i off v cycle) (answerOf r) (now (words .entry)) (now (words .exit)) (now (reals .entry)) (now (reals .exit)) ⌝ }
-    ensures { λ r. ⌜ Holds (writtenBy (view (now (words .entry)) (now (reals .entry))) i off v cycle .entries) (now (pins .entry)) (now (pins .exit)) (now (levels .entry)) (now (levels .exit)) (now (cycles .entry)) (now (cycles .exit)) (answerOf r .count) ⌝ }
+    ensures { λ r. ⌜ Holds (writtenBy (view (now (words .entry)) (now (reals .entry))) i off v cycle .entries) (slices (now (pins .entry)) (now (levels .entry)) (now (cycles .entry))) (slices (now (pins .exit)) (now (levels .exit)) (now (cycles .exit))) (answerOf r .count) ⌝ }
 {
     let t = state::load_timer(words, i);
     let div = rcc::divider(words, reals, t);
@@ -260,8 +260,8 @@ fn drive_written(
     at: u64,
 ) -> usize
     requires { ⌜ i < 8 ⌝ }
-    requires { ⌜ (4 ≤ length (now pins)) × (4 ≤ length (now levels)) × (4 ≤ length (now cycles)) ⌝ }
-    ensures { λ r. ⌜ O.Driven (driveOutputs (timerAt (view (now (words .entry)) (now (reals .entry))) i) cnt (view (now (words .entry)) (now (reals .entry)) .pads)) at (view (now (words .entry)) (now (reals .entry))) (view (now (words .exit)) (now (reals .exit))) (book (now (pins .entry)) (now (levels .entry)) (now (cycles .entry)) 0) (book (now (pins .exit)) (now (levels .exit)) (now (cycles .exit)) r) ⌝ }
+    requires { ⌜ Room 4 (slices (now pins) (now levels) (now cycles)) ⌝ }
+    ensures { λ r. ⌜ O.Driven (driveOutputs (timerAt (view (now (words .entry)) (now (reals .entry))) i) cnt (view (now (words .entry)) (now (reals .entry)) .pads)) at (view (now (words .entry)) (now (reals .entry))) (view (now (words .exit)) (now (reals .exit))) (book (slices (now (pins .entry)) (now (levels .entry)) (now (cycles .entry))) 0) (book (slices (now (pins .exit)) (now (levels .exit)) (now (cycles .exit))) r) ⌝ }
     ensures { λ r. ⌜ r ≤ 4 ⌝ }
 {
     let t = state::load_timer(words, i);
@@ -307,8 +307,8 @@ fn write_ccr(
     cycle: u64,
 ) -> usize
     requires { ⌜ (i < 8) × (ch < 4) × (cycle < 9223372036854775808) ⌝ }
-    requires { ⌜ (4 ≤ length (now pins)) × (4 ≤ length (now levels)) × (4 ≤ length (now cycles)) ⌝ }
-    ensures { λ r. ⌜ Leaves (followed (view (now (words .entry)) (now (reals .entry))) i cycle (R.ccrWritten (timerAt (view (now (words .entry)) (now (reals .entry))) i) ch v cycle)) (view (now (words .exit)) (now (reals .exit))) (book (now (pins .entry)) (now (levels .entry)) (now (cycles .entry)) 0) (book (now (pins .exit)) (now (levels .exit)) (now (cycles .exit)) r) ⌝ }
+    requires { ⌜ Room 4 (slices (now pins) (now levels) (now cycles)) ⌝ }
+    ensures { λ r. ⌜ Leaves (followed (view (now (words .entry)) (now (reals .entry))) i cycle (R.ccrWritten (timerAt (view (now (words .entry)) (now (reals .entry))) i) ch v cycle)) (view (now (words .exit)) (now (reals .exit))) (book (slices (now (pins .entry)) (now (levels .entry)) (now (cycles .entry))) 0) (book (slices (now (pins .exit)) (now (levels .exit)) (now (cycles .exit))) r) ⌝ }
     ensures { λ r. ⌜ r ≤ 4 ⌝ }
 {
     let on = regfile::write_ccr(words, i, ch, v, cycle);
@@ -337,8 +337,8 @@ fn write_compare(
     cycles: &mut [u64],
 ) -> usize
     requires { ⌜ (i < 8) × (R.isCcr off ≡ true) × (cycle < 9223372036854775808) ⌝ }
-    requires { ⌜ (4 ≤ length (now pins)) × (4 ≤ length (now levels)) × (4 ≤ length (now cycles)) ⌝ }
-    ensures { λ r. ⌜ Leaves (followed (view (now (words .entry)) (now (reals .entry))) i cycle (compareWritten (timerAt (view (now (words .entry)) (now (reals .entry))) i) (R.ccrChannel off) v cycle)) (view (now (words .exit)) (now (reals .exit))) (book (now (pins .entry)) (now (levels .entry)) (now (cycles .entry)) 0) (book (now (pins .exit)) (now (levels .exit)) (now (cycles .exit)) r) ⌝ }
+    requires { ⌜ Room 4 (slices (now pins) (now levels) (now cycles)) ⌝ }
+    ensures { λ r. ⌜ Leaves (followed (view (now (words .entry)) (now (reals .entry))) i cycle (compareWritten (timerAt (view (now (words .entry)) (now (reals .entry))) i) (R.ccrChannel off) v cycle)) (view (now (words .exit)) (now (reals .exit))) (book (slices (now (pins .entry)) (now (levels .entry)) (now (cycles .entry))) 0) (book (slices (now (pins .exit)) (now (levels .exit)) (now (cycles .exit))) r) ⌝ }
     ensures { λ r. ⌜ r ≤ 4 ⌝ }
 {
     let t = fields::inst(words, i);
@@ -363,9 +363,9 @@ fn write_other(
     cycle: u64,
 ) -> u64
     requires { ⌜ (i < 8) × (cycle ≤ 4611686018427387904) × (off ≡ 0 → ⊥) ⌝ }
-    requires { ⌜ (4 ≤ length (now pins)) × (4 ≤ length (now levels)) × (4 ≤ length (now cycles)) ⌝ }
+    requires { ⌜ Room 4 (slices (now pins) (now levels) (now cycles)) ⌝ }
     ensures { λ r. ⌜ Answers (writtenBy (view (now (words .entry)) (now (reals .entry))) i off v cycle) (answerOf r) (now (words .entry)) (now (words .exit)) (now (reals .entry)) (now (reals .exit)) ⌝ }
-    ensures { λ r. ⌜ Holds (writtenBy (view (now (words .entry)) (now (reals .entry))) i off v cycle .entries) (now (pins .entry)) (now (pins .exit)) (now (levels .entry)) (now (levels .exit)) (now (cycles .entry)) (now (cycles .exit)) (answerOf r .count) ⌝ }
+    ensures { λ r. ⌜ Holds (writtenBy (view (now (words .entry)) (now (reals .entry))) i off v cycle .entries) (slices (now (pins .entry)) (now (levels .entry)) (now (cycles .entry))) (slices (now (pins .exit)) (now (levels .exit)) (now (cycles .exit))) (answerOf r .count) ⌝ }
 {
     if is_compare(off) {
         let count = write_compare(words, reals, i, off, v, cycle, pins, levels, cycles);
@@ -390,9 +390,9 @@ fn write_any(
     cycles: &mut [u64],
 ) -> u64
     requires { ⌜ (i < 8) × (size ≤ 4) × (cycle ≤ 4611686018427387904) ⌝ }
-    requires { ⌜ (4 ≤ length (now pins)) × (4 ≤ length (now levels)) × (4 ≤ length (now cycles)) ⌝ }
+    requires { ⌜ Room 4 (slices (now pins) (now levels) (now cycles)) ⌝ }
     ensures { λ r. ⌜ Answers (writtenOn (view (now (words .entry)) (now (reals .entry))) i offset size value cycle) (answerOf r) (now (words .entry)) (now (words .exit)) (now (reals .entry)) (now (reals .exit)) ⌝ }
-    ensures { λ r. ⌜ Holds (writtenOn (view (now (words .entry)) (now (reals .entry))) i offset size value cycle .entries) (now (pins .entry)) (now (pins .exit)) (now (levels .entry)) (now (levels .exit)) (now (cycles .entry)) (now (cycles .exit)) (answerOf r .count) ⌝ }
+    ensures { λ r. ⌜ Holds (writtenOn (view (now (words .entry)) (now (reals .entry))) i offset size value cycle .entries) (slices (now (pins .entry)) (now (levels .entry)) (now (cycles .entry))) (slices (now (pins .exit)) (now (levels .exit)) (now (cycles .exit))) (answerOf r .count) ⌝ }
 {
     let v = merged(words, i, offset, size, value, cycle);
     let off = offset / 4 * 4;
@@ -429,9 +429,9 @@ fn write_whole(
     cycles: &mut [u64],
 ) -> u64
     requires { ⌜ (i < 8) × (cycle ≤ 4611686018427387904) ⌝ }
-    requires { ⌜ (4 ≤ length (now pins)) × (4 ≤ length (now levels)) × (4 ≤ length (now cycles)) ⌝ }
+    requires { ⌜ Room 4 (slices (now pins) (now levels) (now cycles)) ⌝ }
     ensures { λ r. ⌜ Answers (writtenOn (view (now (words .entry)) (now (reals .entry))) i offset 4 value cycle) (answerOf r) (now (words .entry)) (now (words .exit)) (now (reals .entry)) (now (reals .exit)) ⌝ }
-    ensures { λ r. ⌜ Holds (writtenOn (view (now (words .entry)) (now (reals .entry))) i offset 4 value cycle .entries) (now (pins .entry)) (now (pins .exit)) (now (levels .entry)) (now (levels .exit)) (now (cycles .entry)) (now (cycles .exit)) (answerOf r .count) ⌝ }
+    ensures { λ r. ⌜ Holds (writtenOn (view (now (words .entry)) (now (reals .entry))) i offset 4 value cycle .entries) (slices (now (pins .entry)) (now (levels .entry)) (now (cycles .entry))) (slices (now (pins .exit)) (now (levels .exit)) (now (cycles .exit))) (answerOf r .count) ⌝ }
 {
     let off = offset / 4 * 4;
     if has_line(off) {
@@ -473,9 +473,9 @@ fn write_on(
     cycles: &mut [u64],
 ) -> u64
     requires { ⌜ (i < 8) × (size ≤ 4) × (cycle ≤ 4611686018427387904) ⌝ }
-    requires { ⌜ (4 ≤ length (now pins)) × (4 ≤ length (now levels)) × (4 ≤ length (now cycles)) ⌝ }
+    requires { ⌜ Room 4 (slices (now pins) (now levels) (now cycles)) ⌝ }
     ensures { λ r. ⌜ Answers (writtenOn (view (now (words .entry)) (now (reals .entry))) i offset size value cycle) (answerOf r) (now (words .entry)) (now (words .exit)) (now (reals .entry)) (now (reals .exit)) ⌝ }
-    ensures { λ r. ⌜ Holds (writtenOn (view (now (words .entry)) (now (reals .entry))) i offset size value cycle .entries) (now (pins .entry)) (now (pins .exit)) (now (levels .entry)) (now (levels .exit)) (now (cycles .entry)) (now (cycles .exit)) (answerOf r .count) ⌝ }
+    ensures { λ r. ⌜ Holds (writtenOn (view (now (words .entry)) (now (reals .entry))) i offset size value cycle .entries) (slices (now (pins .entry)) (now (levels .entry)) (now (cycles .entry))) (slices (now (pins .exit)) (now (levels .exit)) (now (cycles .exit))) (answerOf r .count) ⌝ }
 {
     if size == 4 {
         return write_whole(words, reals, i, offset, value, cycle, pins, levels, cycles);
@@ -507,8 +507,8 @@ pub fn write(
     value: u32,
     cycle: u64,
 ) -> Answer
-    ensures { λ r. ⌜ Answers (step (view (now (words .entry)) (now (reals .entry))) (Call.write timer offset size value cycle (places (now (pins .entry)) (now (levels .entry)) (now (cycles .entry))))) r (now (words .entry)) (now (words .exit)) (now (reals .entry)) (now (reals .exit)) ⌝ }
-    ensures { λ r. ⌜ Holds (step (view (now (words .entry)) (now (reals .entry))) (Call.write timer offset size value cycle (places (now (pins .entry)) (now (levels .entry)) (now (cycles .entry)))) .entries) (now (pins .entry)) (now (pins .exit)) (now (levels .entry)) (now (levels .exit)) (now (cycles .entry)) (now (cycles .exit)) (r .count) ⌝ }
+    ensures { λ r. ⌜ Answers (step (view (now (words .entry)) (now (reals .entry))) (Call.write timer offset size value cycle (places (slices (now (pins .entry)) (now (levels .entry)) (now (cycles .entry)))))) r (now (words .entry)) (now (words .exit)) (now (reals .entry)) (now (reals .exit)) ⌝ }
+    ensures { λ r. ⌜ Holds (step (view (now (words .entry)) (now (reals .entry))) (Call.write timer offset size value cycle (places (slices (now (pins .entry)) (now (levels .entry)) (now (cycles .entry))))) .entries) (slices (now (pins .entry)) (now (levels .entry)) (now (cycles .entry))) (slices (now (pins .exit)) (now (levels .exit)) (now (cycles .exit))) (r .count) ⌝ }
 {
     let no = answer::book_refusal(words, timer, size, cycle, pins, levels, cycles);
     if no != 0 {

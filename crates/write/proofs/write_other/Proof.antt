@@ -28,8 +28,8 @@ same-length-3 c = search needs
 returns : tie.Need-returns
 returns c =
     let s = c .before .before .before .before .before .before .before .before .before .before .before .before .before .before .before .before .before .before in
-    let m = compare-gives (s .args .words .now) (s .args .reals .now) (s .args .i) (s .args .off) (s .args .v) (s .args .cycle) (sym (c .before .before .before .before .before .before .before .before .before .before .before .before .before .before .is-compare .ensures) ∙ c .before .before .before .before .before .before .before .before .before .before .before .before .before .if1 .taken) _ _ _ _ _ _ _ _ _ (c .before .before .before .before .before .before .before .write-compare .ensures .0) (omega (arith, c .before .before .before .before .before .before .before .write-compare .ensures .1, s .pre .1 .0)) (omega (arith, c .before .before .before .before .before .before .before .write-compare .ensures .1, s .pre .1 .1)) (omega (arith, c .before .before .before .before .before .before .before .write-compare .ensures .1, s .pre .1 .2)) in
-    (coded _ _ _ _ _ _ _ (c .made .ensures) (m .0), coded-book _ _ _ _ _ _ _ _ _ (c .made .ensures) (m .1))
+    let m = compare-gives (s .args .words .now) (s .args .reals .now) (s .args .i) (s .args .off) (s .args .v) (s .args .cycle) (sym (c .before .before .before .before .before .before .before .before .before .before .before .before .before .before .is-compare .ensures) ∙ c .before .before .before .before .before .before .before .before .before .before .before .before .before .if1 .taken) _ _ _ _ _ (c .before .before .before .before .before .before .before .write-compare .ensures .0) ((omega (arith, c .before .before .before .before .before .before .before .write-compare .ensures .1, s .pre .1 .0)), (omega (arith, c .before .before .before .before .before .before .before .write-compare .ensures .1, s .pre .1 .1)), (omega (arith, c .before .before .before .before .before .before .before .write-compare .ensures .1, s .pre .1 .2))) in
+    (coded _ _ _ _ _ _ _ (c .made .ensures) (m .0), coded-book _ _ _ _ _ (c .made .ensures) (m .1))
 
 write-timer-requires : tie.Need-write-timer-requires
 write-timer-requires c κs = search needs

@@ -1,4 +1,5 @@
 -- Refused with 7, or stored and followed.
+use Rattle.book.specs.Book.{slices}
 use native.Mathlib.Omega.{arith}
 use mathlib.Core.Path.{refl}
 use Rattle.regs.proofs.Fit.{fit-written}
@@ -23,7 +24,7 @@ counter-astray-requires c κs = search needs
 returns : tie.Need-returns
 returns c =
     let s = c .before .before .before .before .before .before .before .before .before .before .before .before in
-    (write-astray (s .args .words .now) (s .args .reals .now) (s .args .i) (s .args .off) (s .args .v) (s .args .cycle) _ _ _ (c .before .before .before .before .before .before .before .load-timer .ensures (s .args .reals .now)) (c .before .before .before .before .divider .ensures .0) (c .before .before .before .write-reg .ensures) _ (c .before .counter-astray .ensures) (c .if1 .taken) _ refl, write-astray-book (s .args .words .now) (s .args .reals .now) (s .args .i) (s .args .off) (s .args .v) (s .args .cycle) _ _ _ (c .before .before .before .before .before .before .before .load-timer .ensures (s .args .reals .now)) (c .before .before .before .before .divider .ensures .0) (c .before .before .before .write-reg .ensures) _ (c .before .counter-astray .ensures) (c .if1 .taken) _ refl (s .args .pins .now) (s .args .levels .now) (s .args .cycles .now))
+    (write-astray (s .args .words .now) (s .args .reals .now) (s .args .i) (s .args .off) (s .args .v) (s .args .cycle) _ _ _ (c .before .before .before .before .before .before .before .load-timer .ensures (s .args .reals .now)) (c .before .before .before .before .divider .ensures .0) (c .before .before .before .write-reg .ensures) _ (c .before .counter-astray .ensures) (c .if1 .taken) _ refl, write-astray-book (s .args .words .now) (s .args .reals .now) (s .args .i) (s .args .off) (s .args .v) (s .args .cycle) _ _ _ (c .before .before .before .before .before .before .before .load-timer .ensures (s .args .reals .now)) (c .before .before .before .before .divider .ensures .0) (c .before .before .before .write-reg .ensures) _ (c .before .counter-astray .ensures) (c .if1 .taken) _ refl (slices (s .args .pins .now) (s .args .levels .now) (s .args .cycles .now)))
 
 follow-requires : tie.Need-follow-requires
 follow-requires c κs =
@@ -45,8 +46,8 @@ same-length-3 c = search needs
 returns-2 : tie.Need-returns-2
 returns-2 c =
     let s = c .before .before .before .before .before .before .before .before .before .before .before .before .before .before .before .before .before .before .before .before .before .before .before .before .before in
-    let m = write-follows (s .args .words .now) (s .args .reals .now) (s .args .i) (s .args .off) (s .args .v) (s .args .cycle) _ _ _ (c .before .before .before .before .before .before .before .before .before .before .before .before .before .before .before .before .before .before .before .before .load-timer .ensures (s .args .reals .now)) (c .before .before .before .before .before .before .before .before .before .before .before .before .before .before .before .before .before .divider .ensures .0) (c .before .before .before .before .before .before .before .before .before .before .before .before .before .before .before .before .write-reg .ensures) _ (c .before .before .before .before .before .before .before .before .before .before .before .before .before .before .counter-astray .ensures) (c .before .before .before .before .before .before .before .before .before .before .before .before .before .if1 .left) _ _ _ _ _ _ _ _ _ (c .before .before .before .before .before .before .before .follow .ensures .0) (omega (arith, c .before .before .before .before .before .before .before .follow .ensures .1, s .pre .1 .0)) (omega (arith, c .before .before .before .before .before .before .before .follow .ensures .1, s .pre .1 .1)) (omega (arith, c .before .before .before .before .before .before .before .follow .ensures .1, s .pre .1 .2)) in
-    (coded _ _ _ _ _ _ _ (c .made .ensures) (m .0), coded-book _ _ _ _ _ _ _ _ _ (c .made .ensures) (m .1))
+    let m = write-follows (s .args .words .now) (s .args .reals .now) (s .args .i) (s .args .off) (s .args .v) (s .args .cycle) _ _ _ (c .before .before .before .before .before .before .before .before .before .before .before .before .before .before .before .before .before .before .before .before .load-timer .ensures (s .args .reals .now)) (c .before .before .before .before .before .before .before .before .before .before .before .before .before .before .before .before .before .divider .ensures .0) (c .before .before .before .before .before .before .before .before .before .before .before .before .before .before .before .before .write-reg .ensures) _ (c .before .before .before .before .before .before .before .before .before .before .before .before .before .before .counter-astray .ensures) (c .before .before .before .before .before .before .before .before .before .before .before .before .before .if1 .left) _ _ _ _ _ (c .before .before .before .before .before .before .before .follow .ensures .0) ((omega (arith, c .before .before .before .before .before .before .before .follow .ensures .1, s .pre .1 .0)), (omega (arith, c .before .before .before .before .before .before .before .follow .ensures .1, s .pre .1 .1)), (omega (arith, c .before .before .before .before .before .before .before .follow .ensures .1, s .pre .1 .2))) in
+    (coded _ _ _ _ _ _ _ (c .made .ensures) (m .0), coded-book _ _ _ _ _ (c .made .ensures) (m .1))
 
 pub write-timer-spec : {M : Type 1} → statement M
 write-timer-spec =

@@ -1,4 +1,5 @@
 -- DIER or SR, CR1, a compare, or another.
+use Rattle.book.specs.Book.{slices}
 use native.Mathlib.Omega.{arith}
 use Prim.Native.Nat.{_/_, _*_}
 use mathlib.Core.Path.{refl, sym, _∙_}
@@ -21,7 +22,7 @@ returns : tie.Need-returns
 returns c =
     let s = c .before .before .before .before .before .before .before in (
       on-merged (s .args .words .now) (s .args .reals .now) (s .args .i) (s .args .offset) 4 (s .args .value) (s .args .cycle) _ (whole _ _ 4 _ refl) _ _ _ (plain-gives (s .args .words .now) (s .args .reals .now) (s .args .i) _ _ (s .args .cycle) (lines-plain (s .args .offset / 4 * 4) (sym (c .before .before .before .has-line .ensures) ∙ c .before .before .if1 .taken)) _ (c .write-flags .ensures (s .args .reals .now)) _ refl),
-      on-merged-book (s .args .words .now) (s .args .reals .now) (s .args .i) (s .args .offset) 4 (s .args .value) (s .args .cycle) _ (whole _ _ 4 _ refl) _ _ _ _ _ _ _ (plain-book (s .args .words .now) (s .args .reals .now) (s .args .i) _ _ (s .args .cycle) (lines-plain (s .args .offset / 4 * 4) (sym (c .before .before .before .has-line .ensures) ∙ c .before .before .if1 .taken)) _ refl (s .args .pins .now) (s .args .levels .now) (s .args .cycles .now)),
+      on-merged-book (s .args .words .now) (s .args .reals .now) (s .args .i) (s .args .offset) 4 (s .args .value) (s .args .cycle) _ (whole _ _ 4 _ refl) _ _ _ (plain-book (s .args .words .now) (s .args .reals .now) (s .args .i) _ _ (s .args .cycle) (lines-plain (s .args .offset / 4 * 4) (sym (c .before .before .before .has-line .ensures) ∙ c .before .before .if1 .taken)) _ refl (slices (s .args .pins .now) (s .args .levels .now) (s .args .cycles .now))),
     )
 
 write-cr1-requires : tie.Need-write-cr1-requires
@@ -32,7 +33,7 @@ returns-2 : tie.Need-returns-2
 returns-2 c =
     let s = c .before .before .before .before .before .before .before .before .before in (
       on-merged (s .args .words .now) (s .args .reals .now) (s .args .i) (s .args .offset) 4 (s .args .value) (s .args .cycle) _ (whole _ _ 4 _ refl) _ _ _ (cr1-gives (s .args .words .now) (s .args .reals .now) (s .args .i) _ (s .args .cycle) _ (c .before .before .before .if2 .taken) _ _ (c .write-cr1 .ensures)),
-      on-merged-book (s .args .words .now) (s .args .reals .now) (s .args .i) (s .args .offset) 4 (s .args .value) (s .args .cycle) _ (whole _ _ 4 _ refl) _ _ _ _ _ _ _ (cr1-book (s .args .words .now) (s .args .reals .now) (s .args .i) _ (s .args .cycle) _ (c .before .before .before .if2 .taken) _ _ (c .write-cr1 .ensures) (s .args .pins .now) (s .args .levels .now) (s .args .cycles .now)),
+      on-merged-book (s .args .words .now) (s .args .reals .now) (s .args .i) (s .args .offset) 4 (s .args .value) (s .args .cycle) _ (whole _ _ 4 _ refl) _ _ _ (cr1-book (s .args .words .now) (s .args .reals .now) (s .args .i) _ (s .args .cycle) _ (c .before .before .before .if2 .taken) _ _ (c .write-cr1 .ensures) (slices (s .args .pins .now) (s .args .levels .now) (s .args .cycles .now))),
     )
 
 is-compare-requires : tie.Need-is-compare-requires
@@ -57,9 +58,9 @@ same-length-3 c = search needs
 returns-3 : tie.Need-returns-3
 returns-3 c =
     let s = c .before .before .before .before .before .before .before .before .before .before .before .before .before .before .before .before .before .before .before .before .before in
-    let m = compare-gives (s .args .words .now) (s .args .reals .now) (s .args .i) (s .args .offset / 4 * 4) (s .args .value) (s .args .cycle) (sym (c .before .before .before .before .before .before .before .before .before .before .before .before .before .before .is-compare .ensures) ∙ c .before .before .before .before .before .before .before .before .before .before .before .before .before .if3 .taken) _ _ _ _ _ _ _ _ _ (c .before .before .before .before .before .before .before .write-compare .ensures .0) (omega (arith, c .before .before .before .before .before .before .before .write-compare .ensures .1, s .pre .1 .0)) (omega (arith, c .before .before .before .before .before .before .before .write-compare .ensures .1, s .pre .1 .1)) (omega (arith, c .before .before .before .before .before .before .before .write-compare .ensures .1, s .pre .1 .2)) in (
+    let m = compare-gives (s .args .words .now) (s .args .reals .now) (s .args .i) (s .args .offset / 4 * 4) (s .args .value) (s .args .cycle) (sym (c .before .before .before .before .before .before .before .before .before .before .before .before .before .before .is-compare .ensures) ∙ c .before .before .before .before .before .before .before .before .before .before .before .before .before .if3 .taken) _ _ _ _ _ (c .before .before .before .before .before .before .before .write-compare .ensures .0) ((omega (arith, c .before .before .before .before .before .before .before .write-compare .ensures .1, s .pre .1 .0)), (omega (arith, c .before .before .before .before .before .before .before .write-compare .ensures .1, s .pre .1 .1)), (omega (arith, c .before .before .before .before .before .before .before .write-compare .ensures .1, s .pre .1 .2))) in (
       on-merged (s .args .words .now) (s .args .reals .now) (s .args .i) (s .args .offset) 4 (s .args .value) (s .args .cycle) _ (whole _ _ 4 _ refl) _ _ _ (coded _ _ _ _ _ _ _ (c .made .ensures) (m .0)),
-      on-merged-book (s .args .words .now) (s .args .reals .now) (s .args .i) (s .args .offset) 4 (s .args .value) (s .args .cycle) _ (whole _ _ 4 _ refl) _ _ _ _ _ _ _ (coded-book _ _ _ _ _ _ _ _ _ (c .made .ensures) (m .1)),
+      on-merged-book (s .args .words .now) (s .args .reals .now) (s .args .i) (s .args .offset) 4 (s .args .value) (s .args .cycle) _ (whole _ _ 4 _ refl) _ _ _ (coded-book _ _ _ _ _ (c .made .ensures) (m .1)),
     )
 
 write-any-requires : tie.Need-write-any-requires
