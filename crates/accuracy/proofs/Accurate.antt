@@ -6,19 +6,20 @@ use mathlib.Core.Bool.{Bool, true, false, cond, not, _||_}
 use mathlib.Core.List.{List, [], _∷_, _++_, append-assoc, append-nil}
 use native.Mathlib.Nat.{mul-le-mul-left, min-le-right}
 use native.Mathlib.Omega.{arith}
-use lib.Dec.{eqb, leb}
-use borrow.Author.Tests.{eqb-true, eqb-false, eq-eqb, ne-eqb, leb-true}
+use lib.Dec.{eqb}
+use borrow.Author.Tests.{eqb-true, eqb-false, eq-eqb, ne-eqb}
 use Rattle.sig.specs.Signal.{timSignal}
 use Rattle.book.specs.Book.{Entry}
 use Rattle.machine.specs.Board.{Board, timerAt, gpioAt}
 use Rattle.machine.specs.Sys.{driver, selected}
-use Rattle.machine.specs.Call.{Call, setUp, clockTree, enable, setPin, drivePin, resetPins, read, write, peek, resetTimer, deliver, queryBooked, queryNext, queryLevel, queryVolts, queryLine, queryTime, clearPending}
+use Rattle.machine.specs.Call.{pinSetting, outsideDrive, pinReset, writing, resetting, delivery, Call, setUp, clockTree, enable, clearPending, ask, lend, deliver, isRefusal}
 use Rattle.machine.specs.Step.{cfgOf, step, run, boardAfter}
 use Rattle.machine.specs.Sound.{Sound}
+use Rattle.machine.proofs.NumberLaws.{refusal-nonzero}
 use Rattle.machine.proofs.Routing.{by-test}
 use Rattle.machine.proofs.Reach.{Wired, Rest, Leaves, frame-step, frame-refused, sound-step, sound-after}
 use Rattle.accuracy.proofs.Tests.{never, both-left, both-right, one-of, apart}
-use Rattle.accuracy.specs.Claim.{steadyCall, isRefusal, steady, deliveredAt, covered, joined, board₀, board₁, signal, recorded, Claim}
+use Rattle.accuracy.specs.Claim.{steadyCall, steady, deliveredAt, covered, joined, board₀, board₁, signal, recorded, Claim}
 use Rattle.accuracy.proofs.Wave.{duty}
 use Rattle.accuracy.proofs.Aim.{Aim, period, high, signalOf, due}
 use Rattle.accuracy.proofs.Start.{aimOf, told-start}
@@ -79,9 +80,9 @@ module _ (a : Aim) (pin l₀ i from : ℕ) (b : Board) (es : List Entry) (sound 
       }
 
   -- a delivery to whatever timer
-  delivery : (j cycle places : ℕ) → Goes (deliver j cycle places)
+  any-delivery : (j cycle places : ℕ) → Goes (deliver j cycle places)
   unfolding deliveredAt
-  delivery j cycle places = go (eqb j i) refl
+  any-delivery j cycle places = go (eqb j i) refl
     where
       go : (x : Bool) → eqb j i ≡ x → Goes (deliver j cycle places)
       go true e = subst (λ (m : ℕ). Goes (deliver m cycle places)) (sym (eqb-true j i e)) (own cycle places)
@@ -92,33 +93,26 @@ module _ (a : Aim) (pin l₀ i from : ℕ) (b : Board) (es : List Entry) (sound 
   unfolding steadyCall deliveredAt
   served-call (setUp x) h = absurd (never h)
   served-call (clockTree t cycle) h = absurd (never h)
-  served-call (resetPins cycle places) h = absurd (never h)
-  served-call (setPin q mode od out pu pd f cycle places) h =
-      let free = eqb (selected (b .pads) q (cfgOf mode od out pu pd) f) (signalOf a) in
-      leaving (setPin q mode od out pu pd f cycle places) refl (apart q pin (both-left (not (eqb q pin)) (not free) h), apart _ (signalOf a) (both-right (not (eqb q pin)) (not free) h))
-  served-call (write j offset size value cycle places) h = leaving (write j offset size value cycle places) refl h
-  served-call (resetTimer j cycle places) h = leaving (resetTimer j cycle places) refl (apart j i h)
-  served-call (deliver j cycle places) h = delivery j cycle places
   served-call (enable word value) h = leaving (enable word value) refl tt
-  served-call (drivePin q e cycle places) h = leaving (drivePin q e cycle places) refl tt
-  served-call (read j offset size cycle) h = leaving (read j offset size cycle) refl tt
-  served-call (peek j offset cycle) h = leaving (peek j offset cycle) refl tt
-  served-call (queryBooked j) h = leaving (queryBooked j) refl tt
-  served-call queryNext h = leaving queryNext refl tt
-  served-call (queryLevel q) h = leaving (queryLevel q) refl tt
-  served-call (queryVolts q) h = leaving (queryVolts q) refl tt
-  served-call (queryLine irq) h = leaving (queryLine irq) refl tt
-  served-call (queryTime cycle) h = leaving (queryTime cycle) refl tt
   served-call (clearPending irq) h = leaving (clearPending irq) refl tt
+  served-call (ask q) h = leaving (ask q) refl tt
+  served-call (lend (pinSetting q mode od out pu pd f) cycle places) h =
+      let free = eqb (selected (b .pads) q (cfgOf mode od out pu pd) f) (signalOf a) in
+      leaving (lend (pinSetting q mode od out pu pd f) cycle places) refl
+      (apart q pin (both-left (not (eqb q pin)) (not free) h), apart _ (signalOf a) (both-right (not (eqb q pin)) (not free) h))
+  served-call (lend (outsideDrive q e) cycle places) h = leaving (lend (outsideDrive q e) cycle places) refl tt
+  served-call (lend pinReset cycle places) h = absurd (never h)
+  served-call (lend (writing j offset size value) cycle places) h = leaving (lend (writing j offset size value) cycle places) refl h
+  served-call (lend (resetting j) cycle places) h = leaving (lend (resetting j) cycle places) refl (apart j i h)
+  served-call (lend (delivery j) cycle places) h = any-delivery j cycle places
 
   -- "refused calls aside"
   refused-call : (c : Call) → isRefusal (step b c .number) ≡ true → Goes c
   refused-call c h =
       let n = step b c .number in
-      let lo : 1 ≤ n = leb-true 1 n (both-left (leb 1 n) (leb n 7) h) in
-      let z : eqb n 0 ≡ false = ne-eqb n 0 (λ e. omega arith) in
+      let z : eqb n 0 ≡ false = ne-eqb n 0 (refusal-nonzero n h) in
       subst (λ (x : ℕ). Kept a pin l₀ i x (step b c .board) (es ++ step b c .entries)) (sym (ap (λ (x : Bool). cond x (deliveredAt i c from) from) z))
-      (kept-rest a pin l₀ i from b es (step b c) (sound-step b c sound) (frame-refused b i (signalOf a) pin c lo (leb-true n 7 (both-right (leb 1 n) (leb n 7) h))) k)
+      (kept-rest a pin l₀ i from b es (step b c) (sound-step b c sound) (frame-refused b i (signalOf a) pin c h) k)
 
   any-call : (c : Call) → isRefusal (step b c .number) || steadyCall i pin (signalOf a) b c ≡ true → Goes c
   any-call c h = go (one-of (isRefusal (step b c .number)) (steadyCall i pin (signalOf a) b c) h)

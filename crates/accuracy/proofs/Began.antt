@@ -189,7 +189,7 @@ module _ (b : Board) (i offset size value s places : ℕ) (sound : Sound b) wher
           by-test Then (absent i (b .counts .timers)) (λ e z. absurd (omega arith))
           (λ here. either Then (oddSize size) (λ z. absurd (omega arith))
           (either Then (astray b s) (λ z. absurd (omega arith))
-          (either Then (bookFull places) (λ z. absurd (omega arith))
+          (either Then (bookFull 4 places) (λ z. absurd (omega arith))
           (either Then (clockOn b (timerAt b i))
           (either Then (counterAstray (register offset) (written b (timerAt b i) offset size value s .timer)) (λ z. absurd (omega arith))
           (then-followed (st .was-off) (leb-false (b .counts .timers) i here)))

@@ -64,4 +64,4 @@ module _ (a : Aim) (pin l₀ i from : ℕ) (b : Board) (es : List Entry) (sound 
   deliver-own =
       either Served (absent i (b .counts .timers)) (served-refused 2 (λ z. omega arith))
       (either Served (astray b cycle) (served-refused 5 (λ z. omega arith))
-      (either Served (bookFull places) (served-refused 6 (λ z. omega arith)) served-to))
+      (either Served (bookFull 4 places) (served-refused 6 (λ z. omega arith)) served-to))

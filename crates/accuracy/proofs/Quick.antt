@@ -14,10 +14,10 @@ use Rattle.book.specs.Book.{Entry}
 use Rattle.machine.specs.Board.{Board, Pads, timerAt, withLast}
 use Rattle.machine.specs.Deliver.{dividerOf, Run, stop, after, dueBy, turnOf, delivered, settled}
 use Rattle.machine.specs.Deliver as D
-use Rattle.machine.specs.Call.{Call, deliver, Outcome}
+use Rattle.machine.specs.Call.{Call, deliver, Outcome, isRefusal}
 use Rattle.machine.specs.Step.{absent, astray, deliveredTo, step, run, boardAfter}
 use Rattle.accuracy.proofs.Tests.{both-left, both-right}
-use Rattle.accuracy.specs.Claim.{steadyCall, isRefusal, steady, deliveredAt, covered, joined}
+use Rattle.accuracy.specs.Claim.{steadyCall, steady, deliveredAt, covered, joined}
 
 -- with more events than it has, a delivery that was answered 0 goes as far
 fuel : (n k now div left : ℕ) (t : Timer) (p : Pads) → D.run n now div left t p .number ≡ 0 → D.run (n + k) now div left t p ≡ D.run n now div left t p

@@ -17,7 +17,7 @@ use Rattle.book.specs.Book.{Entry}
 use Rattle.machine.specs.Board.{Board, timerAt, gpioAt, routeOf, firstBoard}
 use Rattle.machine.specs.Sys.{driver, selected}
 use Rattle.machine.specs.Deliver.{dividerOf}
-use Rattle.machine.specs.Call.{Call, setUp, clockTree, enable, setPin, drivePin, resetPins, read, write, peek, resetTimer, deliver, queryBooked, queryNext, queryLevel, queryVolts, queryLine, queryTime, clearPending, Outcome}
+use Rattle.machine.specs.Call.{pinSetting, outsideDrive, pinReset, writing, resetting, delivery, Call, setUp, clockTree, enable, clearPending, ask, lend, write, ifLent, ifDelivery, Outcome, isRefusal}
 use Rattle.machine.specs.Step.{step, run, boardAfter, clockOn, register, cfgOf}
 use lib.ListN.{getD}
 
@@ -64,30 +64,19 @@ quietRegister off = eqb off 0x04 || (eqb off 0x08 || (eqb off 0x0c || eqb off 0x
 unfoldable pub steadyCall : ℕ → ℕ → ℕ → Board → Call → Bool
 steadyCall timer pin s b (setUp _) = false
 steadyCall timer pin s b (clockTree _ _) = false
-steadyCall timer pin s b (setPin q mode od out pu pd f cycle places) =
-    not (eqb q pin) && not (eqb (selected (b .pads) q (cfgOf mode od out pu pd) f) s)
-steadyCall timer pin s b (resetPins _ _) = false
-steadyCall timer pin s b (write i offset size value cycle places) =
-    not (eqb i timer) || (quietRegister (register offset) || not (clockOn b (timerAt b timer)))
-steadyCall timer pin s b (resetTimer i cycle places) = not (eqb i timer)
 steadyCall timer pin s b (enable _ _) = true
-steadyCall timer pin s b (drivePin _ _ _ _) = true
-steadyCall timer pin s b (read _ _ _ _) = true
-steadyCall timer pin s b (peek _ _ _) = true
-steadyCall timer pin s b (deliver _ _ _) = true
-steadyCall timer pin s b (queryBooked _) = true
-steadyCall timer pin s b queryNext = true
-steadyCall timer pin s b (queryLevel _) = true
-steadyCall timer pin s b (queryVolts _) = true
-steadyCall timer pin s b (queryLine _) = true
-steadyCall timer pin s b (queryTime _) = true
 steadyCall timer pin s b (clearPending _) = true
+steadyCall timer pin s b (ask _) = true
+steadyCall timer pin s b (lend (pinSetting q mode od out pu pd f) _ _) =
+    not (eqb q pin) && not (eqb (selected (b .pads) q (cfgOf mode od out pu pd) f) s)
+steadyCall timer pin s b (lend (outsideDrive _ _) _ _) = true
+steadyCall timer pin s b (lend pinReset _ _) = false
+steadyCall timer pin s b (lend (writing i offset size value) _ _) =
+    not (eqb i timer) || (quietRegister (register offset) || not (clockOn b (timerAt b timer)))
+steadyCall timer pin s b (lend (resetting i) _ _) = not (eqb i timer)
+steadyCall timer pin s b (lend (delivery _) _ _) = true
 
--- "refused calls aside": 1 to 7
-abbrev pub isRefusal : ℕ → Bool
-isRefusal n = leb 1 n && leb n 7
-
--- every call of the list, on the board that it arrives at
+-- "refused calls aside": every other call of the list, on the board that it arrives at
 unfoldable pub steady : ℕ → ℕ → ℕ → Board → List Call → Bool
 steady timer pin s b [] = true
 steady timer pin s b (c ∷ cs) = (isRefusal (step b c .number) || steadyCall timer pin s b c) && steady timer pin s (step b c .board) cs
@@ -98,26 +87,9 @@ steady timer pin s b (c ∷ cs) = (isRefusal (step b c .number) || steadyCall ti
 abbrev pub firstUpdate : Timer → ℕ → ℕ → ℕ
 firstUpdate t s cycles = s + (t .count .«arr_act» + 1 - t .count .cnt0) * cycles
 
--- a call's cycle, if it is a delivery to the timer
+-- the cycle after a call, if it is a delivery to the timer
 unfoldable pub deliveredAt : ℕ → Call → ℕ → ℕ
-deliveredAt timer (deliver i cycle places) other = cond (eqb i timer) (cycle + 1) other
-deliveredAt timer (setUp _) other = other
-deliveredAt timer (clockTree _ _) other = other
-deliveredAt timer (enable _ _) other = other
-deliveredAt timer (setPin _ _ _ _ _ _ _ _ _) other = other
-deliveredAt timer (drivePin _ _ _ _) other = other
-deliveredAt timer (resetPins _ _) other = other
-deliveredAt timer (read _ _ _ _) other = other
-deliveredAt timer (write _ _ _ _ _ _) other = other
-deliveredAt timer (peek _ _ _) other = other
-deliveredAt timer (resetTimer _ _ _) other = other
-deliveredAt timer (queryBooked _) other = other
-deliveredAt timer queryNext other = other
-deliveredAt timer (queryLevel _) other = other
-deliveredAt timer (queryVolts _) other = other
-deliveredAt timer (queryLine _) other = other
-deliveredAt timer (queryTime _) other = other
-deliveredAt timer (clearPending _) other = other
+deliveredAt timer c other = ifLent (λ k cycle places. ifDelivery (λ i. cond (eqb i timer) (cycle + 1) other) other k) other c
 
 -- the cycle after the timer's last delivery answered 0; 0 where there is none
 unfoldable pub covered : ℕ → Board → List Call → ℕ → ℕ

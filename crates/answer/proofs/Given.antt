@@ -2,7 +2,6 @@
 use mathlib.Core.Path.{_≡_, refl, ap, sym, _∙_}
 use mathlib.Core.Bool.{Bool, true, false, cond, not, _||_, false≢true}
 use mathlib.Core.List.{List, [], _∷_, _++_}
-use mathlib.Core.Logic.{_⊎_, inl, inr}
 use Prim.Native.Nat.{ℕ, _≤_, _<_}
 use native.Mathlib.Omega.{arith}
 use lib.ListN.{length}
@@ -11,10 +10,10 @@ use borrow.Author.Tests.{eqb-true, lt-ltb, le-ltb, ltb-true, ltb-false, leb-fals
 use lib.Ieee.{Float}
 use Rattle.book.specs.Book.{Holds, Lent}
 use Rattle.machine.specs.Board.{Board}
-use Rattle.machine.specs.Call.{Call, Outcome, refused}
+use Rattle.machine.specs.Call.{Call, Outcome, refused, isRefusal}
 use Rattle.machine.specs.Step.{step, oddSize}
-use Rattle.machine.specs.Refusals.{Refusal, _when_, refusals, ending, isDelivery, first, rises, noSuchIndex, badSize, clockAstray, bookFull}
-use Rattle.machine.proofs.NumberLaws.{both, Verdict, refuses, passes, performed, step-given, answered, performed-number, ending-cases}
+use Rattle.machine.specs.Refusals.{Refusal, _when_, refusals, order, inOrder, first, noSuchIndex, badSize, clockAstray, bookFull}
+use Rattle.machine.proofs.NumberLaws.{Verdict, refuses, passes, no-both, refusal-nonzero, allRefusals, behind, order-refuses, performed, step-given, answered, performed-served}
 use Rattle.state.specs.View.{view}
 use Rattle.answer.specs.declared.Answer.{Answer}
 use Rattle.answer.specs.Promise.{answer, Answers}
@@ -37,7 +36,7 @@ served-step b c e = go (answered b c)
 
 -- the answer of a refused call
 pub away : (w : List ℕ) (x : List Float) (o : Outcome) (n : ℕ) → o ≡ refused n (view w x) → (r : Answer) → r ≡ answer n 0 0 → Answers o r w w x x
-away w x o n e r h = rw (e, h) (record { number = refl; value = refl; count = refl; board = refl; kept = λ p q. (refl, refl) })
+away w x o n e r h = rw (e, h) (record { number = refl; value = refl; count = refl; board = refl; kept = λ p. (refl, refl) })
 
 -- its book: untouched
 pub unbooked : (o : Outcome) (u : Lent) (n : ℕ) → n ≡ 0 → o .entries ≡ [] → Holds (o .entries) u u n
@@ -45,13 +44,13 @@ unbooked o u n h e = rw (e, h) (record { count = refl; pins = refl; levels = ref
 
 -- the answer of a call that was not refused
 pub gives : (o : Outcome) (r : Answer) (w w₁ : List ℕ) (x x₁ : List Float)
-    → r .number ≡ o .number → r .value ≡ o .value → r .count ≡ length (o .entries) → view w₁ x₁ ≡ o .board → (1 ≤ o .number → o .number ≤ 7 → ⊥) → Answers o r w w₁ x x₁
+    → r .number ≡ o .number → r .value ≡ o .value → r .count ≡ length (o .entries) → view w₁ x₁ ≡ o .board → isRefusal (o .number) ≡ false → Answers o r w w₁ x x₁
 gives o r w w₁ x x₁ n v k b h = record {
   number = n;
   value = v;
   count = k;
   board = b;
-  kept = λ p q. absurd (h (omega (arith, n)) (omega (arith, n)));
+  kept = λ p. absurd (no-both _ (ap isRefusal (sym n) ∙ p) h);
 }
 
 -- ---- a call's answer and book, from `refusal`'s number
@@ -66,16 +65,12 @@ pub turns-away-book : (b : Board) (c : Call) (n : ℕ) (r : Answer) (u : Lent)
 turns-away-book b c n r u e z h =
     unbooked (step b c) u (r .count) (ap (λ (a : Answer). a .count) h) (ap (λ (o : Outcome). o .entries) (refused-step b c n e z))
 
--- not refused: as performed, which is never answered 1 to 7
+-- not refused: as performed, which is never answered with a refusal
 pub serves : (b : Board) (c : Call) (r : Answer) (w w₁ : List ℕ) (x x₁ : List Float)
     → 0 ≡ first (refusals b c) → r .number ≡ performed b c .number → r .value ≡ performed b c .value → r .count ≡ length (performed b c .entries)
     → view w₁ x₁ ≡ performed b c .board → Answers (step b c) r w w₁ x x₁
 serves b c r w w₁ x x₁ e n v k h =
-    rw (served-step b c (sym e)) (gives (performed b c) r w w₁ x x₁ n v k h (λ p q. go (ending-cases b c) (rw (sym (performed-number b c)) p) (rw (sym (performed-number b c)) q)))
-  where
-    go : ((ending b c ≡ 0) ⊎ ((ending b c ≡ 8) × (isDelivery c ≡ true))) → 1 ≤ ending b c → ending b c ≤ 7 → ⊥
-    go (inl z) p q = omega arith
-    go (inr z) p q = omega (arith, z .0)
+    rw (served-step b c (sym e)) (gives (performed b c) r w w₁ x x₁ n v k h (performed-served b c))
 
 pub serves-book : (b : Board) (c : Call) (u u₁ : Lent) (n : ℕ)
     → 0 ≡ first (refusals b c) → Holds (performed b c .entries) u u₁ n → Holds (step b c .entries) u u₁ n
@@ -149,11 +144,14 @@ first-front ((n when true) ∷ rs) more z = refl
 first-front ((n when false) ∷ rs) more z = first-front rs more z
 
 -- none does: the rest decides
-pub first-rest : (low : ℕ) (rs more : List Refusal) → rises low rs ≡ true → first rs ≡ 0 → first more ≡ first (rs ++ more)
-unfolding first rises
-first-rest low [] more r h = refl
-first-rest low ((n when true) ∷ rs) more r h = absurd (omega (arith, ltb-true low n (both (ltb low n) _ r .0), h))
-first-rest low ((n when false) ∷ rs) more r h = first-rest n rs more (both (leb n 7) _ (both (ltb low n) _ r .1) .1) h
+rest-of : (os : List ℕ) (rs more : List Refusal) → allRefusals os ≡ true → inOrder os rs ≡ true → first rs ≡ 0 → first more ≡ first (rs ++ more)
+unfolding first
+rest-of os [] more a r h = refl
+rest-of os ((n when true) ∷ rs) more a r h = absurd (refusal-nonzero n (behind os n true rs a r .refusal) h)
+rest-of os ((n when false) ∷ rs) more a r h = let q = behind os n false rs a r in rest-of (q .rest) rs more (q .refusals) (q .ordered) h
+
+pub first-rest : (rs more : List Refusal) → inOrder order rs ≡ true → first rs ≡ 0 → first more ≡ first (rs ++ more)
+first-rest rs more r h = rest-of order rs more order-refuses r h
 
 -- the book's own test
 pub book-full : (places : ℕ) → places < 4 → 6 ≡ first (bookFull 4 places ∷ [])

@@ -10,7 +10,7 @@ use Rattle.real.specs.Real.{positive}
 use Rattle.machine.specs.Board.{Board}
 use Rattle.machine.specs.Call.{Setup, Outcome, setUp}
 use Rattle.machine.specs.Step.{step, withinLimits}
-use Rattle.machine.proofs.NumberLaws.{either}
+use Rattle.machine.proofs.NumberLaws.{refusal-nonzero, either}
 use Rattle.state.specs.View.{view}
 use Rattle.setup.specs.Setup.{Answered}
 use Rattle.answer.specs.declared.Answer.{Answer}
@@ -32,5 +32,5 @@ set-up-answers s w w₁ x x₁ n h = record {
   value = sym (plain (view w x) s .value);
   count = sym (plain (view w x) s .entries);
   board = h .board;
-  kept = λ p q. (h .words (λ z. omega arith), h .reals (λ z. omega arith));
+  kept = λ p. (h .words (refusal-nonzero n p), h .reals (refusal-nonzero n p));
 }

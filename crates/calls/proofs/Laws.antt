@@ -16,7 +16,7 @@ use Rattle.machine.specs.Board.{Board}
 use Rattle.machine.specs.Call.{Call, Outcome, Setup, setUp, clockTree, enable, setPin, drivePin, resetPins, read, write, peek, resetTimer, deliver, queryBooked, queryNext, queryLevel, queryVolts, queryLine, queryTime, clearPending}
 use Rattle.machine.specs.Step.{step, withinLimits}
 use Rattle.machine.specs.Refusals.{lent}
-use Rattle.machine.proofs.NumberLaws.{either}
+use Rattle.machine.proofs.NumberLaws.{refusal-nonzero, either}
 use Rattle.machine.proofs.Numbers.{entries-fit}
 use Rattle.state.specs.View.{view}
 use Rattle.pads.specs.Ext.{extOf}
@@ -196,5 +196,5 @@ set-up-answers s w w₁ x x₁ n h = record {
   value = sym (plain (view w x) s .value);
   count = sym (plain (view w x) s .entries);
   board = h .board;
-  kept = λ p q. (h .words (λ z. omega arith), h .reals (λ z. omega arith));
+  kept = λ p. (h .words (refusal-nonzero n p), h .reals (refusal-nonzero n p));
 }

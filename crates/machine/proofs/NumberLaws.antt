@@ -256,6 +256,14 @@ order-refuses = refl
 pub answered : (b : Board) (c : Call) → Verdict (refusals b c) b (performed b c)
 answered b c = verdict order (refusals b c) b (performed b c) order-refuses (in-order b c)
 
+-- none of a list in order applies: what follows is given
+pub passing : (rs : List Refusal) (b : Board) (o : Outcome) → inOrder order rs ≡ true → first rs ≡ 0 → given rs b o ≡ o
+passing rs b o h z = go (verdict order rs b o order-refuses h)
+  where
+    go : Verdict rs b o → given rs b o ≡ o
+    go (refuses n l u f a g) = absurd (omega (arith, sym f ∙ z))
+    go (passes f a g) = g
+
 -- ---- what holds of each
 
 -- a property of both holds of either

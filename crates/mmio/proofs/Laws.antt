@@ -198,7 +198,7 @@ pub tree-gives : (w w₁ w₂ : List ℕ) (x x₁ : List Float) (t : ClockTree) 
 unfolding step
 tree-gives w w₁ w₂ x x₁ t cycle g e o b f p q s r a =
     rw (a, sym e ∙ not-false g o, sym f ∙ p) (gives (served 0 (withLast (treeSet (view w x) t cycle) cycle)) (answer 0 0 0) w w₂ x x₁ refl refl refl
-    (s ∙ ap (λ (y : Board). withLast y cycle) q) (λ y z. omega arith))
+    (s ∙ ap (λ (y : Board). withLast y cycle) q) refl)
 
 pub tree-cycle : (b : Board) (cycle : ℕ) (a : Bool) → a ≡ astray b cycle → a ≡ false → cycle < 9223372036854775808
 tree-cycle b cycle a e o = go (ltb 4611686018427387904 cycle) refl (sym e ∙ o)

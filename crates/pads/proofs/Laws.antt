@@ -81,7 +81,7 @@ served w w₁ x x₁ u u₁ call n r es b h z does e v k =
     let o : Outcome = record { number = 0; value = 0; entries = es; board = b } in
     let s : step (view w x) call ≡ o = served-step (view w x) call (sym h ∙ z) ∙ does in
     let a : Answers o r w w₁ x x₁ =
-    gives o r w w₁ x x₁ (ap (λ (y : Answer). y .number) e) (ap (λ (y : Answer). y .value) e) (k .count) v (λ i j. omega arith) in
+    gives o r w w₁ x x₁ (ap (λ (y : Answer). y .number) e) (ap (λ (y : Answer). y .value) e) (k .count) v refl in
     (rw s a, rw s k)
 
 -- one pin moved, its change written at place 0

@@ -36,7 +36,7 @@ module _ (w : List ℕ) (x : List Float) (r : Answer) where
   turned t n o h e = away w x _ n (ap (λ (b : Bool). refuseIf b n (view w x) o) h) r e
 
   told : (u v : ℕ) → u ≡ v → r ≡ answer 0 u 0 → Answers (served v (view w x)) r w w x x
-  told u v h e = rw (e, h) (record { number = refl; value = refl; count = refl; board = refl; kept = λ p q. (refl, refl) })
+  told u v h e = rw (e, h) (record { number = refl; value = refl; count = refl; board = refl; kept = λ p. (refl, refl) })
 
   -- one that its test lets pass
   passed : (t : Bool) (n u v : ℕ) → t ≡ false → u ≡ v → r ≡ answer 0 u 0 → Answers (refuseIf t n (view w x) (served v (view w x))) r w w x x
@@ -96,7 +96,7 @@ module _ (w w₁ : List ℕ) (x : List Float) (r : Answer) (served-0 : r ≡ ans
   done : (b : Board) → view w₁ x ≡ b → Answers (served 0 b) r w w₁ x x
   done b h =
       gives _ r w w₁ x x (ap (λ (a : Answer). a .number) served-0) (ap (λ (a : Answer). a .value) served-0) (ap (λ (a : Answer). a .count) served-0) h
-      (λ p q. omega arith)
+      refl
 
   pub pending-cleared : (i : ℕ) → view w₁ x ≡ withNvic (view w x) (N.clearPending (view w x .nvic) i)
       → Answers (step (view w x) (clearPending i)) r w w₁ x x

@@ -25,7 +25,7 @@ use Rattle.machine.specs.Sys.{driveOutputs}
 use Rattle.machine.specs.Deliver.{dividerOf, lineSettled, rebooked}
 use Rattle.machine.specs.Call.{Call, Outcome, write, served}
 use Rattle.machine.specs.Step.{step, refuseIf, astray, clockOn, register, present, written, counterAstray, followed}
-use Rattle.machine.specs.Refusals.{Refusal, refusals, first, rises}
+use Rattle.machine.specs.Refusals.{Refusal, refusals, inOrder, first}
 use Rattle.machine.specs.Refusals as Refusals
 use Rattle.state.specs.Board.{withInst}
 use Rattle.state.specs.View.{view}
@@ -34,7 +34,7 @@ use Rattle.rcc.proofs.Laws.{stored-there}
 use Rattle.outputs.specs.Outputs as O
 use Rattle.answer.specs.declared.Answer.{Answer}
 use Rattle.answer.specs.Promise.{answer, Answers}
-use Rattle.machine.proofs.NumberLaws.{Verdict, refuses, passes, given, verdict}
+use Rattle.machine.proofs.NumberLaws.{given, passing}
 use Rattle.answer.proofs.Given.{first-front, away, gives, turns-away, turns-away-book, unbooked}
 use Rattle.mmio.specs.Leaves.{Leaves}
 use Rattle.mmio.proofs.Laws.{asked}
@@ -130,7 +130,7 @@ module _ (w : List ℕ) (x : List Float) (i off v cycle div : ℕ) (t : Timer) (
     unfolding followed
     write-follows w₁ x₁ s s₁ k m f =
         let q = holds (followed (view w x) i cycle u .entries) s s₁ k (m .entries) f in
-        rw writes (gives (followed (view w x) i cycle u) (answer 0 0 k) w w₁ x x₁ refl refl (q .count) (m .board) (λ y z. omega arith), q)
+        rw writes (gives (followed (view w x) i cycle u) (answer 0 0 k) w w₁ x x₁ refl refl (q .count) (m .board) refl, q)
 
 -- the timer that a write leaves: its bounds, and its fixed parts
 pub written-kept : (w : List ℕ) (i off v cycle div : ℕ) (t : Timer) (u : Written) → ((x : List Float) → t ≡ timerAt (view w x) i) → u ≡ R.regWritten t off v cycle div
@@ -200,7 +200,7 @@ module _ (w : List ℕ) (x : List Float) (i off v cycle : ℕ) (h : plain off �
       → Answers (writtenBy (view w x) i off v cycle) r w w₁ x x
   unfolding followed
   plain-gives w₁ e r a =
-      rw (plain-by, a) (gives (followed (view w x) i cycle (plainly (timerAt (view w x) i) off v)) (answer 0 0 0) w w₁ x x refl refl refl e (λ y z. omega arith))
+      rw (plain-by, a) (gives (followed (view w x) i cycle (plainly (timerAt (view w x) i) off v)) (answer 0 0 0) w w₁ x x refl refl refl e refl)
 
   pub plain-book : (r : Answer) → r ≡ answer 0 0 0 → (s : Lent) → Holds (writtenBy (view w x) i off v cycle .entries) s s (r .count)
   unfolding followed
@@ -269,7 +269,7 @@ module _ (w : List ℕ) (x : List Float) (i v cycle : ℕ) where
         (gives (followed (view w x) i cycle (R.booked started)) (answer 0 0 0) w w₁ x x refl refl refl
         (e₃ ∙ ap (λ (y : Board). withLast y cycle)
         (e₂ ∙ ap (λ (y : Timer). rebooked i y cycle b₁) (stored-there (view w x) b₁ i started l e₁) ∙ ap (rebooked i started cycle) e₁))
-        (λ y z. omega arith))
+        refl)
 
   module _ (off : ℕ) (h : off ≡ 0) (r : Answer) (w₁ : List ℕ) (m : Answers (writtenBy (view w x) i 0 v cycle) r w w₁ x x) where
     pub cr1-gives : Answers (writtenBy (view w x) i off v cycle) r w w₁ x x
@@ -368,7 +368,7 @@ module _ (w : List ℕ) (x : List Float) (i off v cycle : ℕ) (h : R.isCcr off 
   unfolding followed
   compare-gives w₁ x₁ s s₁ k m f =
       let q = holds (compared .entries) s s₁ k (m .entries) f in
-      rw compare-by (gives compared (answer 0 0 k) w w₁ x x₁ refl refl (q .count) (m .board) (λ y z. omega arith), q)
+      rw compare-by (gives compared (answer 0 0 k) w w₁ x x₁ refl refl (q .count) (m .board) refl, q)
 
 -- ---- the call
 module _ (w : List ℕ) (x : List Float) (timer offset size value cycle room num : ℕ) (h : num ≡ asked timer size (view w x) cycle room) where
@@ -392,12 +392,8 @@ module _ (w : List ℕ) (x : List Float) (timer offset size value cycle room num
   module _ (z : num ≡ 0) (on : Bool) (gate : on ≡ clockOn (view w x) (timerAt (view w x) timer)) where
     -- the four tests pass: the gate, and what is below it
     pub write-gated : step (view w x) writing ≡ cond on (writtenOn (view w x) timer offset size value cycle) (served 0 (withLast (view w x) cycle))
-    unfolding step given rises written writtenBy
-    write-gated = rw gate (go _ (verdict 0 tests (view w x) _ refl))
-      where
-        go : (o : Outcome) → Verdict tests (view w x) o → given tests (view w x) o ≡ o
-        go o (refuses n l u f a g) = absurd (omega (arith, sym f ∙ sym h ∙ z))
-        go o (passes f a g) = g
+    unfolding step given inOrder written writtenBy
+    write-gated = rw gate (passing tests (view w x) _ refl (sym h ∙ z))
 
     pub write-below : on ≡ true → (r : Answer) (w₁ : List ℕ) (x₁ : List Float) → Answers (writtenOn (view w x) timer offset size value cycle) r w w₁ x x₁
         → Answers (step (view w x) writing) r w w₁ x x₁
@@ -408,7 +404,7 @@ module _ (w : List ℕ) (x : List Float) (timer offset size value cycle room num
     write-below-book o s s₁ k m = rw (write-gated, o) m
 
     pub write-off : on ≡ false → (w₁ : List ℕ) → view w₁ x ≡ withLast (view w x) cycle → (r : Answer) → r ≡ answer 0 0 0 → Answers (step (view w x) writing) r w w₁ x x
-    write-off o w₁ s r a = rw (write-gated, o, a) (gives (served 0 (withLast (view w x) cycle)) (answer 0 0 0) w w₁ x x refl refl refl s (λ y z. omega arith))
+    write-off o w₁ s r a = rw (write-gated, o, a) (gives (served 0 (withLast (view w x) cycle)) (answer 0 0 0) w w₁ x x refl refl refl s refl)
 
     pub write-off-book : on ≡ false → (r : Answer) → r ≡ answer 0 0 0 → (s : Lent) → Holds (step (view w x) writing .entries) s s (r .count)
     write-off-book o r a s = unbooked (step (view w x) writing) s (r .count) (ap (λ (y : Answer). y .count) a) (rw (write-gated, o) refl)
