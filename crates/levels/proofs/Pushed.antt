@@ -123,7 +123,7 @@ decode-driven : (l : List ℕ) (v u vcc : Float) (level : ℕ) → level ≤ 1
     ≡ pushPull (decodeGpio (front 0 16 l) v u) level vcc
 unfolding decodeGpio stored front pushPull
 decode-driven l v u vcc level h =
-    let e : level % 256 ≡ level = omega arith in
+    let e : level % 2 ≡ level = omega arith in
     rw (e, flag-word (getD (front 0 16 l) 3 0), flag-word (getD (front 0 16 l) 4 0))
 
 module _ (w : List ℕ) (x : List Float) (size : length w ≡ 5276) (reals : length x ≡ 264) (p : ℕ) (h : p < 128) where

@@ -36,7 +36,7 @@ pub fn level(words: &[u64; WORDS], p: usize) -> u8
     requires { ⌜ p < 128 ⌝ }
     ensures { λ r. ⌜ ((x : List Float) → r ≡ gpioAt (view (now (words .entry)) x) p .pin .level) ⌝ }
 {
-    (words[GPIO + (p * GPIO_WORDS + 14)] % 256) as u8
+    (words[GPIO + (p * GPIO_WORDS + 14)] % 2) as u8
 }
 
 // The selected signal.

@@ -4,7 +4,7 @@ use mathlib.Core.Bool.{Bool, true, false, cond}
 use mathlib.Core.List.{List, [], _∷_}
 use Prim.Native.Nat.{ℕ, _≤_, _<_}
 use native.Mathlib.Omega.{arith}
-use lib.Dec.{ltb, leb}
+use lib.Dec.{ltb, leb, lit≤}
 use lib.Ieee.{Float}
 use borrow.Author.Tests.{ltb-false, leb-false}
 use Rattle.words.specs.declared.PinCfg.{PinCfg}
@@ -53,6 +53,11 @@ two : (u v : Bool) → _≡_ {A = ℕ} (cond u 5 (cond v 6 0)) 0 → v ≡ false
 two true v h = absurd (omega (arith, h))
 two false true h = absurd (omega (arith, h))
 two false false h = refl
+
+-- a yes or no is 0 or 1
+pub bit-le : (b : Bool) → cond b 1 0 ≤ 1
+bit-le true = lit≤ tt
+bit-le false = lit≤ tt
 
 -- none applies: there is such a pin, and room
 pub pin-there : (b : Board) (pin cycle pl n : ℕ) → n ≡ first (noSuchIndex pin (b .counts .pins) ∷ clockAstray b cycle ∷ bookFull 4 pl ∷ []) → n ≡ 0

@@ -8,9 +8,9 @@ use lib.Ieee.{Float, nan}
 use Rattle.tim.specs.Timer.{Fit}
 use Rattle.nvic.specs.Nvic.{lineOf}
 use Rattle.codec.specs.Codec.{decodeTimer}
-use Rattle.words.specs.Codec.{decodeGpio}
+use Rattle.words.specs.Codec.{GpioFit}
 use Rattle.codec.proofs.Bounds.{timer-fit}
-use Rattle.words.proofs.Bounds.{gpio-sig}
+use Rattle.words.proofs.Bounds.{gpio-fit}
 use Rattle.machine.specs.Board.{Board, noTimer, noGpio}
 use Rattle.state.specs.Board.{Divided, timerAt, gpioAt, routeAt, sigLevelAt, enrAt}
 use Rattle.state.specs.Parts.{parts, blocks}
@@ -23,11 +23,11 @@ unfolding gpiosOf
 length-gpios [] rs = refl
 length-gpios (b ∷ bs) rs = ap suc (length-gpios bs (drop 1 rs))
 
-gpios-sig : (bs : List (List ℕ)) (rs : List (List Float)) (p : ℕ) → getD (gpiosOf bs rs) p noGpio .sig < 256
+gpios-fit : (bs : List (List ℕ)) (rs : List (List Float)) (p : ℕ) → GpioFit (getD (gpiosOf bs rs) p noGpio)
 unfolding gpiosOf
-gpios-sig [] rs p = omega arith
-gpios-sig (b ∷ bs) rs zero = gpio-sig b (getD (getD rs 0 []) 0 nan) (getD (getD rs 0 []) 1 nan)
-gpios-sig (b ∷ bs) rs (suc p) = gpios-sig bs (drop 1 rs) p
+gpios-fit [] rs p = omega arith
+gpios-fit (b ∷ bs) rs zero = gpio-fit b (getD (getD rs 0 []) 0 nan) (getD (getD rs 0 []) 1 nan)
+gpios-fit (b ∷ bs) rs (suc p) = gpios-fit bs (drop 1 rs) p
 
 pub bounded : (w : List ℕ) (x : List Float) → Bounded (view w x)
 unfolding view
@@ -35,7 +35,7 @@ bounded w x =
     let part : ℕ → List ℕ = (λ i. getD (parts 0 sizes w) i []) in
     record {
       timer-fit = map-all decodeTimer Fit noTimer (omega arith) timer-fit (blocks 0 8 40 (part 0));
-      gpio-sig = gpios-sig (blocks 0 128 16 (part 9)) (blocks nan 128 2 (getD (parts nan realSizes x) 0 []));
+      gpio-fit = gpios-fit (blocks 0 128 16 (part 9)) (blocks nan 128 2 (getD (parts nan realSizes x) 0 []));
       af-lt = map-all signalOf (λ n. n < 256) 0 (omega arith) (λ n. omega arith) (part 10);
       route-le = map-all pinOf (λ n. n ≤ 128) 128 (omega arith) (λ n. omega arith) (part 6);
       level-le = map-all levelOf (λ n. n ≤ 1) 0 (omega arith) (λ n. omega arith) (part 7);

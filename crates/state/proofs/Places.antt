@@ -150,9 +150,9 @@ module _ (w : List ℕ) (x : List Float) where
   gpio-word p k h = front-at 0 16 (drop (1116 + p * 16) w) k h ∙ getD-drop (1116 + p * 16) w k 0 ∙ ap (λ (n : ℕ). getD w n 0) (add-assoc 1116 (p * 16) k)
 
   module _ (p : ℕ) (h : p < 128) where
-    pub pin-level : gpioAt (view w x) p .pin .level ≡ getD w (1116 + (p * 16 + 14)) 0 % 256
+    pub pin-level : gpioAt (view w x) p .pin .level ≡ getD w (1116 + (p * 16 + 14)) 0 % 2
     unfolding decodeGpio
-    pin-level = ap (λ (g : Gpio). g .pin .level) (gpio-read p h) ∙ ap (λ (n : ℕ). n % 256) (gpio-word p 14 (lit≤ tt))
+    pin-level = ap (λ (g : Gpio). g .pin .level) (gpio-read p h) ∙ ap (λ (n : ℕ). n % 2) (gpio-word p 14 (lit≤ tt))
 
     pub pin-signal : gpioAt (view w x) p .sig ≡ getD w (1116 + (p * 16 + 15)) 0 % 256
     unfolding decodeGpio

@@ -7,6 +7,7 @@ ghost use lib.ListN.{length, drop};
 ghost use lib.Seq.{paste};
 ghost use lib.Ieee.{Float};
 ghost use Rattle.tim.specs.Timer.{Fit};
+ghost use Rattle.words.specs.Codec.{GpioFit};
 ghost use Rattle.nvic.specs.Nvic.{setLine, clearPending, lineAt, stateOf};
 ghost use Rattle.scheduler.specs.Booking.{least};
 ghost use Rattle.state.specs.Board.{Divided, timerAt, gpioAt, routeAt, sigLevelAt, afAt, enrAt, bookedAt, withTimer, withInst, withGpio, withAfAt, withRoute, withSigLevel, withBooking, withNvic, withTree, withClock, withEnr, withLast, withSizes};
@@ -169,7 +170,7 @@ pub fn load_gpio(words: &[u64; WORDS], reals: &[f64; REALS], p: usize) -> Gpio
 }
 
 pub fn store_gpio(words: &mut [u64; WORDS], reals: &mut [f64; REALS], p: usize, g: Gpio)
-    requires { ⌜ (p < 128) × (g .sig < 256) ⌝ }
+    requires { ⌜ (p < 128) × (GpioFit g) ⌝ }
     ensures { λ _. ⌜ view (now (words .exit)) (now (reals .exit)) ≡ withGpio (view (now (words .entry)) (now (reals .entry))) p g ⌝ }
 {
     sized(words);

@@ -18,7 +18,7 @@ signal-small : (w : List ℕ) (x : List Float) (i : ℕ) → signalOf (gpioAt (v
 signal-small w x i = go (eqb (gpioAt (view w x .pads) i .cfg .mode) 2)
   where
     go : (b : Bool) → cond b (gpioAt (view w x .pads) i .sig) 0 < 256
-    go true = bounded w x .gpio-sig i
+    go true = bounded w x .gpio-fit i .sig
     go false = lit< tt
 
 -- that of a pin that was loaded

@@ -135,7 +135,7 @@ fn selected(words: &[u64; WORDS], i: usize, c: PinCfg, f: u32) -> u32
 
 // Configures pin i and selects its function f; refresh_pin follows.
 pub fn select_af(words: &mut [u64; WORDS], reals: &mut [f64; REALS], i: usize, c: PinCfg, f: u32)
-    requires { ⌜ i < 128 ⌝ }
+    requires { ⌜ (i < 128) × (c .odr ≤ 1) ⌝ }
     ensures { λ _. ⌜ view (now (words .exit)) (now (reals .exit)) ≡ withPads (view (now (words .entry)) (now (reals .entry))) (S.selectAf (view (now (words .entry)) (now (reals .entry)) .pads) i c f) ⌝ }
 {
     let g = state::load_gpio(words, reals, i);
@@ -154,7 +154,7 @@ pub fn set_pin(
     c: PinCfg,
     f: u32,
 ) -> Change
-    requires { ⌜ i < 128 ⌝ }
+    requires { ⌜ (i < 128) × (c .odr ≤ 1) ⌝ }
     ensures { λ r. ⌜ Moves (S.setPin (view (now (words .entry)) (now (reals .entry)) .pads) i c f) (view (now (words .entry)) (now (reals .entry))) (view (now (words .exit)) (now (reals .exit))) r ⌝ }
 {
     select_af(words, reals, i, c, f);

@@ -1,10 +1,10 @@
 -- Every decoded pin is in range. Assumes nothing.
 use mathlib.Core.List.{List}
-use Prim.Native.Nat.{ℕ, _<_}
+use Prim.Native.Nat.{ℕ}
 use native.Mathlib.Omega.{arith}
 use lib.Ieee.{Float}
-use Rattle.words.specs.Codec.{decodeGpio}
+use Rattle.words.specs.Codec.{GpioFit, decodeGpio}
 
-pub gpio-sig : (b : List ℕ) (volts x : Float) → decodeGpio b volts x .sig < 256
+pub gpio-fit : (b : List ℕ) (volts x : Float) → GpioFit (decodeGpio b volts x)
 unfolding decodeGpio
-gpio-sig b volts x = omega arith
+gpio-fit b volts x = omega arith

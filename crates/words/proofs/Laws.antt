@@ -2,7 +2,7 @@
 use mathlib.Core.Path.{_≡_, refl}
 use mathlib.Core.List.{[], _∷_}
 use mathlib.Core.Bool.{Bool, true, false}
-use Prim.Native.Nat.{ℕ, _%_}
+use Prim.Native.Nat.{ℕ, _%_, _≤_}
 use native.Mathlib.Omega.{arith}
 use lib.Dec.{eqb}
 use mir.Syntax.{w8}
@@ -16,17 +16,20 @@ use Rattle.words.specs.Codec.{cfgAt, mcuAt, extOf, extCode, extVolts}
 byte : {x : ℕ} → Fits w8 x → x % 256 ≡ x
 byte h = omega arith
 
+level : {x : ℕ} → x ≤ 1 → x % 2 ≡ x
+level h = omega arith
+
 pub flag : (b : Bool) → eqb (boolByte b % 2) 1 ≡ b
 flag true = refl
 flag false = refl
 
-pub cfg : (t : PinCfg) → Fits w8 (t .mode) → Fits w8 (t .odr)
+pub cfg : (t : PinCfg) → Fits w8 (t .mode) → t .odr ≤ 1
     → cfgAt (t .mode ∷ boolByte (t .«open_drain») ∷ t .odr ∷ boolByte (t .pullup) ∷ boolByte (t .pulldown) ∷ []) 0 ≡ t
-cfg t a b = simp (byte a, byte b, flag (t .«open_drain»), flag (t .pullup), flag (t .pulldown))
+cfg t a b = simp (byte a, level b, flag (t .«open_drain»), flag (t .pullup), flag (t .pulldown))
 
-pub mcu : (t : Mcu) → Fits w8 (t .dir) → Fits w8 (t .out) → Fits w8 (t .pullup) → Fits w8 (t .pulldown) → Fits w8 (t .«ov_enable») → Fits w8 (t .«ov_value») → Fits w8 (t .ddoe) → Fits w8 (t .ddov)
+pub mcu : (t : Mcu) → Fits w8 (t .dir) → t .out ≤ 1 → Fits w8 (t .pullup) → Fits w8 (t .pulldown) → Fits w8 (t .«ov_enable») → t .«ov_value» ≤ 1 → Fits w8 (t .ddoe) → Fits w8 (t .ddov)
     → mcuAt (t .dir ∷ t .out ∷ t .pullup ∷ t .pulldown ∷ t .«ov_enable» ∷ t .«ov_value» ∷ t .ddoe ∷ t .ddov ∷ []) 0 ≡ t
-mcu t a b c d e f g h = simp (byte a, byte b, byte c, byte d, byte e, byte f, byte g, byte h)
+mcu t a b c d e f g h = simp (byte a, level b, byte c, byte d, byte e, level f, byte g, byte h)
 
 pub drive : (e : ExtDrive) → extOf (extCode e % 4) (extVolts e) ≡ e
 unfolding extOf extCode extVolts

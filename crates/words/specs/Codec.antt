@@ -2,7 +2,7 @@
 -- in range: a word counts by its remainder. No word is spare.
 use mathlib.Core.Bool.{Bool, cond}
 use mathlib.Core.List.{List, [], _∷_}
-use Prim.Native.Nat.{ℕ, _+_, _%_}
+use Prim.Native.Nat.{ℕ, _+_, _%_, _≤_, _<_}
 use lib.Dec.{eqb}
 use lib.ListN.{getD}
 use lib.Ieee.{Float}
@@ -13,24 +13,27 @@ use Rattle.pins.specs.declared.ExtDrive.the-variants as ext
 use Rattle.words.specs.declared.PinCfg.{PinCfg}
 use Rattle.words.specs.declared.Gpio.{Gpio}
 
--- word k of b as a number of 8 bits, and as a flag
+-- word k of b as a number of 8 bits, as a level and as a flag
 abbrev pub u8At : List ℕ → ℕ → ℕ
 u8At b k = getD b k 0 % 256
+
+abbrev pub levelAt : List ℕ → ℕ → ℕ
+levelAt b k = getD b k 0 % 2
 
 abbrev pub flagAt : List ℕ → ℕ → Bool
 flagAt b k = eqb (getD b k 0 % 2) 1
 
 abbrev pub cfgAt : List ℕ → ℕ → PinCfg
-cfgAt b k = record { mode = u8At b k; «open_drain» = flagAt b (k + 1); odr = u8At b (k + 2); pullup = flagAt b (k + 3); pulldown = flagAt b (k + 4) }
+cfgAt b k = record { mode = u8At b k; «open_drain» = flagAt b (k + 1); odr = levelAt b (k + 2); pullup = flagAt b (k + 3); pulldown = flagAt b (k + 4) }
 
 abbrev pub mcuAt : List ℕ → ℕ → Mcu
 mcuAt b k = record {
   dir = u8At b k;
-  out = u8At b (k + 1);
+  out = levelAt b (k + 1);
   pullup = u8At b (k + 2);
   pulldown = u8At b (k + 3);
   «ov_enable» = u8At b (k + 4);
-  «ov_value» = u8At b (k + 5);
+  «ov_value» = levelAt b (k + 5);
   ddoe = u8At b (k + 6);
   ddov = u8At b (k + 7);
 }
@@ -51,10 +54,18 @@ extVolts ext.Low = zeroFloat
 extVolts ext.High = zeroFloat
 extVolts (ext.Analog x) = x
 
+-- a pin that words can hold: each level is 0 or 1, the signal one of the 256
+pub record GpioFit (g : Gpio) : Type 0 where
+  pub odr : g .cfg .odr ≤ 1
+  pub out : g .pin .mcu .out ≤ 1
+  pub value : g .pin .mcu .«ov_value» ≤ 1
+  pub level : g .pin .level ≤ 1
+  pub sig : g .sig < 256
+
 -- volts is the pin's, x the analogue drive's
 unfoldable pub decodeGpio : List ℕ → Float → Float → Gpio
 decodeGpio b volts x = record {
   cfg = cfgAt b 0;
-  pin = record { mcu = mcuAt b 5; ext = extOf (getD b 13 0 % 4) x; level = u8At b 14; volts = volts };
+  pin = record { mcu = mcuAt b 5; ext = extOf (getD b 13 0 % 4) x; level = levelAt b 14; volts = volts };
   sig = u8At b 15;
 }

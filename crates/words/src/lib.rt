@@ -1,7 +1,7 @@
 // A pin as words of lent memory.
 ghost use mathlib.Core.Path.{_≡_};
-ghost use Prim.Native.Nat.{_%_, _<_};
-ghost use Rattle.words.specs.Codec.{cfgAt, mcuAt, extOf, extCode, extVolts, decodeGpio};
+ghost use Prim.Native.Nat.{_%_, _≤_};
+ghost use Rattle.words.specs.Codec.{cfgAt, mcuAt, extOf, extCode, extVolts, GpioFit, decodeGpio};
 use pins::ExtDrive;
 use pins::Mcu;
 use pins::Pin;
@@ -33,7 +33,7 @@ fn unpack_cfg(b: &[u64; 16]) -> PinCfg
     PinCfg {
         mode: (b[0] % 256) as u8,
         open_drain: b[1] % 2 == 1,
-        odr: (b[2] % 256) as u8,
+        odr: (b[2] % 2) as u8,
         pullup: b[3] % 2 == 1,
         pulldown: b[4] % 2 == 1,
     }
@@ -44,11 +44,11 @@ fn unpack_mcu(b: &[u64; 16]) -> Mcu
 {
     Mcu {
         dir: (b[5] % 256) as u8,
-        out: (b[6] % 256) as u8,
+        out: (b[6] % 2) as u8,
         pullup: (b[7] % 256) as u8,
         pulldown: (b[8] % 256) as u8,
         ov_enable: (b[9] % 256) as u8,
-        ov_value: (b[10] % 256) as u8,
+        ov_value: (b[10] % 2) as u8,
         ddoe: (b[11] % 256) as u8,
         ddov: (b[12] % 256) as u8,
     }
@@ -110,7 +110,7 @@ pub fn unpack_gpio(b: [u64; 16], volts: f64, ext: f64) -> Gpio
         pin: Pin {
             mcu: unpack_mcu(&b),
             ext: ext_of(b[13] % 4, ext),
-            level: (b[14] % 256) as u8,
+            level: (b[14] % 2) as u8,
             volts,
         },
         sig: (b[15] % 256) as u32,
@@ -118,6 +118,7 @@ pub fn unpack_gpio(b: [u64; 16], volts: f64, ext: f64) -> Gpio
 }
 
 fn pack_cfg(t: PinCfg) -> [u64; 5]
+    requires { ⌜ t .odr ≤ 1 ⌝ }
     ensures { λ r. ⌜ cfgAt r 0 ≡ t ⌝ }
 {
     [
@@ -130,6 +131,7 @@ fn pack_cfg(t: PinCfg) -> [u64; 5]
 }
 
 fn pack_mcu(t: Mcu) -> [u64; 8]
+    requires { ⌜ (t .out ≤ 1) × (t .«ov_value» ≤ 1) ⌝ }
     ensures { λ r. ⌜ mcuAt r 0 ≡ t ⌝ }
 {
     [
@@ -146,7 +148,7 @@ fn pack_mcu(t: Mcu) -> [u64; 8]
 
 // A pin as words; its volts and its drive's volts are held as floats.
 pub fn pack_gpio(g: Gpio) -> [u64; 16]
-    requires { ⌜ g .sig < 256 ⌝ }
+    requires { ⌜ GpioFit g ⌝ }
     ensures { λ r. ⌜ decodeGpio r (g .pin .volts) (extVolts (g .pin .ext)) ≡ g ⌝ }
 {
     let p = g.pin;

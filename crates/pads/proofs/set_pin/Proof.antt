@@ -1,7 +1,8 @@
 -- Refused, or the pin set, the cycle kept and its change written.
 use Rattle.book.specs.Book.{places, slices}
 use Rattle.machine.specs.Refusals.{refusals}
-use Rattle.pads.proofs.Laws.{refuses, pin-there, pin-set}
+use Rattle.machine.specs.Step.{yes}
+use Rattle.pads.proofs.Laws.{refuses, pin-there, pin-set, bit-le}
 use Rattle.state.proofs.InRange.{bounded}
 use Rattle.state.specs.View.{view}
 use borrow.Author.Needs.{needs}
@@ -32,7 +33,7 @@ cfg-of-requires : tie.Need-cfg-of-requires
 cfg-of-requires c κs = search needs
 
 set-pin-requires : tie.Need-set-pin-requires
-set-pin-requires c κs = omega (arith, pin-there (view (c .before .before .before .before .before .before .before .before .before .before .before .before .args .words .now) (c .before .before .before .before .before .before .before .before .before .before .before .before .args .reals .now)) (c .before .before .before .before .before .before .before .before .before .before .before .before .args .pin) (c .before .before .before .before .before .before .before .before .before .before .before .before .args .cycle) (places (slices (c .before .before .before .before .before .before .before .before .before .before .before .before .args .pins .now) (c .before .before .before .before .before .before .before .before .before .before .before .before .args .levels .now) (c .before .before .before .before .before .before .before .before .before .before .before .before .args .cycles .now))) _ (c .before .before .before .before .refusal .ensures (c .before .before .before .before .before .before .before .before .before .before .before .before .args .reals .now)) (c .before .before .before .if1 .left), bounded (c .before .before .before .before .before .before .before .before .before .before .before .before .args .words .now) (c .before .before .before .before .before .before .before .before .before .before .before .before .args .reals .now) .pins-le)
+set-pin-requires c κs = (omega (arith, pin-there (view (c .before .before .before .before .before .before .before .before .before .before .before .before .args .words .now) (c .before .before .before .before .before .before .before .before .before .before .before .before .args .reals .now)) (c .before .before .before .before .before .before .before .before .before .before .before .before .args .pin) (c .before .before .before .before .before .before .before .before .before .before .before .before .args .cycle) (places (slices (c .before .before .before .before .before .before .before .before .before .before .before .before .args .pins .now) (c .before .before .before .before .before .before .before .before .before .before .before .before .args .levels .now) (c .before .before .before .before .before .before .before .before .before .before .before .before .args .cycles .now))) _ (c .before .before .before .before .refusal .ensures (c .before .before .before .before .before .before .before .before .before .before .before .before .args .reals .now)) (c .before .before .before .if1 .left), bounded (c .before .before .before .before .before .before .before .before .before .before .before .before .args .words .now) (c .before .before .before .before .before .before .before .before .before .before .before .before .args .reals .now) .pins-le), rw (c .before .before .cfg-of .ensures) (bit-le (yes (c .before .before .before .before .before .before .before .before .before .before .before .before .args .out))))
 
 changed-requires : tie.Need-changed-requires
 changed-requires c κs = omega (arith, pin-there (view (c .before .before .before .before .before .before .before .before .before .before .before .before .before .before .before .before .before .args .words .now) (c .before .before .before .before .before .before .before .before .before .before .before .before .before .before .before .before .before .args .reals .now)) (c .before .before .before .before .before .before .before .before .before .before .before .before .before .before .before .before .before .args .pin) (c .before .before .before .before .before .before .before .before .before .before .before .before .before .before .before .before .before .args .cycle) (places (slices (c .before .before .before .before .before .before .before .before .before .before .before .before .before .before .before .before .before .args .pins .now) (c .before .before .before .before .before .before .before .before .before .before .before .before .before .before .before .before .before .args .levels .now) (c .before .before .before .before .before .before .before .before .before .before .before .before .before .before .before .before .before .args .cycles .now))) _ (c .before .before .before .before .before .before .before .before .before .refusal .ensures (c .before .before .before .before .before .before .before .before .before .before .before .before .before .before .before .before .before .args .reals .now)) (c .before .before .before .before .before .before .before .before .if1 .left))

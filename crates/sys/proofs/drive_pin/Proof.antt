@@ -1,4 +1,5 @@
 -- Connected, then resolved.
+use Rattle.gpio.proofs.Fits.{connected-fit}
 use Rattle.machine.specs.Board.{Pads}
 use Rattle.machine.specs.Sys.{drivePin, updatePin}
 use Rattle.state.proofs.InRange.{bounded}
@@ -15,7 +16,7 @@ connect-requires : tie.Need-connect-requires
 connect-requires c κs = search needs
 
 store-gpio-requires : tie.Need-store-gpio-requires
-store-gpio-requires c κs = (c .before .before .before .before .before .before .pre, rw (c .connect .ensures, c .before .before .before .load-gpio .ensures) (bounded (c .before .before .before .before .before .before .args .words .now) (c .before .before .before .before .before .before .args .reals .now) .gpio-sig (c .before .before .before .before .before .before .args .i)))
+store-gpio-requires c κs = (c .before .before .before .before .before .before .pre, rw (c .connect .ensures, c .before .before .before .load-gpio .ensures) (connected-fit _ (bounded (c .before .before .before .before .before .before .args .words .now) (c .before .before .before .before .before .before .args .reals .now) .gpio-fit (c .before .before .before .before .before .before .args .i)) _))
 
 update-pin-requires : tie.Need-update-pin-requires
 update-pin-requires c κs = search needs

@@ -1,8 +1,8 @@
 -- The pin loaded, its side made anew, resolved and stored.
-use Rattle.gpio.specs.Gpio.{refreshed, updated}
+use Rattle.gpio.proofs.Fits.{refreshed-fit}
 use Rattle.state.proofs.InRange.{bounded}
 use Rattle.sys.proofs.Laws.{refresh-sets}
-use Rattle.sys.proofs.Small.{loaded-small}
+use Rattle.sys.proofs.Small.{loaded-small, level-small}
 use borrow.Author.Needs.{needs}
 use lib.Dec.{lit≤}
 use native.Mathlib.Nat.{lt-of-lt-of-le}
@@ -29,11 +29,10 @@ cast-refresh : tie.Need-cast-refresh
 cast-refresh c = search needs
 
 refresh-requires : tie.Need-refresh-requires
-refresh-requires c κs = rw (c .before .before .before .before .before .load-gpio .ensures) (lt-of-lt-of-le (bounded (c .before .before .before .before .before .before .before .before .args .words .now) (c .before .before .before .before .before .before .before .before .args .reals .now) .gpio-sig (c .before .before .before .before .before .before .before .before .args .i)) (lit≤ tt))
+refresh-requires c κs = rw (c .before .before .before .before .before .load-gpio .ensures) (lt-of-lt-of-le (bounded (c .before .before .before .before .before .before .before .before .args .words .now) (c .before .before .before .before .before .before .before .before .args .reals .now) .gpio-fit (c .before .before .before .before .before .before .before .before .args .i) .sig) (lit≤ tt))
 
 store-gpio-requires : tie.Need-store-gpio-requires
-unfolding updated refreshed
-store-gpio-requires c κs = (c .before .before .before .before .before .before .before .before .before .before .before .before .pre, rw (c .before .before .before .refresh .ensures, c .before .before .before .before .before .before .before .before .before .load-gpio .ensures) (bounded (c .before .before .before .before .before .before .before .before .before .before .before .before .args .words .now) (c .before .before .before .before .before .before .before .before .before .before .before .before .args .reals .now) .gpio-sig (c .before .before .before .before .before .before .before .before .before .before .before .before .args .i)))
+store-gpio-requires c κs = (c .before .before .before .before .before .before .before .before .before .before .before .before .pre, rw (c .before .before .before .refresh .ensures, c .before .before .before .before .before .before .before .before .before .load-gpio .ensures) (refreshed-fit _ _ _ _ (bounded (c .before .before .before .before .before .before .before .before .before .before .before .before .args .words .now) (c .before .before .before .before .before .before .before .before .before .before .before .before .args .reals .now) .gpio-fit (c .before .before .before .before .before .before .before .before .before .before .before .before .args .i)) (level-small (c .before .before .before .before .before .before .before .before .before .before .before .before .args .words .now) (c .before .before .before .before .before .before .before .before .before .before .before .before .args .reals .now) _ (c .before .before .before .before .before .before .sig-level .ensures (c .before .before .before .before .before .before .before .before .before .before .before .before .args .reals .now)))))
 
 returns : tie.Need-returns
 returns c = refresh-sets _ _ (c .before .before .before .before .before .before .before .before .before .before .before .before .before .args .i) _ _ _ (c .before .before .before .before .before .before .before .before .before .before .load-gpio .ensures) (c .before .before .before .before .before .vcc .ensures (c .before .before .before .before .before .before .before .before .before .before .before .before .before .args .words .now)) (c .store-gpio .ensures) _ _ (c .before .before .before .before .before .before .before .before .before .signal-of .ensures) (c .before .before .before .before .before .before .before .sig-level .ensures (c .before .before .before .before .before .before .before .before .before .before .before .before .before .args .reals .now)) (c .before .before .before .before .refresh .ensures)

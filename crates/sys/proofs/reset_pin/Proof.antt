@@ -1,3 +1,5 @@
+use Rattle.gpio.proofs.Fits.{configured-fit}
+use Rattle.state.proofs.InRange.{bounded}
 use Rattle.machine.specs.Board.{Pads}
 use Rattle.machine.specs.Sys.{refreshPin, resetPin}
 use Rattle.sys.proofs.Laws.{then-moves, told}
@@ -30,7 +32,7 @@ configure-requires c κs = search needs
 -- src/lib.rt:221:5
 store-gpio-requires : tie.Need-store-gpio-requires
 store-gpio-requires c κs =
-    (c .before .before .before .before .before .before .before .pre, rw (c .configure .ensures) (omega arith))
+    (c .before .before .before .before .before .before .before .pre, rw (c .configure .ensures, c .before .plain .ensures, c .before .before .before .before .load-gpio .ensures) (configured-fit _ (bounded (c .before .before .before .before .before .before .before .args .words .now) (c .before .before .before .before .before .before .before .args .reals .now) .gpio-fit (c .before .before .before .before .before .before .before .args .i)) _ _ (omega arith) (omega arith)))
 
 -- src/lib.rt:222:21
 refresh-slow-requires : tie.Need-refresh-slow-requires

@@ -1,4 +1,5 @@
 -- The pin configured, the old route left, the new one taken.
+use Rattle.gpio.proofs.Fits.{configured-fit}
 use Rattle.state.proofs.InRange.{bounded}
 use Rattle.sys.proofs.Laws.{select-sets}
 use borrow.Author.Needs.{needs}
@@ -15,13 +16,13 @@ configure-requires : tie.Need-configure-requires
 configure-requires c κs = search needs
 
 store-gpio-requires : tie.Need-store-gpio-requires
-store-gpio-requires c κs = (c .before .before .before .before .before .before .before .before .pre, rw (c .configure .ensures) (c .before .before .before .selected .ensures .1))
+store-gpio-requires c κs = (c .before .before .before .before .before .before .before .before .pre .0, rw (c .configure .ensures, c .before .before .before .before .before .load-gpio .ensures) (configured-fit _ (bounded (c .before .before .before .before .before .before .before .before .args .words .now) (c .before .before .before .before .before .before .before .before .args .reals .now) .gpio-fit (c .before .before .before .before .before .before .before .before .args .i)) _ _ (c .before .before .before .before .before .before .before .before .pre .1) (c .before .before .before .selected .ensures .1)))
 
 leave-requires : tie.Need-leave-requires
-leave-requires c κs = (c .before .before .before .before .before .before .before .before .before .before .pre, rw (c .before .before .before .before .before .before .before .load-gpio .ensures) (bounded (c .before .before .before .before .before .before .before .before .before .before .args .words .now) (c .before .before .before .before .before .before .before .before .before .before .args .reals .now) .gpio-sig (c .before .before .before .before .before .before .before .before .before .before .args .i)))
+leave-requires c κs = (c .before .before .before .before .before .before .before .before .before .before .pre .0, rw (c .before .before .before .before .before .before .before .load-gpio .ensures) (bounded (c .before .before .before .before .before .before .before .before .before .before .args .words .now) (c .before .before .before .before .before .before .before .before .before .before .args .reals .now) .gpio-fit (c .before .before .before .before .before .before .before .before .before .before .args .i) .sig))
 
 take-requires : tie.Need-take-requires
-take-requires c κs = (c .before .before .before .before .before .before .before .before .before .before .before .before .pre, c .before .before .before .before .before .before .before .selected .ensures .1)
+take-requires c κs = (c .before .before .before .before .before .before .before .before .before .before .before .before .pre .0, c .before .before .before .before .before .before .before .selected .ensures .1)
 
 returns : tie.Need-returns
 returns c = select-sets _ _ _ _ (c .before .before .before .before .before .before .before .before .before .before .before .before .before .args .i) _ _ (c .before .before .before .before .before .before .before .before .before .before .before .before .before .args .c) (c .before .before .before .before .before .before .before .before .before .before .before .before .before .args .f) _ (c .before .before .before .before .before .before .before .before .before .before .load-gpio .ensures) (c .before .before .before .before .before .before .before .before .selected .ensures .0 (c .before .before .before .before .before .before .before .before .before .before .before .before .before .args .reals .now)) (c .before .before .before .before .before .configure .ensures) (c .before .before .before .before .store-gpio .ensures) (c .before .before .leave .ensures _) (c .take .ensures _)

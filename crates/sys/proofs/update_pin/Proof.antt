@@ -1,5 +1,5 @@
 -- The pin loaded, resolved and stored.
-use Rattle.gpio.specs.Gpio.{updated}
+use Rattle.gpio.proofs.Fits.{updated-fit}
 use Rattle.state.proofs.InRange.{bounded}
 use Rattle.sys.proofs.Laws.{update-moves}
 use borrow.Author.Needs.{needs}
@@ -19,8 +19,7 @@ update-requires : tie.Need-update-requires
 update-requires c κs = search needs
 
 store-gpio-requires : tie.Need-store-gpio-requires
-unfolding updated
-store-gpio-requires c κs = (c .before .before .before .before .before .before .before .before .before .pre, rw (c .before .before .before .update .ensures, c .before .before .before .before .before .before .load-gpio .ensures) (bounded (c .before .before .before .before .before .before .before .before .before .args .words .now) (c .before .before .before .before .before .before .before .before .before .args .reals .now) .gpio-sig (c .before .before .before .before .before .before .before .before .before .args .i)))
+store-gpio-requires c κs = (c .before .before .before .before .before .before .before .before .before .pre, rw (c .before .before .before .update .ensures, c .before .before .before .before .before .before .load-gpio .ensures) (updated-fit _ _ _ (bounded (c .before .before .before .before .before .before .before .before .before .args .words .now) (c .before .before .before .before .before .before .before .before .before .args .reals .now) .gpio-fit (c .before .before .before .before .before .before .before .before .before .args .i))))
 
 returns : tie.Need-returns
 returns c = update-moves _ _ (c .before .before .before .before .before .before .before .before .before .before .args .i) _ _ _ (c .before .before .before .before .before .before .before .load-gpio .ensures) (c .before .before .before .before .before .vcc .ensures (c .before .before .before .before .before .before .before .before .before .before .args .words .now)) (c .store-gpio .ensures) (c .before .before .before .before .update .ensures)

@@ -10,7 +10,7 @@ use Rattle.words.proofs.pack_gpio.Tie as tie
 
 returns : tie.Need-returns
 unfolding decodeGpio
-returns c = let g = c .before .before .before .before .before .before .args .g in let s : g .sig % 256 ≡ g .sig = omega arith in let l : g .pin .level % 256 ≡ g .pin .level = omega arith in simp (c .before .before .before .before .pack-cfg .ensures, c .before .before .before .pack-mcu .ensures, c .before .before .ext-code .ensures, drive, s, l)
+returns c = let g = c .before .before .before .before .before .before .args .g in let s : g .sig % 256 ≡ g .sig = omega arith in let l : g .pin .level % 2 ≡ g .pin .level = omega arith in simp (c .before .before .before .before .pack-cfg .ensures, c .before .before .before .pack-mcu .ensures, c .before .before .ext-code .ensures, drive, s, l)
 
 pub pack-gpio-spec : {M : Type 1} → statement M
 pack-gpio-spec =
