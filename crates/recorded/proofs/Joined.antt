@@ -7,9 +7,8 @@ use lib.Ieee.{Float}
 use lib.ListN.{length, getD, drop}
 use Rattle.book.specs.Book.{Entry, Lent, slices, places, Holds}
 use Rattle.machine.specs.Board.{Board, gpioAt, firstBoard}
-use Rattle.machine.specs.Call.{Call, write, Outcome}
+use Rattle.machine.specs.Call.{Call, write, lent}
 use Rattle.machine.specs.Step.{step, run, boardAfter}
-use Rattle.machine.specs.Refusals.{lent}
 use Rattle.machine.proofs.Numbers.{entries-fit}
 use Rattle.state.specs.View.{view}
 use Rattle.answer.specs.declared.Answer.{Answer}

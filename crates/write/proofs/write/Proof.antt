@@ -1,4 +1,5 @@
 -- Refused, gated, or written.
+use native.Mathlib.Omega.{arith}
 use borrow.Author.Tests.{not-true, not-false}
 use Rattle.book.specs.Book.{places, slices}
 use Rattle.book.proofs.Laws.{roomy}
@@ -78,7 +79,7 @@ returns-3 : tie.Need-returns-3
 returns-3 c =
     let s = c .before .before .before .before .before .before .before .before .before .before .before .before .before .before .before .before .before .before .before .before .before .before .before .before .before in (
       write-below (s .args .words .now) (s .args .reals .now) (s .args .timer) (s .args .offset) (s .args .size) (s .args .value) (s .args .cycle) (places (slices (s .args .pins .now) (s .args .levels .now) (s .args .cycles .now))) _ (c .before .before .before .before .before .before .before .before .before .before .before .before .before .before .before .before .before .book-refusal .ensures (s .args .reals .now)) (c .before .before .before .before .before .before .before .before .before .before .before .before .before .before .before .before .if1 .left) _ (c .before .before .before .before .before .before .before .before .before .before .before .before .before .before .clock-on .ensures (s .args .reals .now)) (not-false _ (c .before .before .before .before .before .before .before .before .before .before .before .before .before .if2 .left)) _ _ _ (coded _ _ _ _ _ _ _ (c .answer-of .ensures) (c .before .before .before .before .before .before .before .write-on .ensures .0)),
-      write-below-book (s .args .words .now) (s .args .reals .now) (s .args .timer) (s .args .offset) (s .args .size) (s .args .value) (s .args .cycle) (places (slices (s .args .pins .now) (s .args .levels .now) (s .args .cycles .now))) _ (c .before .before .before .before .before .before .before .before .before .before .before .before .before .before .before .before .before .book-refusal .ensures (s .args .reals .now)) (c .before .before .before .before .before .before .before .before .before .before .before .before .before .before .before .before .if1 .left) _ (c .before .before .before .before .before .before .before .before .before .before .before .before .before .before .clock-on .ensures (s .args .reals .now)) (not-false _ (c .before .before .before .before .before .before .before .before .before .before .before .before .before .if2 .left)) _ _ _ (coded-book _ _ _ _ _ _ _ _ _ (c .answer-of .ensures) (c .before .before .before .before .before .before .before .write-on .ensures .1)),
+      write-below-book (s .args .words .now) (s .args .reals .now) (s .args .timer) (s .args .offset) (s .args .size) (s .args .value) (s .args .cycle) (places (slices (s .args .pins .now) (s .args .levels .now) (s .args .cycles .now))) _ (c .before .before .before .before .before .before .before .before .before .before .before .before .before .before .before .before .before .book-refusal .ensures (s .args .reals .now)) (c .before .before .before .before .before .before .before .before .before .before .before .before .before .before .before .before .if1 .left) _ (c .before .before .before .before .before .before .before .before .before .before .before .before .before .before .clock-on .ensures (s .args .reals .now)) (not-false _ (c .before .before .before .before .before .before .before .before .before .before .before .before .before .if2 .left)) _ _ _ (coded-book _ _ _ _ _ (c .answer-of .ensures) (c .before .before .before .before .before .before .before .write-on .ensures .1)),
     )
 
 pub write-spec : {M : Type 1} → statement M
