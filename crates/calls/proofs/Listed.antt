@@ -15,7 +15,7 @@ use Rattle.book.proofs.Laws.{puts-append, holds, roomy}
 use Rattle.machine.specs.Board.{Board}
 use Rattle.machine.specs.Call.{Call, Outcome}
 use Rattle.machine.specs.Step.{step, run, boardAfter}
-use Rattle.machine.specs.Refusals.{lent}
+use Rattle.machine.specs.Call.{lent}
 use Rattle.machine.proofs.NumberLaws.{either}
 use Rattle.machine.proofs.Numbers.{entries-fit}
 use Rattle.state.specs.View.{view}

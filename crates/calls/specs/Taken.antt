@@ -12,7 +12,7 @@ use Rattle.machine.specs.Board.{Board}
 use Rattle.state.specs.View.{view}
 use Rattle.machine.specs.Call.{Call, Outcome}
 use Rattle.machine.specs.Step.{step, run, boardAfter}
-use Rattle.machine.specs.Refusals.{lent}
+use Rattle.machine.specs.Call.{lent}
 use Rattle.accuracy.specs.Claim.{joined}
 use Rattle.calls.specs.declared.Ran.{Ran}
 use Rattle.encoding.specs.Encoding.{lenOf, callOf}

@@ -48,7 +48,7 @@ same-length-3 : tie.Need-same-length-3
 same-length-3 c = whole-length (c .before .before .before .before .before .before .before .before .before .before .before .before .before .before .before .before .args .at) (c .before .before .before .before .before .before .before .before .before .before .before .before .before .before .before .before .args .end) _ (c .before .before .before .before .before .before .perform .last .1 .1 .1 .1 .1 .0) (omega (arith, c .before .before .before .before .before .before .before .before .before .before .before .before .before .before .before .before .pre)) (omega (arith, c .before .before .before .before .before .before .before .before .before .before .before .before .before .before .before .before .pre)) (c .before .before .before .before .before .before .perform .kept .1 .1 .1 .1 .1 .0)
 
 returns : tie.Need-returns
-returns c = part-does (c .before .before .before .before .before .before .before .before .before .before .before .before .before .before .before .before .args .calls .now) _ _ _ _ _ _ _ _ _ _ (c .before .before .before .before .before .before .before .before .before .before .before .before .before .before .before .before .pre .1 .0) ((c .before .before .before .before .before .before .before .before .before .before .before .before .before .before .before .before .pre .1 .1), (c .before .before .before .before .before .before .before .before .before .before .before .before .before .before .before .before .pre .1 .2), (c .before .before .before .before .before .before .before .before .before .before .before .before .before .before .before .before .pre .1 .3)) (c .before .before .before .before .before .before .perform .ensures)
+returns c = part-does (c .before .before .before .before .before .before .before .before .before .before .before .before .before .before .before .before .args .calls .now) _ _ _ _ _ _ _ _ _ _ (c .before .before .before .before .before .before .before .before .before .before .before .before .before .before .before .before .pre .1 .0) (c .before .before .before .before .before .before .before .before .before .before .before .before .before .before .before .before .pre .1 .1) (c .before .before .before .before .before .before .perform .ensures)
 
 pub perform-at-spec : {M : Type 1} → statement M
 perform-at-spec = tie.close (tie.spec sub-perform part-perform-start part-perform-end sub-perform-2 part-perform-start-2 part-perform-end-2 mul-perform sub-perform-3 part-perform-start-3 part-perform-end-3 perform-requires same-length same-length-2 same-length-3 returns)

@@ -74,7 +74,7 @@ add-end : tie.Need-add-end Inv-loop μ-loop
 add-end c = omega (arith, c .before .before .before .before .before .before .before .before .before .before .before .before .before .before .before .good, c .before .before .before .before .before .loop .inv .0 .few, c .before .before .before .before .before .loop .inv .0 .within, c .before .before .before .before .before .loop .inv .0 .words, c .before .before .before .before .before .loop .inv .0 .places, c .before .before .before .before .before .loop .inv .1, c .before .before .before .before .before .loop .inv .2, c .before .before .before .before .before .loop .inv .3, c .before .before .before .before .before .loop .inv .4, next-free _ _ _ _ _ _ _ _ _ _ (c .before .before .before .before .before .loop .inv .0) _ _ (c .before .before .before .len-of .ensures) (c .before .before .places-of .ensures) _ (c .before .stops .ensures) (c .if1 .left) .fits, c .before .before .before .before .before .before .room .ensures)
 
 perform-call-requires : tie.Need-perform-call-requires Inv-loop μ-loop
-perform-call-requires c κs = (next-size _ _ _ _ _ _ _ _ _ _ (c .before .before .before .before .before .before .before .before .before .before .before .loop .inv .0) _ _ (c .before .before .before .before .before .before .before .before .before .len-of .ensures) (c .before .before .before .before .before .before .before .before .places-of .ensures) _ (c .before .before .before .before .before .before .before .stops .ensures) (c .before .before .before .before .before .before .if1 .left), (omega (arith, c .before .before .before .before .before .before .before .before .before .before .before .loop .inv .0 .few, c .before .before .before .before .before .before .before .before .before .before .before .loop .inv .0 .within, c .before .before .before .before .before .before .before .before .before .before .before .loop .inv .0 .words, c .before .before .before .before .before .before .before .before .before .before .before .loop .inv .0 .places, c .before .before .before .before .before .before .before .before .before .before .before .loop .inv .1, c .before .before .before .before .before .before .before .before .before .before .before .loop .inv .2, c .before .before .before .before .before .before .before .before .before .before .before .loop .inv .3, c .before .before .before .before .before .before .before .before .before .before .before .loop .inv .4, next-free _ _ _ _ _ _ _ _ _ _ (c .before .before .before .before .before .before .before .before .before .before .before .loop .inv .0) _ _ (c .before .before .before .before .before .before .before .before .before .len-of .ensures) (c .before .before .before .before .before .before .before .before .places-of .ensures) _ (c .before .before .before .before .before .before .before .stops .ensures) (c .before .before .before .before .before .before .if1 .left) .three), (omega (arith, c .before .before .before .before .before .before .before .before .places-of .ensures), omega (arith, c .before .before .before .before .before .before .before .before .before .before .before .loop .inv .0 .few, c .before .before .before .before .before .before .before .before .before .before .before .loop .inv .0 .within, c .before .before .before .before .before .before .before .before .before .before .before .loop .inv .0 .words, c .before .before .before .before .before .before .before .before .before .before .before .loop .inv .0 .places, c .before .before .before .before .before .before .before .before .before .before .before .loop .inv .1, c .before .before .before .before .before .before .before .before .before .before .before .loop .inv .2, c .before .before .before .before .before .before .before .before .before .before .before .loop .inv .3, c .before .before .before .before .before .before .before .before .before .before .before .loop .inv .4, next-free _ _ _ _ _ _ _ _ _ _ (c .before .before .before .before .before .before .before .before .before .before .before .loop .inv .0) _ _ (c .before .before .before .before .before .before .before .before .before .len-of .ensures) (c .before .before .before .before .before .before .before .before .places-of .ensures) _ (c .before .before .before .before .before .before .before .stops .ensures) (c .before .before .before .before .before .before .if1 .left) .fits, c .before .before .before .before .before .before .before .before .before .before .before .before .room .ensures), omega (arith, c .before .before .before .before .before .before .before .before .before .before .before .loop .inv .0 .few, c .before .before .before .before .before .before .before .before .before .before .before .loop .inv .0 .within, c .before .before .before .before .before .before .before .before .before .before .before .loop .inv .0 .words, c .before .before .before .before .before .before .before .before .before .before .before .loop .inv .0 .places, c .before .before .before .before .before .before .before .before .before .before .before .loop .inv .1, c .before .before .before .before .before .before .before .before .before .before .before .loop .inv .2, c .before .before .before .before .before .before .before .before .before .before .before .loop .inv .3, c .before .before .before .before .before .before .before .before .before .before .before .loop .inv .4, next-free _ _ _ _ _ _ _ _ _ _ (c .before .before .before .before .before .before .before .before .before .before .before .loop .inv .0) _ _ (c .before .before .before .before .before .before .before .before .before .len-of .ensures) (c .before .before .before .before .before .before .before .before .places-of .ensures) _ (c .before .before .before .before .before .before .before .stops .ensures) (c .before .before .before .before .before .before .if1 .left) .fits, c .before .before .before .before .before .before .before .before .before .before .before .before .room .ensures), omega (arith, c .before .before .before .before .before .before .before .before .before .before .before .loop .inv .0 .few, c .before .before .before .before .before .before .before .before .before .before .before .loop .inv .0 .within, c .before .before .before .before .before .before .before .before .before .before .before .loop .inv .0 .words, c .before .before .before .before .before .before .before .before .before .before .before .loop .inv .0 .places, c .before .before .before .before .before .before .before .before .before .before .before .loop .inv .1, c .before .before .before .before .before .before .before .before .before .before .before .loop .inv .2, c .before .before .before .before .before .before .before .before .before .before .before .loop .inv .3, c .before .before .before .before .before .before .before .before .before .before .before .loop .inv .4, next-free _ _ _ _ _ _ _ _ _ _ (c .before .before .before .before .before .before .before .before .before .before .before .loop .inv .0) _ _ (c .before .before .before .before .before .before .before .before .before .len-of .ensures) (c .before .before .before .before .before .before .before .before .places-of .ensures) _ (c .before .before .before .before .before .before .before .stops .ensures) (c .before .before .before .before .before .before .if1 .left) .fits, c .before .before .before .before .before .before .before .before .before .before .before .before .room .ensures))))
+perform-call-requires c κs = (next-size _ _ _ _ _ _ _ _ _ _ (c .before .before .before .before .before .before .before .before .before .before .before .loop .inv .0) _ _ (c .before .before .before .before .before .before .before .before .before .len-of .ensures) (c .before .before .before .before .before .before .before .before .places-of .ensures) _ (c .before .before .before .before .before .before .before .stops .ensures) (c .before .before .before .before .before .before .if1 .left), (omega (arith, c .before .before .before .before .before .before .before .before .before .before .before .loop .inv .0 .few, c .before .before .before .before .before .before .before .before .before .before .before .loop .inv .0 .within, c .before .before .before .before .before .before .before .before .before .before .before .loop .inv .0 .words, c .before .before .before .before .before .before .before .before .before .before .before .loop .inv .0 .places, c .before .before .before .before .before .before .before .before .before .before .before .loop .inv .1, c .before .before .before .before .before .before .before .before .before .before .before .loop .inv .2, c .before .before .before .before .before .before .before .before .before .before .before .loop .inv .3, c .before .before .before .before .before .before .before .before .before .before .before .loop .inv .4, next-free _ _ _ _ _ _ _ _ _ _ (c .before .before .before .before .before .before .before .before .before .before .before .loop .inv .0) _ _ (c .before .before .before .before .before .before .before .before .before .len-of .ensures) (c .before .before .before .before .before .before .before .before .places-of .ensures) _ (c .before .before .before .before .before .before .before .stops .ensures) (c .before .before .before .before .before .before .if1 .left) .three), (omega (arith, c .before .before .before .before .before .before .before .before .places-of .ensures), (omega (arith, c .before .before .before .before .before .before .before .before .before .before .before .loop .inv .0 .few, c .before .before .before .before .before .before .before .before .before .before .before .loop .inv .0 .within, c .before .before .before .before .before .before .before .before .before .before .before .loop .inv .0 .words, c .before .before .before .before .before .before .before .before .before .before .before .loop .inv .0 .places, c .before .before .before .before .before .before .before .before .before .before .before .loop .inv .1, c .before .before .before .before .before .before .before .before .before .before .before .loop .inv .2, c .before .before .before .before .before .before .before .before .before .before .before .loop .inv .3, c .before .before .before .before .before .before .before .before .before .before .before .loop .inv .4, next-free _ _ _ _ _ _ _ _ _ _ (c .before .before .before .before .before .before .before .before .before .before .before .loop .inv .0) _ _ (c .before .before .before .before .before .before .before .before .before .len-of .ensures) (c .before .before .before .before .before .before .before .before .places-of .ensures) _ (c .before .before .before .before .before .before .before .stops .ensures) (c .before .before .before .before .before .before .if1 .left) .fits, c .before .before .before .before .before .before .before .before .before .before .before .before .room .ensures), omega (arith, c .before .before .before .before .before .before .before .before .before .before .before .loop .inv .0 .few, c .before .before .before .before .before .before .before .before .before .before .before .loop .inv .0 .within, c .before .before .before .before .before .before .before .before .before .before .before .loop .inv .0 .words, c .before .before .before .before .before .before .before .before .before .before .before .loop .inv .0 .places, c .before .before .before .before .before .before .before .before .before .before .before .loop .inv .1, c .before .before .before .before .before .before .before .before .before .before .before .loop .inv .2, c .before .before .before .before .before .before .before .before .before .before .before .loop .inv .3, c .before .before .before .before .before .before .before .before .before .before .before .loop .inv .4, next-free _ _ _ _ _ _ _ _ _ _ (c .before .before .before .before .before .before .before .before .before .before .before .loop .inv .0) _ _ (c .before .before .before .before .before .before .before .before .before .len-of .ensures) (c .before .before .before .before .before .before .before .before .places-of .ensures) _ (c .before .before .before .before .before .before .before .stops .ensures) (c .before .before .before .before .before .before .if1 .left) .fits, c .before .before .before .before .before .before .before .before .before .before .before .before .room .ensures), omega (arith, c .before .before .before .before .before .before .before .before .before .before .before .loop .inv .0 .few, c .before .before .before .before .before .before .before .before .before .before .before .loop .inv .0 .within, c .before .before .before .before .before .before .before .before .before .before .before .loop .inv .0 .words, c .before .before .before .before .before .before .before .before .before .before .before .loop .inv .0 .places, c .before .before .before .before .before .before .before .before .before .before .before .loop .inv .1, c .before .before .before .before .before .before .before .before .before .before .before .loop .inv .2, c .before .before .before .before .before .before .before .before .before .before .before .loop .inv .3, c .before .before .before .before .before .before .before .before .before .before .before .loop .inv .4, next-free _ _ _ _ _ _ _ _ _ _ (c .before .before .before .before .before .before .before .before .before .before .before .loop .inv .0) _ _ (c .before .before .before .before .before .before .before .before .before .len-of .ensures) (c .before .before .before .before .before .before .before .before .places-of .ensures) _ (c .before .before .before .before .before .before .before .stops .ensures) (c .before .before .before .before .before .before .if1 .left) .fits, c .before .before .before .before .before .before .before .before .before .before .before .before .room .ensures)))))
 
 add-at : tie.Need-add-at Inv-loop μ-loop
 add-at c = omega (arith, c .before .before .before .before .before .before .before .before .before .before .before .before .before .before .before .before .before .before .before .before .before .before .before .before .before .before .before .before .before .before .good, next-within _ _ _ _ _ _ _ _ _ _ (c .before .before .before .before .before .before .before .before .before .before .before .before .before .before .before .before .before .before .before .before .loop .inv .0) _ _ (c .before .before .before .before .before .before .before .before .before .before .before .before .before .before .before .before .before .before .len-of .ensures) (c .before .before .before .before .before .before .before .before .before .before .before .before .before .before .before .before .before .places-of .ensures) _ (c .before .before .before .before .before .before .before .before .before .before .before .before .before .before .before .before .stops .ensures))
