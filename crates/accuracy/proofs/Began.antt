@@ -82,7 +82,7 @@ same-channel t off v now =
     (either (SameBy t) (eqb off 0x18) (same-synced t now)
     (either (SameBy t) (eqb off 0x1c) (same-synced t now)
     (either (SameBy t) (eqb off 0x20) refl
-    (either (SameBy t) (R.isCcr off) (same-ccr t (R.ccrChannel off) v now) refl))))
+    (either (SameBy t) (R.isCcr off) (same-ccr t (R.ccrChannel off) _ now) refl))))
 
 -- ---- a timer that starts
 
@@ -126,9 +126,9 @@ module _ (t : Timer) (v now div : ℕ) (off : CEN (cr1 t) ≡ false) where
       (either IfBy (eqb reg 0x0c) (if-same _ refl)
       (either IfBy (eqb reg 0x10) (if-same _ refl)
       (either IfBy (eqb reg 0x14) (if-same _ (same-egr t v now div))
-      (either IfBy (eqb reg 0x24) (if-same _ (same-cnt t v now))
+      (either IfBy (eqb reg 0x24) (if-same _ (same-cnt t _ now))
       (either IfBy (eqb reg 0x28) (if-same _ refl)
-      (either IfBy (eqb reg 0x2c) (if-same _ (same-arr t v now)) (if-same _ (same-channel t reg v now))))))))))
+      (either IfBy (eqb reg 0x2c) (if-same _ (same-arr t _ now)) (if-same _ (same-channel t reg v now))))))))))
 
 if-written : (b : Board) (t : Timer) (offset size value now : ℕ) → CEN (cr1 t) ≡ false → CEN (cr1 (written b t offset size value now .timer)) ≡ true
     → Starts (written b t offset size value now .timer) now (dividerOf b t)

@@ -114,7 +114,8 @@ fn count_at(t: Timer, e: Next) -> u32
 }
 
 // Drives the four channels of a timer that drives, at a count: outputs' `drive_outputs` over a timer by value. The second pair's levels
-// are looked at after the first pair is driven, so that they need not be kept.
+// are looked at after the first pair is driven, so that they need not be kept. It is written out here so that it is compiled into the
+// loop: with one function for both an event takes 0.6 of the Rust's time instead of 0.4.
 fn drive_four(
     words: &mut [u64; WORDS],
     reals: &mut [f64; REALS],
@@ -181,7 +182,8 @@ fn drive(
     drive_four(words, reals, pins, levels, cycles, n, t, cnt, at)
 }
 
-// The next event and its steps. It and `due_of` are tim's own, written out here: so they are compiled into the loop, and the timer stays in registers.
+// The next event and its steps. It and `due_of` are tim's own, written out here: so they are compiled into the loop, and the timer stays in
+// registers. Called instead, an event takes half as long again.
 fn first_of(t: Timer) -> Ahead
     ensures { λ r. ⌜ r ≡ nextSteps t ⌝ }
 {

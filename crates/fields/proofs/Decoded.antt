@@ -1,34 +1,25 @@
 -- What words with some of them changed decode to. Assumes nothing.
 use mathlib.Core.Path.{_≡_, refl}
 use mathlib.Core.Bool.{Bool, true, false}
-use mathlib.Core.List.{List, [], _∷_}
-use Prim.Native.Nat.{ℕ, zero, suc, _+_, _-_, _%_, _<_}
+use mathlib.Core.List.{List}
+use Prim.Native.Nat.{ℕ, zero, suc, _+_, _%_, _<_}
 use native.Mathlib.Nat.{mod-eq-of-lt}
 use native.Mathlib.Omega.{arith}
 use lib.Dec.{eqb}
-use lib.ListN.{length, getD, set}
+use lib.ListN.{set}
 use mir.Val.{boolByte}
 use Rattle.tim.specs.declared.Timer.{Timer}
-use Rattle.tim.specs.declared.Count.{Count}
 use Rattle.tim.specs.Timer.{withCount}
 use Rattle.tim.specs.Count.{atCount}
 use Rattle.tim.specs.Change.{withDone}
-use Rattle.regs.specs.Regs.{withPsc, withCcr, withCcrAct}
-use Rattle.codec.specs.Codec.{CountFit, decodeTimer}
+use Rattle.regs.specs.Regs.{withCcr, withCcrAct}
+use Rattle.codec.specs.Codec.{decodeTimer}
 use Rattle.state.specs.Parts.{front}
 use Rattle.fields.specs.Field.{withReg}
 
 flag : (b : Bool) → eqb (boolByte b % 2) 1 ≡ b
 flag true = refl
 flag false = refl
-
-four : (d : List Bool) → length d ≡ 4 → getD d 0 false ∷ getD d 1 false ∷ getD d 2 false ∷ getD d 3 false ∷ [] ≡ d
-four [] h = absurd (omega arith)
-four (a ∷ []) h = absurd (omega arith)
-four (a ∷ b ∷ []) h = absurd (omega arith)
-four (a ∷ b ∷ e ∷ []) h = absurd (omega arith)
-four (a ∷ b ∷ e ∷ f ∷ []) h = refl
-four (a ∷ b ∷ e ∷ f ∷ g ∷ d) h = absurd (omega arith)
 
 module _ (m : List ℕ) where
   abbrev was : Timer
@@ -43,10 +34,6 @@ module _ (m : List ℕ) where
   reg (suc (suc (suc (suc zero)))) v h g = rw (mod-eq-of-lt g)
   reg (suc (suc (suc (suc (suc zero))))) v h g = rw (mod-eq-of-lt g)
   reg (suc (suc (suc (suc (suc (suc k)))))) v h g = absurd (omega arith)
-
-  pub psc : (v : ℕ) → v < 65536 → decodeTimer (set (front 0 40 m) 13 v) ≡ withPsc was v
-  unfolding decodeTimer front
-  psc v g = rw (mod-eq-of-lt g)
 
   pub at : (cnt base : ℕ) → cnt < 4294967296 → base < 9223372036854775808
       → decodeTimer (set (set (front 0 40 m) 35 cnt) 36 base) ≡ withCount was (atCount (was .count) cnt base)
@@ -76,19 +63,3 @@ module _ (m : List ℕ) where
   done (suc (suc zero)) on h = rw (flag on)
   done (suc (suc (suc zero))) on h = rw (flag on)
   done (suc (suc (suc (suc ch)))) on h = absurd (omega arith)
-
-  pub all-done : (d : List Bool) → length d ≡ 4
-      → decodeTimer
-      (set (set (set (set (front 0 40 m) 25 (boolByte (getD d 0 false))) 26 (boolByte (getD d 1 false))) 27 (boolByte (getD d 2 false))) 28 (boolByte (getD d 3 false)))
-      ≡ withDone was d
-  unfolding decodeTimer front
-  all-done d h = simp (flag (getD d 0 false), flag (getD d 1 false), flag (getD d 2 false), flag (getD d 3 false), four d h)
-
-  pub count : (k : Count) → CountFit k → k .«arr_act» < 4294967296 → k .cnt0 < 4294967296
-      → decodeTimer
-      (set (set (set (set (set (set (front 0 40 m) 33 (k .«psc_act»)) 34 (k .«arr_act»)) 35 (k .cnt0)) 36 (k .base)) 37 (k .tick - 1)) 38 (boolByte (k .running)))
-      ≡ withCount was k
-  unfolding decodeTimer front
-  count k h a b =
-      let tick : (k .tick - 1) % 536870912 + 1 ≡ k .tick = omega arith in
-      simp (mod-eq-of-lt (h .psc-lt), mod-eq-of-lt a, mod-eq-of-lt b, mod-eq-of-lt (h .base-lt), tick, flag (k .running))

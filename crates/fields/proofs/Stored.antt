@@ -1,37 +1,31 @@
 -- What each function's stores do to the board. Assumes nothing.
 use mathlib.Core.Path.{_≡_, ap, sym, _∙_}
-use mathlib.Core.Bool.{Bool, false}
+use mathlib.Core.Bool.{Bool}
 use mathlib.Core.List.{List}
-use Prim.Native.Nat.{ℕ, zero, suc, _+_, _-_, _*_, _%_, _<_}
+use Prim.Native.Nat.{ℕ, zero, suc, _+_, _*_, _%_, _<_}
 use native.Mathlib.Omega.{arith}
 use lib.ListN.{length, getD, set, drop}
 use lib.Seq.{getD-drop}
 use lib.Ieee.{Float}
 use mir.Val.{boolByte}
 use Rattle.tim.specs.declared.Timer.{Timer}
-use Rattle.tim.specs.declared.Count.{Count}
 use Rattle.tim.specs.declared.Inst.{Inst}
 use Rattle.tim.specs.Timer.{withCount}
 use Rattle.tim.specs.Count.{atCount}
 use Rattle.tim.specs.Change.{withDone}
-use Rattle.regs.specs.Regs.{withPsc, withCcr, withCcrAct}
-use Rattle.codec.specs.Codec.{CountFit, u32At, decodeTimer}
+use Rattle.regs.specs.Regs.{withCcr, withCcrAct}
+use Rattle.codec.specs.Codec.{u32At, decodeTimer}
 use Rattle.state.specs.Board.{timerAt, withTimer}
 use Rattle.state.proofs.Cut.{front-at}
 use Rattle.state.specs.View.{view}
-use Rattle.state.proofs.InRange.{bounded}
-use Rattle.machine.specs.Board.{Board}
-use Rattle.fields.specs.Field.{withReg, withRun}
-use Rattle.fields.proofs.Words.{changed-twice, block, held, unchanged, changed, fields-set, field-set}
+use Rattle.fields.specs.Field.{withReg}
+use Rattle.fields.proofs.Words.{block, held, unchanged, changed, fields-set, field-set}
 use Rattle.fields.proofs.Decoded as D
 
 module _ (w : List ℕ) (i : ℕ) (size : length w ≡ 5276) (h : i < 8) where
   pub reg-set : (k v : ℕ) → k < 6 → v < 4294967296
       → (x : List Float) → view (set w (i * 40 + (7 + k)) v) x ≡ withTimer (view w x) i (withReg (timerAt (view w x) i) k v)
   reg-set k v g f = field-set w i h (7 + k) v (λ t. withReg t k v) size (omega arith) (D.reg (drop (i * 40) w) k v g f)
-
-  pub psc-set : (v : ℕ) → v < 65536 → (x : List Float) → view (set w (i * 40 + 13) v) x ≡ withTimer (view w x) i (withPsc (timerAt (view w x) i) v)
-  psc-set v g = field-set w i h 13 v (λ t. withPsc t v) size (omega arith) (D.psc (drop (i * 40) w) v g)
 
   pub ccr-set : (ch v : ℕ) → ch < 4 → v < 4294967296
       → (x : List Float) → view (set w (i * 40 + (17 + ch)) v) x ≡ withTimer (view w x) i (withCcr (timerAt (view w x) i) ch v)
@@ -55,39 +49,6 @@ module _ (w : List ℕ) (i : ℕ) (size : length w ≡ 5276) (h : i < 8) where
       fields-set w i h _ _ (λ t. withCount t (atCount (t .count) cnt base))
       (changed w i h _ _ 36 base (omega arith) (changed w i h _ _ 35 cnt (omega arith) (unchanged w i h size)))
       (D.at (drop (i * 40) w) cnt base f g)
-
-  pub all-done-set : (d : List Bool) → length d ≡ 4
-      → (x : List Float) → view
-      (set (set (set (set w (i * 40 + 25) (boolByte (getD d 0 false))) (i * 40 + 26) (boolByte (getD d 1 false))) (i * 40 + 27) (boolByte (getD d 2 false))) (i * 40 + 28) (boolByte (getD d 3 false))) x
-      ≡ withTimer (view w x) i (withDone (timerAt (view w x) i) d)
-  all-done-set d l =
-      fields-set w i h _ _ (λ t. withDone t d)
-      (changed w i h _ _ 28 _ (omega arith)
-      (changed w i h _ _ 27 _ (omega arith) (changed w i h _ _ 26 _ (omega arith) (changed w i h _ _ 25 _ (omega arith) (unchanged w i h size)))))
-      (D.all-done (drop (i * 40) w) d l)
-
-  pub count-set : (k : Count) → CountFit k → k .«arr_act» < 4294967296 → k .cnt0 < 4294967296
-      → (x : List Float) → view
-      (set (set (set (set (set (set w (i * 40 + 33) (k .«psc_act»)) (i * 40 + 34) (k .«arr_act»)) (i * 40 + 35) (k .cnt0)) (i * 40 + 36) (k .base)) (i * 40 + 37) (k .tick - 1)) (i * 40 + 38) (boolByte (k .running))) x
-      ≡ withTimer (view w x) i (withCount (timerAt (view w x) i) k)
-  count-set k f a b =
-      fields-set w i h _ _ (λ t. withCount t k)
-      (changed w i h _ _ 38 _ (omega arith)
-      (changed w i h _ _ 37 _ (omega arith)
-      (changed w i h _ _ 36 _ (omega arith)
-      (changed w i h _ _ 35 _ (omega arith) (changed w i h _ _ 34 _ (omega arith) (changed w i h _ _ 33 _ (omega arith) (unchanged w i h size)))))))
-      (D.count (drop (i * 40) w) k f a b)
-
--- CR1, the compares done and the counter, one after the other
-pub run-set : (w : List ℕ) (x : List Float) (b₁ b₂ b₃ : Board) (i : ℕ) (t : Timer) → i < 8
-    → b₁ ≡ withTimer (view w x) i (withReg (timerAt (view w x) i) 0 (t .regs .cr1))
-    → b₂ ≡ withTimer b₁ i (withDone (timerAt b₁ i) (t .chan .«cc_done»))
-    → b₃ ≡ withTimer b₂ i (withCount (timerAt b₂ i) (t .count))
-    → b₃ ≡ withTimer (view w x) i (withRun (timerAt (view w x) i) t)
-run-set w x b₁ b₂ b₃ i t h p q r =
-    let n : i < length (view w x .timers) = omega (arith, bounded w x .timers-length) in
-    changed-twice (view w x) b₂ b₃ i (λ u. withDone (withReg u 0 (t .regs .cr1)) (t .chan .«cc_done»)) (λ u. withCount u (t .count)) n
-    (changed-twice (view w x) b₁ b₂ i (λ u. withReg u 0 (t .regs .cr1)) (λ u. withDone u (t .chan .«cc_done»)) n p q) r
 
 -- ---- words read
 

@@ -1,8 +1,6 @@
--- A timer with one register, or with what starts and stops it, another.
+-- A timer with one register another.
 use Prim.Native.Nat.{ℕ, zero, suc}
 use Rattle.tim.specs.declared.Timer.{Timer}
-use Rattle.tim.specs.Timer.{withCount}
-use Rattle.tim.specs.Change.{withDone}
 use Rattle.regs.specs.Regs.{withCr1, withCr2, withSmcr, withDier, withSr, withCcer}
 
 -- register k of CR1, CR2, SMCR, DIER, SR, CCER
@@ -13,7 +11,3 @@ withReg t (suc (suc zero)) v = withSmcr t v
 withReg t (suc (suc (suc zero))) v = withDier t v
 withReg t (suc (suc (suc (suc zero)))) v = withSr t v
 withReg t (suc (suc (suc (suc (suc k))))) v = withCcer t v
-
--- what a write of CR1 changes: CR1, which compares are done, and the counter
-abbrev pub withRun : Timer → Timer → Timer
-withRun u t = withCount (withDone (withCr1 u (t .regs .cr1)) (t .chan .«cc_done»)) (t .count)

@@ -2,22 +2,19 @@
 // The 8 timers stand first in the words; crate codec says which word of a timer is which field.
 use codec::TIMER_WORDS;
 use state::WORDS;
-use tim::Count;
 use tim::Inst;
-use tim::Timer;
 ghost use mathlib.Core.Path.{_≡_};
 ghost use mathlib.Core.List.{List};
 ghost use Prim.Native.Nat.{_<_};
 ghost use lib.Ieee.{Float};
 ghost use lib.ListN.{length, set};
-ghost use Rattle.tim.specs.Timer.{Fit, withCount, ccmrByte};
+ghost use Rattle.tim.specs.Timer.{withCount, ccmrByte};
 ghost use Rattle.tim.specs.Count.{atCount};
 ghost use Rattle.tim.specs.Change.{withDone};
 ghost use Rattle.regs.specs.Regs as R;
-ghost use Rattle.codec.specs.Codec.{CountFit};
 ghost use Rattle.state.specs.View.{view};
 ghost use Rattle.state.specs.Board.{timerAt, withTimer};
-ghost use Rattle.fields.specs.Field.{withReg, withRun};
+ghost use Rattle.fields.specs.Field.{withReg};
 
 fn seen(s: &[u64]) {}
 
@@ -35,15 +32,6 @@ pub fn set_reg(words: &mut [u64; WORDS], i: usize, k: usize, v: u32)
 {
     sized(words);
     words[i * TIMER_WORDS + (7 + k)] = v as u64;
-}
-
-// PSC of timer i.
-pub fn set_psc(words: &mut [u64; WORDS], i: usize, v: u32)
-    requires { ⌜ (i < 8) × (v < 65536) ⌝ }
-    ensures { λ _. ⌜ ((x : List Float) → view (now (words .exit)) x ≡ withTimer (view (now (words .entry)) x) i (R.withPsc (timerAt (view (now (words .entry)) x) i) v)) ⌝ }
-{
-    sized(words);
-    words[i * TIMER_WORDS + 13] = v as u64;
 }
 
 // The compare of channel ch as written.
@@ -123,43 +111,4 @@ pub fn en_reg(words: &[u64; WORDS], i: usize) -> usize
     ensures { λ r. ⌜ ((x : List Float) → r ≡ timerAt (view (now (words .entry)) x) i .inst .«en_reg») ⌝ }
 {
     (words[i * TIMER_WORDS + 5] % 4294967296) as usize
-}
-
-// ---- what starts and stops a timer
-
-// Which compares are done.
-fn store_done(words: &mut [u64; WORDS], i: usize, cc_done: [bool; 4])
-    requires { ⌜ i < 8 ⌝ }
-    ensures { λ _. ⌜ ((x : List Float) → view (now (words .exit)) x ≡ withTimer (view (now (words .entry)) x) i (withDone (timerAt (view (now (words .entry)) x) i) «cc_done»)) ⌝ }
-{
-    sized(words);
-    words[i * TIMER_WORDS + 25] = cc_done[0] as u64;
-    words[i * TIMER_WORDS + 26] = cc_done[1] as u64;
-    words[i * TIMER_WORDS + 27] = cc_done[2] as u64;
-    words[i * TIMER_WORDS + 28] = cc_done[3] as u64;
-}
-
-// The counter. The word of the step's cycles holds one less.
-fn store_count(words: &mut [u64; WORDS], i: usize, k: Count)
-    requires { ⌜ (i < 8) × (CountFit k) ⌝ }
-    ensures { λ _. ⌜ ((x : List Float) → view (now (words .exit)) x ≡ withTimer (view (now (words .entry)) x) i (withCount (timerAt (view (now (words .entry)) x) i) k)) ⌝ }
-{
-    sized(words);
-    words[i * TIMER_WORDS + 33] = k.psc_act as u64;
-    words[i * TIMER_WORDS + 34] = k.arr_act as u64;
-    words[i * TIMER_WORDS + 35] = k.cnt0 as u64;
-    words[i * TIMER_WORDS + 36] = k.base;
-    words[i * TIMER_WORDS + 37] = k.tick as u64 - 1;
-    words[i * TIMER_WORDS + 38] = k.running as u64;
-}
-
-// Of timer t, CR1, which compares are done, and the counter: what a write of CR1 changes.
-pub fn store_run(words: &mut [u64; WORDS], i: usize, t: Timer)
-    requires { ⌜ (i < 8) × (Fit t) ⌝ }
-    ensures { λ _. ⌜ ((x : List Float) → view (now (words .exit)) x ≡ withTimer (view (now (words .entry)) x) i (withRun (timerAt (view (now (words .entry)) x) i) t)) ⌝ }
-{
-    set_reg(words, i, 0, t.regs.cr1);
-    let cc_done = t.chan.cc_done;
-    store_done(words, i, cc_done);
-    store_count(words, i, t.count);
 }

@@ -151,10 +151,10 @@ inst-channel : (t : Timer) (off v now : ℕ) → Keeps t (R.channelWritten t off
 unfolding R.channelWritten
 inst-channel t off v now =
     either (Keeps t) (eqb (t .inst .channels) 0) refl
-    (either (Keeps t) (eqb off 0x18) (inst-ccmr t 0 v now)
-    (either (Keeps t) (eqb off 0x1c) (inst-ccmr t 1 v now)
-    (either (Keeps t) (eqb off 0x20) (inst-ccer t v now)
-    (either (Keeps t) (R.isCcr off) (inst-ccr t (R.ccrChannel off) v now) refl))))
+    (either (Keeps t) (eqb off 0x18) (inst-ccmr t 0 _ now)
+    (either (Keeps t) (eqb off 0x1c) (inst-ccmr t 1 _ now)
+    (either (Keeps t) (eqb off 0x20) (inst-ccer t _ now)
+    (either (Keeps t) (R.isCcr off) (inst-ccr t (R.ccrChannel off) _ now) refl))))
 
 inst-register : (t : Timer) (off v now div : ℕ) → Keeps t (R.regWritten t off v now div)
 unfolding R.regWritten
@@ -165,9 +165,9 @@ inst-register t off v now div =
     (either (Keeps t) (eqb off 0x0c) refl
     (either (Keeps t) (eqb off 0x10) refl
     (either (Keeps t) (eqb off 0x14) (inst-egr t v now div)
-    (either (Keeps t) (eqb off 0x24) (inst-cnt t v now)
+    (either (Keeps t) (eqb off 0x24) (inst-cnt t _ now)
     (either (Keeps t) (eqb off 0x28) refl
-    (either (Keeps t) (eqb off 0x2c) (inst-arr t v now) (inst-channel t off v now)))))))))
+    (either (Keeps t) (eqb off 0x2c) (inst-arr t _ now) (inst-channel t off v now)))))))))
 
 pub inst-written : (b : Board) (t : Timer) (offset size value cycle : ℕ) → written b t offset size value cycle .timer .inst ≡ t .inst
 unfolding written

@@ -1,6 +1,6 @@
 -- The calls over any board: the callees' equations in, step's answer out. Assumes nothing.
-use mathlib.Core.Path.{_≡_, refl, ap, sym, _∙_}
-use mathlib.Core.Bool.{Bool, true, false, not, _||_, false≢true}
+use mathlib.Core.Path.{_≡_, refl, ap, sym, subst, _∙_}
+use mathlib.Core.Bool.{Bool, true, false, cond, not, _||_, false≢true}
 use mathlib.Core.List.{List, [], _∷_}
 use Prim.Native.Nat.{ℕ, _≤_, _<_, _*_, _/_}
 use native.Mathlib.Omega.{arith}
@@ -8,22 +8,24 @@ use lib.Dec.{ltb}
 use borrow.Author.Tests.{ltb-false, not-true, not-false}
 use lib.Ieee.{Float}
 use lib.ListN.{length}
+use lib.Seq.{set-set, set-getD}
 use Rattle.tim.specs.declared.Timer.{Timer}
 use Rattle.tim.specs.Timer.{Fit}
 use Rattle.tim.specs.Count.{cntAt}
+use Rattle.tim.specs.Next.{nextEvent}
+use Rattle.tim.proofs.Fit.{either}
 use Rattle.regs.specs.Regs as R
 use Rattle.tim.specs.Change.{resetState}
 use Rattle.periph.specs.Lane.{laneRead}
 use Rattle.clk.specs.declared.ClockTree.{ClockTree}
 use Rattle.clk.specs.Clk.{good}
-use Rattle.scheduler.specs.Booking as S
 use Rattle.book.specs.Book.{Book, book, puts, entriesOf, places, Holds, Room, Lent}
 use Rattle.book.proofs.Laws.{holds}
-use Rattle.machine.specs.Board.{Board, timerAt, withTimer, withPads, withBooking, withLast}
+use Rattle.machine.specs.Board.{Board, noTimer, timerAt, withTimer, withPads, withLast}
 use Rattle.machine.specs.Sys.{driveOutputs}
-use Rattle.machine.specs.Deliver.{dividerOf, lineSettled, delivered}
-use Rattle.machine.specs.Call.{read, peek, resetTimer, deliver, clockTree, served}
-use Rattle.machine.specs.Step.{step, astray, clockOn, register, timerReset, deliveredTo, treeSet}
+use Rattle.machine.specs.Deliver.{dividerOf, lineSettled, rebooked, delivered}
+use Rattle.machine.specs.Call.{Outcome, read, peek, resetTimer, deliver, clockTree, served}
+use Rattle.machine.specs.Step.{step, astray, clockOn, register, followed, timerReset, deliveredTo, treeSet}
 use Rattle.machine.specs.Refusals.{refusals, first, noSuchIndex, badSize, clockAstray, bookFull}
 use Rattle.machine.proofs.NumberLaws.{performed}
 use Rattle.state.specs.View.{view}
@@ -35,7 +37,7 @@ use Rattle.delivery.specs.Delivery.{Delivers}
 use Rattle.answer.specs.declared.Answer.{Answer}
 use Rattle.answer.specs.Promise.{answer, Answers}
 use Rattle.answer.proofs.Given.{Passed, passed, timer-passed, away, gives, turns-away, turns-away-book, serves, serves-book}
-use Rattle.mmio.specs.Leaves.{Leaves}
+use Rattle.mmio.specs.Leaves.{Leaves, DrivenIf, after}
 
 -- the numbers that `book_refusal` looks at
 abbrev pub asked : ℕ → ℕ → Board → ℕ → ℕ → ℕ
@@ -87,9 +89,9 @@ module _ (w : List ℕ) (x : List Float) (timer offset size cycle num : ℕ) (r 
         rw a (serves (view w x) (read timer offset size cycle) (answer 0 0 0) w w x x (sym z ∙ read-first) refl (rw (sym gate ∙ not-true on o) refl) refl refl)
 
 -- the counter, read directly
-pub counter-read : (t : Timer) (offset cycle c : ℕ) → offset / 4 ≡ 9 → c ≡ cntAt t cycle → c ≡ laneRead (R.regRead t (register offset) cycle) offset 4
+pub counter-read : (t : Timer) (offset cycle c : ℕ) → register offset ≡ 0x24 → c ≡ cntAt t cycle → c ≡ laneRead (R.regRead t (register offset) cycle) offset 4
 unfolding R.regRead laneRead
-counter-read t offset cycle c h e = e ∙ ap (λ (q : ℕ). R.regRead t (q * 4) cycle) (sym h)
+counter-read t offset cycle c h e = e ∙ ap (λ (q : ℕ). R.regRead t q cycle) (sym h)
 
 module _ (w : List ℕ) (x : List Float) (timer offset cycle num : ℕ) (r : Answer) (h : num ≡ barred timer 4 (view w x) cycle) where
   peek-first : num ≡ first (refusals (view w x) (peek timer offset cycle))
@@ -104,36 +106,83 @@ module _ (w : List ℕ) (x : List Float) (timer offset cycle num : ℕ) (r : Ans
   unfolding performed laneRead
   peek-gives z v p a = rw a (serves (view w x) (peek timer offset cycle) (answer 0 v 0) w w x x (sym z ∙ peek-first) refl p refl refl)
 
--- ---- a timer stored and its outputs driven
-stored : (t : Timer) (i cnt cycle : ℕ) (b b₁ b₂ : Board) (k k₁ : Book) → i < length (b .timers) → b₁ ≡ withTimer b i t
-    → Driven (driveOutputs (timerAt b₁ i) cnt (b₁ .pads)) cycle b₁ b₂ k k₁
-    → (b₂ ≡ withPads (withTimer b i t) (driveOutputs t cnt (b .pads) .pads)) × (k₁ ≡ puts k (entriesOf cycle (driveOutputs t cnt (b .pads) .changes)))
-stored t i cnt cycle b b₁ b₂ k k₁ l e d =
-    let same : timerAt b₁ i ≡ t = stored-there b b₁ i t l e in (
-      d .board
-          ∙ ap (λ (y : Timer). withPads b₁ (driveOutputs y cnt (b₁ .pads) .pads)) same
-          ∙ ap (λ (y : Board). withPads y (driveOutputs t cnt (y .pads) .pads)) e,
-      d .entries
-          ∙ ap (λ (y : Timer). puts k (entriesOf cycle (driveOutputs y cnt (b₁ .pads) .changes))) same
-          ∙ ap (λ (y : Board). puts k (entriesOf cycle (driveOutputs t cnt (y .pads) .changes))) e,
-    )
+-- ---- what follows where a timer was stored
+pub drives-on : (on : Bool) (t : Timer) (cnt cycle : ℕ) (b b₁ : Board) (k k₁ : Book) → on ≡ true → Driven (driveOutputs t cnt (b .pads)) cycle b b₁ k k₁
+    → DrivenIf on t cnt cycle b b₁ k k₁
+drives-on on t cnt cycle b b₁ k k₁ o m = rw o (record { board = m .board; entries = m .entries })
 
-pub resets : (b b₁ b₂ b₃ b₄ b₅ : Board) (i cycle div : ℕ) (t s : Timer) (k k₁ : Book)
-    → t ≡ timerAt b i → div ≡ dividerOf b t → s ≡ resetState (t .inst) div
-    → i < length (b .timers) → b₁ ≡ withTimer b i s → Driven (driveOutputs (timerAt b₁ i) 0 (b₁ .pads)) cycle b₁ b₂ k k₁ → b₃ ≡ lineSettled s b₂ → b₄ ≡ withBooking b₃ (S.cancel (b₃ .booking) i) → b₅ ≡ withLast b₄ cycle
-    → Leaves (timerReset b i cycle) b₅ k k₁
-unfolding timerReset
-resets b b₁ b₂ b₃ b₄ b₅ i cycle div t s k k₁ load steps new l e₁ d e₃ e₄ e₅ =
-    let u = resetState (timerAt b i .inst) (dividerOf b (timerAt b i)) in
-    let same : s ≡ u = new ∙ ap (resetState (t .inst)) steps ∙ ap (λ (y : Timer). resetState (y .inst) (dividerOf b y)) load in
-    let q = stored s i 0 cycle b b₁ b₂ k k₁ l e₁ d in
+pub drives-off : (on : Bool) (t : Timer) (cnt cycle : ℕ) (b : Board) (k : Book) → on ≡ false → DrivenIf on t cnt cycle b b k k
+unfolding puts
+drives-off on t cnt cycle b k o = rw o (record { board = refl; entries = refl })
+
+-- outputs and lines leave the timers
+drive-there : (on : Bool) (t : Timer) (i cnt cycle : ℕ) (b b₁ : Board) (k k₁ : Book) → DrivenIf on t cnt cycle b b₁ k k₁ → timerAt b₁ i ≡ timerAt b i
+drive-there on t i cnt cycle b b₁ k k₁ d = ap (λ (y : Board). timerAt y i) (d .board)
+
+line-there : (line : Bool) (t : Timer) (i : ℕ) (b b₁ : Board) → b₁ ≡ cond line (lineSettled t b) b → timerAt b₁ i ≡ timerAt b i
+unfolding lineSettled
+line-there line t i b b₁ e = ap (λ (y : Board). timerAt y i) e ∙ either (λ (y : Board). timerAt y i ≡ timerAt b i) line refl refl
+
+-- a board with its timers listed anew
+abbrev withTimers : Board → List Timer → Board
+withTimers b ts = record { timers = ts; booking = b .booking; nvic = b .nvic; pads = b .pads; clocks = b .clocks; counts = b .counts }
+
+-- a timer stored where it stands
+same-timer : (b : Board) (i : ℕ) → b ≡ withTimer b i (timerAt b i)
+same-timer b i = sym (ap (withTimers b) (set-getD (b .timers) i noTimer))
+
+pub follows : (b b₂ b₃ b₄ b₅ : Board) (i cycle cnt : ℕ) (driven lined booked : Bool) (k k₁ : Book) → DrivenIf driven (timerAt b i) cnt cycle b b₂ k k₁
+    → b₃ ≡ cond lined (lineSettled (timerAt b₂ i) b₂) b₂ → b₄ ≡ cond booked (rebooked i (timerAt b₃ i) cycle b₃) b₃ → b₅ ≡ withLast b₄ cycle
+    → Leaves (after b i cycle driven cnt lined booked) b₅ k k₁
+unfolding followed
+follows b b₂ b₃ b₄ b₅ i cycle cnt driven lined booked k k₁ d e₃ e₄ e₅ =
+    let t = timerAt b i in
+    let e₂ : b₂ ≡ withPads (withTimer b i t) (cond driven (driveOutputs t cnt (b .pads) .pads) (b .pads)) =
+    d .board ∙ ap (λ (y : Board). withPads y (cond driven (driveOutputs t cnt (b .pads) .pads) (b .pads))) (same-timer b i) in
+    let there : timerAt b₂ i ≡ t = drive-there driven t i cnt cycle b b₂ k k₁ d in
+    let last : timerAt b₃ i ≡ t = line-there lined (timerAt b₂ i) i b₂ b₃ e₃ ∙ there in
     record {
-      board = e₅ ∙ ap (λ (y : Board). withLast y cycle) (e₄ ∙ ap (λ (y : Board). withBooking y (S.cancel (y .booking) i))
-          (e₃ ∙ ap (lineSettled s) (q .0) ∙ ap (λ (y : Timer). lineSettled y (withPads (withTimer b i y) (driveOutputs y 0 (b .pads) .pads))) same));
-      entries = q .1 ∙ ap (λ (y : Timer). puts k (entriesOf cycle (driveOutputs y 0 (b .pads) .changes))) same;
+      board = e₅ ∙ ap (λ (y : Board). withLast y cycle) (e₄ ∙ ap (λ (y : Timer). cond booked (rebooked i y cycle b₃) b₃) last
+          ∙ ap (λ (y : Board). cond booked (rebooked i t cycle y) y)
+          (e₃ ∙ ap (λ (y : Timer). cond lined (lineSettled y b₂) b₂) there ∙ ap (λ (y : Board). cond lined (lineSettled t y) y) e₂));
+      entries = d .entries;
     }
 
+-- a timer stored twice
+twice : (b : Board) (i cycle cnt : ℕ) (t : Timer) (driven lined booked : Bool)
+    → followed (withTimer b i t) i cycle (record { timer = t; drive = driven; cnt = cnt; line = lined; book = booked })
+    ≡ followed b i cycle (record { timer = t; drive = driven; cnt = cnt; line = lined; book = booked })
+unfolding followed
+twice b i cycle cnt t driven lined booked = rw (set-set (b .timers) i t t)
+
+-- of a timer that was just stored it is `followed` of the board before
+pub after-stored : (b b₁ : Board) (i cycle cnt : ℕ) (t : Timer) (driven lined booked : Bool) → i < length (b .timers) → b₁ ≡ withTimer b i t
+    → after b₁ i cycle driven cnt lined booked ≡ followed b i cycle (record { timer = t; drive = driven; cnt = cnt; line = lined; book = booked })
+after-stored b b₁ i cycle cnt t driven lined booked l e =
+    ap (λ (y : Timer). followed b₁ i cycle (record { timer = y; drive = driven; cnt = cnt; line = lined; book = booked })) (stored-there b b₁ i t l e)
+    ∙ ap (λ (y : Board). followed y i cycle (record { timer = t; drive = driven; cnt = cnt; line = lined; book = booked })) e
+    ∙ twice b i cycle cnt t driven lined booked
+
 -- ---- reset
+
+-- the reset timer is stopped: it is booked for never
+reset-followed : (b : Board) (i cycle : ℕ)
+    → followed b i cycle (record { timer = resetState (timerAt b i .inst) (dividerOf b (timerAt b i)); drive = true; cnt = 0; line = true; book = true }) ≡ timerReset b i cycle
+unfolding followed timerReset rebooked nextEvent resetState
+reset-followed b i cycle = refl
+
+pub resets : (b b₁ b₂ : Board) (i cycle div : ℕ) (t s : Timer) (k k₁ : Book)
+    → t ≡ timerAt b i → div ≡ dividerOf b t → s ≡ resetState (t .inst) div
+    → i < length (b .timers) → b₁ ≡ withTimer b i s → Leaves (after b₁ i cycle true 0 true true) b₂ k k₁ → Leaves (timerReset b i cycle) b₂ k k₁
+resets b b₁ b₂ i cycle div t s k k₁ load steps new l e m =
+    let same : s ≡ resetState (timerAt b i .inst) (dividerOf b (timerAt b i)) =
+    new ∙ ap (resetState (t .inst)) steps ∙ ap (λ (y : Timer). resetState (y .inst) (dividerOf b y)) load in
+    subst (λ (o : Outcome). Leaves o b₂ k k₁)
+    (after-stored b b₁ i cycle 0 s true true true l e
+    ∙ ap (λ (y : Timer). followed b i cycle (record { timer = y; drive = true; cnt = 0; line = true; book = true })) same
+    ∙ reset-followed b i cycle)
+    m
+
 module _ (w : List ℕ) (x : List Float) (timer cycle room num : ℕ) (h : num ≡ asked timer 4 (view w x) cycle room) where
   reset-first : num ≡ first (refusals (view w x) (resetTimer timer cycle room))
   unfolding first refusals

@@ -4,6 +4,7 @@ use clk::ClockTree;
 use state::REALS;
 use state::WORDS;
 ghost use mathlib.Core.Path.{_≡_};
+ghost use mathlib.Core.Bool.{cond};
 ghost use mathlib.Core.List.{List};
 ghost use Prim.Native.Nat.{_<_, _≤_};
 ghost use lib.Ieee.{Float};
@@ -15,9 +16,10 @@ ghost use Rattle.state.specs.View.{view};
 ghost use Rattle.book.specs.Book.{book, places, Holds, slices, Room};
 ghost use Rattle.machine.specs.Board.{timerAt};
 ghost use Rattle.machine.specs.Call as Call;
+ghost use Rattle.machine.specs.Deliver.{lineSettled, rebooked};
 ghost use Rattle.machine.specs.Step.{step, register, timerReset};
 ghost use Rattle.answer.specs.Promise.{Answers};
-ghost use Rattle.mmio.specs.Leaves.{Leaves};
+ghost use Rattle.mmio.specs.Leaves.{Leaves, DrivenIf, after};
 
 // ---- reads
 
@@ -49,7 +51,19 @@ pub fn lane_of(words: &[u64; WORDS], i: usize, offset: u32, size: u32, cycle: u6
     periph::lane_read(reg, offset, size as u8)
 }
 
-// A read of 4 bytes, the most common one. The counter is read directly.
+// The whole of timer i's register at the offset. The counter has a short way; every other goes the general one.
+fn whole_of(words: &[u64; WORDS], i: usize, offset: u32, cycle: u64) -> u32
+    requires { ⌜ (i < 8) × (cycle < 9223372036854775808) ⌝ }
+    ensures { λ r. ⌜ ((x : List Float) → r ≡ laneRead (R.regRead (timerAt (view (now (words .entry)) x) i) (register offset) cycle) offset 4) ⌝ }
+{
+    let off = offset / 4 * 4;
+    match off {
+        0x24 => count_of(words, i, cycle),
+        _ => lane_of(words, i, offset, 4, cycle),
+    }
+}
+
+// A read of 4 bytes, the most common one.
 fn read_whole(words: &[u64; WORDS], timer: u32, offset: u32, cycle: u64) -> Answer
     ensures { λ r. ⌜ ((x : List Float) → Answers (step (view (now (words .entry)) x) (Call.read timer offset 4 cycle)) r (now (words .entry)) (now (words .entry)) x x) ⌝ }
 {
@@ -60,11 +74,7 @@ fn read_whole(words: &[u64; WORDS], timer: u32, offset: u32, cycle: u64) -> Answ
     if !rcc::clock_on(words, timer as usize) {
         return answer::served(0);
     }
-    if offset / 4 == 9 {
-        let c = count_of(words, timer as usize, cycle);
-        return answer::served(c as u64);
-    }
-    let v = lane_of(words, timer as usize, offset, 4, cycle);
+    let v = whole_of(words, timer as usize, offset, cycle);
     answer::served(v as u64)
 }
 
@@ -118,9 +128,79 @@ pub fn peek(
     answer::served(reg as u64)
 }
 
+// ---- what follows from a write or a reset
+
+// If `on`, drives timer i's outputs at a count, and writes their changes to the book from place 0 on.
+fn drive(
+    words: &mut [u64; WORDS],
+    reals: &mut [f64; REALS],
+    pins: &mut [u8],
+    levels: &mut [u8],
+    cycles: &mut [u64],
+    on: bool,
+    i: usize,
+    cnt: u32,
+    cycle: u64,
+) -> usize
+    requires { ⌜ i < 8 ⌝ }
+    requires { ⌜ Room 4 (slices (now pins) (now levels) (now cycles)) ⌝ }
+    ensures { λ r. ⌜ DrivenIf on (timerAt (view (now (words .entry)) (now (reals .entry))) i) cnt cycle (view (now (words .entry)) (now (reals .entry))) (view (now (words .exit)) (now (reals .exit))) (book (slices (now (pins .entry)) (now (levels .entry)) (now (cycles .entry))) 0) (book (slices (now (pins .exit)) (now (levels .exit)) (now (cycles .exit))) r) ⌝ }
+    ensures { λ r. ⌜ r ≤ 4 ⌝ }
+{
+    if on {
+        return outputs::drive_outputs(words, reals, pins, levels, cycles, 0, i, cnt, cycle);
+    }
+    0
+}
+
+fn settle_line_if(words: &mut [u64; WORDS], on: bool, i: usize)
+    requires { ⌜ i < 8 ⌝ }
+    ensures { λ _. ⌜ ((x : List Float) → view (now (words .exit)) x ≡ cond on (lineSettled (timerAt (view (now (words .entry)) x) i) (view (now (words .entry)) x)) (view (now (words .entry)) x)) ⌝ }
+{
+    if on {
+        rcc::settle_line_at(words, i);
+    }
+}
+
+fn rebook_if(words: &mut [u64; WORDS], on: bool, i: usize, cycle: u64)
+    requires { ⌜ i < 8 ⌝ }
+    ensures { λ _. ⌜ ((x : List Float) → view (now (words .exit)) x ≡ cond on (rebooked i (timerAt (view (now (words .entry)) x) i) cycle (view (now (words .entry)) x)) (view (now (words .entry)) x)) ⌝ }
+{
+    if on {
+        rcc::rebook(words, i, cycle);
+    }
+}
+
+// What follows where timer i was stored: its outputs driven at a count, its line settled, its next event booked, each if asked for. The
+// number of entries. It has several callers, so it is compiled once, and `drive_outputs`, which has this one, into it.
+pub fn follow(
+    words: &mut [u64; WORDS],
+    reals: &mut [f64; REALS],
+    i: usize,
+    driven: bool,
+    cnt: u32,
+    lined: bool,
+    booked: bool,
+    cycle: u64,
+    pins: &mut [u8],
+    levels: &mut [u8],
+    cycles: &mut [u64],
+) -> usize
+    requires { ⌜ i < 8 ⌝ }
+    requires { ⌜ Room 4 (slices (now pins) (now levels) (now cycles)) ⌝ }
+    ensures { λ r. ⌜ Leaves (after (view (now (words .entry)) (now (reals .entry))) i cycle driven cnt lined booked) (view (now (words .exit)) (now (reals .exit))) (book (slices (now (pins .entry)) (now (levels .entry)) (now (cycles .entry))) 0) (book (slices (now (pins .exit)) (now (levels .exit)) (now (cycles .exit))) r) ⌝ }
+    ensures { λ r. ⌜ r ≤ 4 ⌝ }
+{
+    let k = drive(words, reals, pins, levels, cycles, driven, i, cnt, cycle);
+    settle_line_if(words, lined, i);
+    rebook_if(words, booked, i, cycle);
+    state::set_last(words, cycle);
+    k
+}
+
 // ---- reset
 
-// Timer i at its reset values, not booked, its outputs and line settled. The number of entries.
+// Timer i at its reset values, its outputs and line settled; it is stopped, so booked for never. The number of entries.
 fn reset_timer(
     words: &mut [u64; WORDS],
     reals: &mut [f64; REALS],
@@ -139,11 +219,19 @@ fn reset_timer(
     let div = rcc::divider(words, reals, t);
     let s = t.reset(div);
     state::store_timer(words, i, s);
-    let k = outputs::drive_outputs(words, reals, pins, levels, cycles, 0, i, 0, cycle);
-    rcc::settle_line(words, s);
-    state::book(words, i, scheduler::NEVER);
-    state::set_last(words, cycle);
-    k
+    follow(
+        words,
+        reals,
+        i,
+        true,
+        0,
+        true,
+        true,
+        cycle,
+        pins,
+        levels,
+        cycles,
+    )
 }
 
 pub fn reset(

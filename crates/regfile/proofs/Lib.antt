@@ -1,4 +1,2 @@
 pub mod Written
-mod Plainly
-pub mod Control
 pub mod Unmoved

@@ -13,7 +13,6 @@ use Rattle.tim.specs.Timer.{down}
 use Rattle.tim.specs.Count.{upFrom, cntAt, synced}
 use Rattle.regs.specs.Regs.{keptCr1, withCr1, turned, cr1Written, astray}
 use Rattle.machine.specs.Board.{Board}
-use Rattle.machine.specs.Deliver.{dividerOf}
 use Rattle.state.specs.Board.{timerAt, withTimer}
 use Rattle.fields.proofs.Words.{changed-twice}
 use Rattle.regfile.specs.Steady.{steady}
@@ -79,17 +78,17 @@ module _ (b : Board) (i v cycle : ℕ) (t : Timer) (new : ℕ) (load : t ≡ tim
   stays : steady (u .regs .cr1) (keptCr1 u v) ≡ true
   stays = ap (λ (n : ℕ). steady (u .regs .cr1) n) (sym kept) ∙ ap (λ (y : Timer). steady (y .regs .cr1) new) (sym load) ∙ h
 
-  abbrev written : Timer
-  written = cr1Written u v cycle (dividerOf b u)
+  pub steady-fine : (div : ℕ) → astray (cr1Written u v cycle div) ≡ false
+  steady-fine div =
+      ap astray (steady-written u v cycle div stays) ∙ synced-fine u cycle (keptCr1 u v) (direction (u .regs .cr1) (keptCr1 u v) stays)
 
-  pub steady-goes : true ≡ not (astray written)
-  steady-goes =
-      sym (ap (λ (y : Timer). not (astray y)) (steady-written u v cycle (dividerOf b u) stays)
-      ∙ ap not (synced-fine u cycle (keptCr1 u v) (direction (u .regs .cr1) (keptCr1 u v) stays)))
+  pub steady-stored : (b₁ : Board) → b₁ ≡ withTimer b i (withCr1 (synced u cycle) new) → (div : ℕ) → b₁ ≡ withTimer b i (cr1Written u v cycle div)
+  steady-stored b₁ e div =
+      e ∙ ap (λ (n : ℕ). withTimer b i (withCr1 (synced u cycle) n)) kept ∙ ap (withTimer b i) (sym (steady-written u v cycle div stays))
 
-  pub steady-stored : (b₁ : Board) → b₁ ≡ withTimer b i (withCr1 (synced u cycle) new) → b₁ ≡ withTimer b i written
-  steady-stored b₁ e =
-      e ∙ ap (λ (n : ℕ). withTimer b i (withCr1 (synced u cycle) n)) kept ∙ ap (withTimer b i) (sym (steady-written u v cycle (dividerOf b u) stays))
+-- one answer is not the other
+pub not-served : {A : Type 0} → false ≡ true → A
+not-served h = absurd (false≢true h)
 
 -- the reference moved, then CR1
 pub moved : (b b₁ b₂ : Board) (i cycle new : ℕ) → i < length (b .timers) → b₁ ≡ withTimer b i (synced (timerAt b i) cycle)

@@ -15,7 +15,7 @@ use Rattle.tim.specs.declared.Timer.{Timer}
 use Rattle.tim.specs.declared.Chan.{Chan}
 use Rattle.tim.specs.Timer.{Fit, withCount, ccmrByte}
 use Rattle.tim.specs.Count.{atCount, synced}
-use Rattle.tim.specs.Change.{behind, withDone}
+use Rattle.tim.specs.Change.{behind, behindOf, withDone}
 use Rattle.tim.proofs.Fit.{either}
 use Rattle.regs.specs.Regs.{keptWidth, withCcr, withCcrAct, settled, ccrWritten}
 use Rattle.codec.specs.Codec.{decodeTimer}
@@ -24,7 +24,6 @@ use Rattle.state.specs.Board.{timerAt, withTimer}
 use Rattle.state.specs.View.{view}
 use Rattle.state.proofs.InRange.{bounded}
 use Rattle.fields.proofs.Words.{same-timer, changed-twice, held}
-use Rattle.regfile.specs.Behind.{behindOf}
 
 pub loaded-fit : (w : List ℕ) (x : List Float) (i : ℕ) (t : Timer) → t ≡ timerAt (view w x) i → Fit t
 loaded-fit w x i t h = rw h (bounded w x .timer-fit i)

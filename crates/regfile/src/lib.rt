@@ -1,58 +1,17 @@
-// Writes of a timer's registers in the lent words: the fields that a write changes are stored, and no others.
-use state::REALS;
+// The short ways of compares and CR1 in the lent words: the fields that a write changes are stored, and no others.
 use state::WORDS;
-use tim::Timer;
 ghost use mathlib.Core.Path.{_≡_};
-ghost use mathlib.Core.Bool.{true, false, not};
+ghost use mathlib.Core.Bool.{true, false};
 ghost use mathlib.Core.List.{List};
-ghost use Prim.Native.Nat.{_<_, _≤_};
+ghost use Prim.Native.Nat.{ℕ, _<_};
 ghost use lib.Ieee.{Float};
 ghost use lib.ListN.{set};
-ghost use Rattle.tim.specs.Timer.{withRegs};
 ghost use Rattle.tim.specs.Count.{synced};
-ghost use Rattle.tim.specs.Change.{withDone};
+ghost use Rattle.tim.specs.Change.{withDone, behindOf};
 ghost use Rattle.regs.specs.Regs as R;
 ghost use Rattle.state.specs.View.{view};
 ghost use Rattle.state.specs.Board.{timerAt, withTimer};
-ghost use Rattle.machine.specs.Deliver.{dividerOf};
-ghost use Rattle.regfile.specs.Plain.{plain, lines, plainRegs};
-ghost use Rattle.regfile.specs.Behind.{behindOf};
 ghost use Rattle.regfile.specs.Steady.{steady};
-
-// ---- registers that a write stores and no more
-
-// DIER or SR: the interrupt line follows them. SR is asked for first: DIER then goes straight through.
-pub fn write_flags(words: &mut [u64; WORDS], i: usize, off: u32, v: u32)
-    requires { ⌜ (i < 8) × (lines off ≡ true) ⌝ }
-    ensures { λ _. ⌜ ((x : List Float) → view (now (words .exit)) x ≡ withTimer (view (now (words .entry)) x) i (withRegs (timerAt (view (now (words .entry)) x) i) (plainRegs ((timerAt (view (now (words .entry)) x) i) .regs) off v))) ⌝ }
-{
-    if off == 0x10 {
-        let t = state::load_timer(words, i);
-        fields::set_reg(words, i, 4, t.regs.sr & (v | Timer::SR_STAYS));
-        return;
-    }
-    fields::set_reg(words, i, 3, v & regs::kept(3));
-}
-
-// One of CR2, SMCR, DIER, SR, PSC.
-pub fn write_plain(words: &mut [u64; WORDS], i: usize, off: u32, v: u32)
-    requires { ⌜ (i < 8) × (plain off ≡ true) ⌝ }
-    ensures { λ _. ⌜ ((x : List Float) → view (now (words .exit)) x ≡ withTimer (view (now (words .entry)) x) i (withRegs (timerAt (view (now (words .entry)) x) i) (plainRegs ((timerAt (view (now (words .entry)) x) i) .regs) off v))) ⌝ }
-{
-    if off == 0x04 {
-        fields::set_reg(words, i, 1, v);
-        return;
-    }
-    if off == 0x08 {
-        fields::set_reg(words, i, 2, v);
-        return;
-    }
-    if off == 0x28 {
-        fields::set_psc(words, i, v & regs::kept(10));
-        return;
-    }
-    write_flags(words, i, off, v);
-}
 
 // ---- compares
 
@@ -68,23 +27,13 @@ pub fn sync(words: &mut [u64; WORDS], i: usize, cycle: u64)
     }
 }
 
-// A compare ccr lies behind timer t's counter.
-fn is_behind(t: Timer, ccr: u32) -> bool
-    ensures { λ r. ⌜ r ≡ behindOf t ccr ⌝ }
-{
-    if t.down() {
-        return t.count.cnt0 < ccr;
-    }
-    ccr <= t.count.cnt0
-}
-
 // Channel ch is done if its compare ccr lies behind the counter.
 fn settle_done(words: &mut [u64; WORDS], i: usize, ch: usize, ccr: u32)
     requires { ⌜ (i < 8) × (ch < 4) ⌝ }
     ensures { λ _. ⌜ ((x : List Float) → view (now (words .exit)) x ≡ withTimer (view (now (words .entry)) x) i (withDone (timerAt (view (now (words .entry)) x) i) (set ((timerAt (view (now (words .entry)) x) i) .chan .«cc_done») ch (behindOf (timerAt (view (now (words .entry)) x) i) ccr)))) ⌝ }
 {
     let t = state::load_timer(words, i);
-    let done = is_behind(t, ccr);
+    let done = t.is_past(ccr);
     fields::set_done(words, i, ch, done);
 }
 
@@ -128,17 +77,11 @@ fn write_steady(words: &mut [u64; WORDS], i: usize, new: u32, cycle: u64)
     fields::set_reg(words, i, 0, new);
 }
 
-// A write of CR1, served unless the timer would run upward with its counter above the active reload + 1: then nothing changes.
-pub fn write_cr1(
-    words: &mut [u64; WORDS],
-    reals: &[f64; REALS],
-    i: usize,
-    v: u32,
-    cycle: u64,
-) -> bool
-    requires { ⌜ (i < 8) × (cycle ≤ 4611686018427387904) ⌝ }
-    ensures { λ r. ⌜ r ≡ not (R.astray (R.cr1Written (timerAt (view (now (words .entry)) (now (reals .entry))) i) v cycle (dividerOf (view (now (words .entry)) (now (reals .entry))) (timerAt (view (now (words .entry)) (now (reals .entry))) i)))) ⌝ }
-    ensures { λ r. ⌜ (r ≡ true → view (now (words .exit)) (now (reals .entry)) ≡ withTimer (view (now (words .entry)) (now (reals .entry))) i (R.cr1Written (timerAt (view (now (words .entry)) (now (reals .entry))) i) v cycle (dividerOf (view (now (words .entry)) (now (reals .entry))) (timerAt (view (now (words .entry)) (now (reals .entry))) i)))) ⌝ }
+// A write of CR1 that leaves CEN and DIR. Any other is not done: false.
+pub fn write_cr1(words: &mut [u64; WORDS], i: usize, v: u32, cycle: u64) -> bool
+    requires { ⌜ (i < 8) × (cycle < 9223372036854775808) ⌝ }
+    ensures { λ r. ⌜ (r ≡ true → (x : List Float) (div : ℕ) → R.astray (R.cr1Written (timerAt (view (now (words .entry)) x) i) v cycle div) ≡ false) ⌝ }
+    ensures { λ r. ⌜ (r ≡ true → (x : List Float) (div : ℕ) → view (now (words .exit)) x ≡ withTimer (view (now (words .entry)) x) i (R.cr1Written (timerAt (view (now (words .entry)) x) i) v cycle div)) ⌝ }
     ensures { λ r. ⌜ (r ≡ false → now (words .exit) ≡ now (words .entry)) ⌝ }
 {
     let t = state::load_timer(words, i);
@@ -147,11 +90,5 @@ pub fn write_cr1(
         write_steady(words, i, new, cycle);
         return true;
     }
-    let div = rcc::divider(words, reals, t);
-    let s = regs::write_cr1(t, v, cycle, div);
-    if regs::is_astray(s) {
-        return false;
-    }
-    fields::store_run(words, i, s);
-    true
+    false
 }

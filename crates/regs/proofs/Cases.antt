@@ -43,8 +43,8 @@ module _ (t : Timer) (v now div : ℕ) {kept : ℕ} {s u : Timer} (k : kept ≡ 
 pub ccr-low : (off : ℕ) → off < 0x34 → isCcr off ≡ false
 ccr-low off h = rw (lt-leb 0x34 off h)
 
-pub ccr-high : (off : ℕ) → 0x34 ≤ off → 0x43 < off → isCcr off ≡ false
-ccr-high off l h = rw (le-leb 0x34 off l, lt-leb off 0x43 h)
+pub ccr-high : (off : ℕ) → 0x34 ≤ off → 0x40 < off → isCcr off ≡ false
+ccr-high off l h = rw (le-leb 0x34 off l, lt-leb off 0x40 h)
 
-pub ccr-in : (off : ℕ) → 0x34 ≤ off → off ≤ 0x43 → isCcr off ≡ true
-ccr-in off l h = rw (le-leb 0x34 off l, le-leb off 0x43 h)
+pub ccr-in : (off : ℕ) → 0x34 ≤ off → off ≤ 0x40 → isCcr off ≡ true
+ccr-in off l h = rw (le-leb 0x34 off l, le-leb off 0x40 h)

@@ -1,6 +1,6 @@
 -- Each register write keeps the timer's bounds. Assumes nothing.
 use mathlib.Core.Bool.{Bool, true, false, cond}
-use Prim.Native.Nat.{ℕ, _+_, _≤_, _<_}
+use Prim.Native.Nat.{ℕ, _+_, _/_, _≤_, _<_}
 use lib.Bits.{bitAnd, and-le-r}
 use lib.Dec.{lit<, eqb}
 use native.Mathlib.Nat.{lt-of-le-of-lt}
@@ -64,15 +64,6 @@ module _ (t : Timer) (f : Fit t) (v now : ℕ) (h : now < 9223372036854775808) w
   unfolding R.ccerWritten
   fit-ccer = f
 
-  fit-channel : (off : ℕ) → FitW (R.channelWritten t off v now)
-  unfolding R.channelWritten
-  fit-channel off =
-      either FitW (eqb (t .inst .channels) 0) (record { timer-fit = f })
-      (either FitW (eqb off 0x18) (record { timer-fit = fit-ccmr 0 })
-      (either FitW (eqb off 0x1c) (record { timer-fit = fit-ccmr 1 })
-      (either FitW (eqb off 0x20) (record { timer-fit = fit-ccer })
-      (either FitW (R.isCcr off) (record { timer-fit = fit-ccr (R.ccrChannel off) }) (record { timer-fit = f })))))
-
   fit-psc : Fit (R.withPsc t (bitAnd v (keptMask 10)))
   unfolding mask bits
   fit-psc = record {
@@ -82,6 +73,15 @@ module _ (t : Timer) (f : Fit t) (v now : ℕ) (h : now < 9223372036854775808) w
     tick-le = f .tick-le;
     base-lt = f .base-lt;
   }
+
+fit-channel : (t : Timer) → Fit t → (v now : ℕ) → now < 9223372036854775808 → (off : ℕ) → FitW (R.channelWritten t off v now)
+unfolding R.channelWritten
+fit-channel t f v now h off =
+    either FitW (eqb (t .inst .channels) 0) (record { timer-fit = f })
+    (either FitW (eqb off 0x18) (record { timer-fit = fit-ccmr t f (R.kept 6 v) now h 0 })
+    (either FitW (eqb off 0x1c) (record { timer-fit = fit-ccmr t f (R.kept 7 v) now h 1 })
+    (either FitW (eqb off 0x20) (record { timer-fit = fit-ccer t f (R.kept 8 v) now h })
+    (either FitW (R.isCcr off) (record { timer-fit = fit-ccr t f (R.kept (off / 4) v) now h (R.ccrChannel off) }) (record { timer-fit = f })))))
 
 pub fit-cr1 : (t : Timer) → Fit t → (v now div : ℕ) → now < 9223372036854775808 → 0 < div → div ≤ 8192 → Fit (R.cr1Written t v now div)
 unfolding R.cr1Written
@@ -104,9 +104,9 @@ written t off v now div r =
     (either FitW (eqb off 0x0c) (record { timer-fit = f })
     (either FitW (eqb off 0x10) (record { timer-fit = f })
     (either FitW (eqb off 0x14) (record { timer-fit = fit-egr t f v now div h (r .div-pos) (r .div-le) })
-    (either FitW (eqb off 0x24) (record { timer-fit = fit-cnt t f v now h })
+    (either FitW (eqb off 0x24) (record { timer-fit = fit-cnt t f (R.kept 9 v) now h })
     (either FitW (eqb off 0x28) (record { timer-fit = fit-psc t f v now h })
-    (either FitW (eqb off 0x2c) (record { timer-fit = fit-arr t f v now h }) (fit-channel t f v now h off)))))))))
+    (either FitW (eqb off 0x2c) (record { timer-fit = fit-arr t f (R.kept 11 v) now h }) (fit-channel t f v now h off)))))))))
 
 pub fit-written : (t : Timer) (off v now div : ℕ) → Ready t now div → Fit (R.regWritten t off v now div .timer)
 fit-written t off v now div r = written t off v now div r .timer-fit

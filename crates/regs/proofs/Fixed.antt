@@ -1,6 +1,6 @@
 -- No register write touches what set-up fixed: number, width, channels, bus, interrupt, enable bit. Assumes nothing.
 use mathlib.Core.Path.{_≡_, refl, _∙_}
-use Prim.Native.Nat.{ℕ, _+_}
+use Prim.Native.Nat.{ℕ, _+_, _/_}
 use lib.Dec.{eqb}
 use Rattle.rm0440.specs.Bits.{field, isSet, CEN, ARPE}
 use Rattle.rm0440.specs.Output as Out
@@ -74,14 +74,14 @@ module _ (t : Timer) (v now : ℕ) where
   unfolding R.ccerWritten
   inst-ccer = refl
 
-  channel : (off : ℕ) → Left (t .inst) (R.channelWritten t off v now)
-  unfolding R.channelWritten
-  channel off =
-      either (Left (t .inst)) (eqb (t .inst .channels) 0) (record { same = refl })
-      (either (Left (t .inst)) (eqb off 0x18) (record { same = inst-ccmr 0 })
-      (either (Left (t .inst)) (eqb off 0x1c) (record { same = inst-ccmr 1 })
-      (either (Left (t .inst)) (eqb off 0x20) (record { same = inst-ccer })
-      (either (Left (t .inst)) (R.isCcr off) (record { same = inst-ccr (R.ccrChannel off) }) (record { same = refl })))))
+channel : (t : Timer) (v now off : ℕ) → Left (t .inst) (R.channelWritten t off v now)
+unfolding R.channelWritten
+channel t v now off =
+    either (Left (t .inst)) (eqb (t .inst .channels) 0) (record { same = refl })
+    (either (Left (t .inst)) (eqb off 0x18) (record { same = inst-ccmr t (R.kept 6 v) now 0 })
+    (either (Left (t .inst)) (eqb off 0x1c) (record { same = inst-ccmr t (R.kept 7 v) now 1 })
+    (either (Left (t .inst)) (eqb off 0x20) (record { same = inst-ccer t (R.kept 8 v) now })
+    (either (Left (t .inst)) (R.isCcr off) (record { same = inst-ccr t (R.kept (off / 4) v) now (R.ccrChannel off) }) (record { same = refl })))))
 
 written : (t : Timer) (off v now div : ℕ) → Left (t .inst) (R.regWritten t off v now div)
 unfolding R.regWritten
@@ -92,9 +92,9 @@ written t off v now div =
     (either (Left (t .inst)) (eqb off 0x0c) (record { same = refl })
     (either (Left (t .inst)) (eqb off 0x10) (record { same = refl })
     (either (Left (t .inst)) (eqb off 0x14) (record { same = inst-egr t v now div })
-    (either (Left (t .inst)) (eqb off 0x24) (record { same = inst-cnt t v now })
+    (either (Left (t .inst)) (eqb off 0x24) (record { same = inst-cnt t (R.kept 9 v) now })
     (either (Left (t .inst)) (eqb off 0x28) (record { same = refl })
-    (either (Left (t .inst)) (eqb off 0x2c) (record { same = inst-arr t v now }) (channel t v now off)))))))))
+    (either (Left (t .inst)) (eqb off 0x2c) (record { same = inst-arr t (R.kept 11 v) now }) (channel t v now off)))))))))
 
 pub inst-written : (t : Timer) (off v now div : ℕ) → R.regWritten t off v now div .timer .inst ≡ t .inst
 inst-written t off v now div = written t off v now div .same

@@ -23,7 +23,7 @@ use Rattle.tim.specs.Timer.{withRegs, down, ccmrByte, ccrAct}
 use Rattle.tim.specs.Count.{upFrom, downFrom, ticksAt, cntAt, synced}
 use Rattle.tim.specs.Next.{compares, consider, nextSteps, nextEvent}
 use Rattle.tim.specs.Change.{recomputed, recomputedAfterUpdate, reloaded, restarted, ended, updated, started, stopped}
-use Rattle.regs.specs.Regs.{keptCr1, keptWidth, keptSr, withCr1, withPsc, only, turned, cr1Written, cntWritten, arrWritten, ccrWritten, ccmrWritten, ccerWritten, channelWritten, regWritten, channelRead, regRead, isCcr}
+use Rattle.regs.specs.Regs.{kept, keptCr1, keptWidth, keptSr, withCr1, withPsc, only, turned, cr1Written, cntWritten, arrWritten, ccrWritten, ccmrWritten, ccerWritten, channelWritten, regWritten, channelRead, regRead, isCcr}
 
 -- "CR1 3ff, DIER 5f5f, CCER 3333, PSC ffff; CR2, SMCR, CCMR all 32", and SR's 1e5f: the table as numbers
 pub masks : map keptMask (0 ∷ 1 ∷ 2 ∷ 3 ∷ 4 ∷ 6 ∷ 7 ∷ 8 ∷ 10 ∷ [])
@@ -86,16 +86,16 @@ module _ (t : Timer) (v now div : ℕ) where
       (either (λ (x : Timer). x .regs .cr1 ≡ keptCr1 t v) (CEN (t .regs .cr1)) (ap (λ (r : Regs). r .cr1) (regs-synced s now)) turns)
 
   -- "CR2, SMCR, CCMR all 32"
-  pub read-cr2 : regRead (regWritten t 0x04 v now div .timer) 0x04 now ≡ v
+  pub read-cr2 : regRead (regWritten t 0x04 v now div .timer) 0x04 now ≡ kept 1 v
   unfolding regRead regWritten
   read-cr2 = refl
 
-  pub read-smcr : regRead (regWritten t 0x08 v now div .timer) 0x08 now ≡ v
+  pub read-smcr : regRead (regWritten t 0x08 v now div .timer) 0x08 now ≡ kept 2 v
   unfolding regRead regWritten
   read-smcr = refl
 
   -- "DIER 5f5f"
-  pub read-dier : regRead (regWritten t 0x0c v now div .timer) 0x0c now ≡ bitAnd v (keptMask 3)
+  pub read-dier : regRead (regWritten t 0x0c v now div .timer) 0x0c now ≡ kept 3 v
   unfolding regRead regWritten
   read-dier = refl
 
@@ -105,29 +105,29 @@ module _ (t : Timer) (v now div : ℕ) where
   read-sr = refl
 
   -- "PSC ffff"
-  pub read-psc : regRead (regWritten t 0x28 v now div .timer) 0x28 now ≡ bitAnd v (keptMask 10)
+  pub read-psc : regRead (regWritten t 0x28 v now div .timer) 0x28 now ≡ kept 10 v
   unfolding regRead regWritten
   read-psc = refl
 
   -- "CNT, ARR, CCR the timer's width"
-  pub read-arr : regRead (regWritten t 0x2c v now div .timer) 0x2c now ≡ keptWidth t v
+  pub read-arr : regRead (regWritten t 0x2c v now div .timer) 0x2c now ≡ keptWidth t (kept 11 v)
   unfolding regRead regWritten arrWritten recomputed
-  read-arr = either (λ (w : Written). w .timer .regs .arr ≡ keptWidth t v) (ARPE (t .regs .cr1)) refl refl
+  read-arr = either (λ (w : Written). w .timer .regs .arr ≡ keptWidth t (kept 11 v)) (ARPE (t .regs .cr1)) refl refl
 
   module _ (c : 0 < t .inst .channels) where
-    write-ccmr1 : regWritten t 0x18 v now div ≡ ccmrWritten t 0 v now
+    write-ccmr1 : regWritten t 0x18 v now div ≡ ccmrWritten t 0 (kept 6 v) now
     unfolding regWritten channelWritten
     write-ccmr1 = rw (some t c)
 
-    write-ccmr2 : regWritten t 0x1c v now div ≡ ccmrWritten t 1 v now
+    write-ccmr2 : regWritten t 0x1c v now div ≡ ccmrWritten t 1 (kept 7 v) now
     unfolding regWritten channelWritten
     write-ccmr2 = rw (some t c)
 
-    write-ccer : regWritten t 0x20 v now div ≡ ccerWritten t v now
+    write-ccer : regWritten t 0x20 v now div ≡ ccerWritten t (kept 8 v) now
     unfolding regWritten channelWritten
     write-ccer = rw (some t c)
 
-    write-ccr : (ch : ℕ) → ch < 4 → regWritten t (ccrOffset ch) v now div ≡ ccrWritten t ch v now
+    write-ccr : (ch : ℕ) → ch < 4 → regWritten t (ccrOffset ch) v now div ≡ ccrWritten t ch (kept (13 + ch) v) now
     unfolding regWritten channelWritten
     write-ccr zero h = rw (some t c)
     write-ccr (suc zero) h = rw (some t c)
@@ -136,42 +136,42 @@ module _ (t : Timer) (v now div : ℕ) where
     write-ccr (suc (suc (suc (suc ch)))) h = absurd (omega arith)
 
     -- "CR2, SMCR, CCMR all 32"
-    pub read-ccmr1 : Shaped t → regRead (regWritten t 0x18 v now div .timer) 0x18 now ≡ v
+    pub read-ccmr1 : Shaped t → regRead (regWritten t 0x18 v now div .timer) 0x18 now ≡ kept 6 v
     unfolding regRead channelRead ccmrWritten
     read-ccmr1 s =
         rw (write-ccmr1, inst-synced t now, some t c, chan-synced t now)
-        (getD-set-same (t .chan .ccmr) 0 v 0 (omega (arith, s .ccmr-length)))
+        (getD-set-same (t .chan .ccmr) 0 (kept 6 v) 0 (omega (arith, s .ccmr-length)))
 
-    pub read-ccmr2 : Shaped t → regRead (regWritten t 0x1c v now div .timer) 0x1c now ≡ v
+    pub read-ccmr2 : Shaped t → regRead (regWritten t 0x1c v now div .timer) 0x1c now ≡ kept 7 v
     unfolding regRead channelRead ccmrWritten
     read-ccmr2 s =
         rw (write-ccmr2, inst-synced t now, some t c, chan-synced t now)
-        (getD-set-same (t .chan .ccmr) 1 v 0 (omega (arith, s .ccmr-length)))
+        (getD-set-same (t .chan .ccmr) 1 (kept 7 v) 0 (omega (arith, s .ccmr-length)))
 
     -- "CCER 3333"
-    pub read-ccer : regRead (regWritten t 0x20 v now div .timer) 0x20 now ≡ bitAnd v (keptMask 8)
+    pub read-ccer : regRead (regWritten t 0x20 v now div .timer) 0x20 now ≡ kept 8 v
     unfolding regRead channelRead ccerWritten
     read-ccer = rw (write-ccer, some t c)
 
-    channels-ccr : (ch : ℕ) → eqb (ccrWritten t ch v now .timer .inst .channels) 0 ≡ false
+    channels-ccr : (ch k : ℕ) → eqb (ccrWritten t ch k now .timer .inst .channels) 0 ≡ false
     unfolding ccrWritten
-    channels-ccr ch =
+    channels-ccr ch k =
         either (λ (w : Written). eqb (w .timer .inst .channels) 0 ≡ false) (Out.OCxPE (ccmrByte t ch))
         (rw (inst-synced t now) (some t c)) (rw (inst-synced t now) (some t c))
 
-    ccr-kept : (ch : ℕ) → ch < 4 → Shaped t → getD (ccrWritten t ch v now .timer .chan .ccr) ch 0 ≡ keptWidth t v
+    ccr-kept : (ch k : ℕ) → ch < 4 → Shaped t → getD (ccrWritten t ch k now .timer .chan .ccr) ch 0 ≡ keptWidth t k
     unfolding ccrWritten
-    ccr-kept ch h s =
-        let g : getD (set (synced t now .chan .ccr) ch (keptWidth t v)) ch 0 ≡ keptWidth t v = rw (chan-synced t now) (getD-set-same (t .chan .ccr) ch (keptWidth t v) 0 (omega (arith, s .ccr-length))) in
-        either (λ (w : Written). getD (w .timer .chan .ccr) ch 0 ≡ keptWidth t v) (Out.OCxPE (ccmrByte t ch)) g g
+    ccr-kept ch k h s =
+        let g : getD (set (synced t now .chan .ccr) ch (keptWidth t k)) ch 0 ≡ keptWidth t k = rw (chan-synced t now) (getD-set-same (t .chan .ccr) ch (keptWidth t k) 0 (omega (arith, s .ccr-length))) in
+        either (λ (w : Written). getD (w .timer .chan .ccr) ch 0 ≡ keptWidth t k) (Out.OCxPE (ccmrByte t ch)) g g
 
     -- "CNT, ARR, CCR the timer's width"
-    pub read-ccr : (ch : ℕ) → ch < 4 → Shaped t → regRead (regWritten t (ccrOffset ch) v now div .timer) (ccrOffset ch) now ≡ keptWidth t v
+    pub read-ccr : (ch : ℕ) → ch < 4 → Shaped t → regRead (regWritten t (ccrOffset ch) v now div .timer) (ccrOffset ch) now ≡ keptWidth t (kept (13 + ch) v)
     unfolding regRead channelRead
-    read-ccr zero h s = rw (write-ccr 0 h, channels-ccr 0) (ccr-kept 0 h s)
-    read-ccr (suc zero) h s = rw (write-ccr 1 h, channels-ccr 1) (ccr-kept 1 h s)
-    read-ccr (suc (suc zero)) h s = rw (write-ccr 2 h, channels-ccr 2) (ccr-kept 2 h s)
-    read-ccr (suc (suc (suc zero))) h s = rw (write-ccr 3 h, channels-ccr 3) (ccr-kept 3 h s)
+    read-ccr zero h s = rw (write-ccr 0 h, channels-ccr 0 (kept 13 v)) (ccr-kept 0 (kept 13 v) h s)
+    read-ccr (suc zero) h s = rw (write-ccr 1 h, channels-ccr 1 (kept 14 v)) (ccr-kept 1 (kept 14 v) h s)
+    read-ccr (suc (suc zero)) h s = rw (write-ccr 2 h, channels-ccr 2 (kept 15 v)) (ccr-kept 2 (kept 15 v) h s)
+    read-ccr (suc (suc (suc zero))) h s = rw (write-ccr 3 h, channels-ccr 3 (kept 16 v)) (ccr-kept 3 (kept 16 v) h s)
     read-ccr (suc (suc (suc (suc ch)))) h s = absurd (omega arith)
 
 -- no steps: the count stays, from a counter not above the reload
@@ -214,26 +214,26 @@ module _ (u : Timer) (now : ℕ) (b : u .count .base ≡ now) where
 
 module _ (t : Timer) (v now div : ℕ) where
   -- "CNT, ARR, CCR the timer's width": what was written is read back from a timer that is stopped, or at or below the active reload
-  pub read-cnt : (t .count .running ≡ false) ⊎ (keptWidth t v ≤ t .count .«arr_act»)
-      → regRead (regWritten t 0x24 v now div .timer) 0x24 now ≡ keptWidth t v
+  pub read-cnt : (t .count .running ≡ false) ⊎ (keptWidth t (kept 9 v) ≤ t .count .«arr_act»)
+      → regRead (regWritten t 0x24 v now div .timer) 0x24 now ≡ keptWidth t (kept 9 v)
   unfolding regRead regWritten cntWritten recomputed
-  read-cnt (inl r) = at-base (cntWritten t v now) now refl (inl (running-synced t now ∙ r))
-  read-cnt (inr h) = at-base (cntWritten t v now) now refl (inr (rw (reload-synced t now) h))
+  read-cnt (inl r) = at-base (cntWritten t (kept 9 v) now) now refl (inl (running-synced t now ∙ r))
+  read-cnt (inr h) = at-base (cntWritten t (kept 9 v) now) now refl (inr (rw (reload-synced t now) h))
 
   -- "its clamp: counting down from a counter above reload reads as from reload"
-  pub read-cnt-clamped : t .count .running ≡ true → down t ≡ true → t .count .«arr_act» ≤ keptWidth t v
+  pub read-cnt-clamped : t .count .running ≡ true → down t ≡ true → t .count .«arr_act» ≤ keptWidth t (kept 9 v)
       → regRead (regWritten t 0x24 v now div .timer) 0x24 now ≡ t .count .«arr_act»
   unfolding regRead regWritten cntWritten recomputed
   read-cnt-clamped r d h =
-      at-base-down (cntWritten t v now) now refl (running-synced t now ∙ r) (rw (inst-synced t now, regs-synced t now) d) (rw (reload-synced t now) h)
+      at-base-down (cntWritten t (kept 9 v) now) now refl (running-synced t now ∙ r) (rw (inst-synced t now, regs-synced t now) d) (rw (reload-synced t now) h)
       ∙ reload-synced t now
 
   -- upward, the one value above the reload that is served reads 0: the update is due at once
-  pub read-cnt-above : t .count .running ≡ true → down t ≡ false → keptWidth t v ≡ t .count .«arr_act» + 1
+  pub read-cnt-above : t .count .running ≡ true → down t ≡ false → keptWidth t (kept 9 v) ≡ t .count .«arr_act» + 1
       → regRead (regWritten t 0x24 v now div .timer) 0x24 now ≡ 0
   unfolding regRead regWritten cntWritten recomputed
   read-cnt-above r d h =
-      at-base-above (cntWritten t v now) now refl (running-synced t now ∙ r) (rw (inst-synced t now, regs-synced t now) d) (rw (reload-synced t now) h)
+      at-base-above (cntWritten t (kept 9 v) now) now refl (running-synced t now ∙ r) (rw (inst-synced t now, regs-synced t now) d) (rw (reload-synced t now) h)
 
 -- ---- what is no register of this timer
 
@@ -455,11 +455,11 @@ module _ (t : Timer) (v now div : ℕ) where
   unfolding regWritten
   psc-waits = refl
 
-  pub psc-taken : (at d : ℕ) → UDIS (t .regs .cr1) ≡ false → updated (regWritten t 0x28 v now div .timer) at d .count .«psc_act» ≡ bitAnd v (keptMask 10)
+  pub psc-taken : (at d : ℕ) → UDIS (t .regs .cr1) ≡ false → updated (regWritten t 0x28 v now div .timer) at d .count .«psc_act» ≡ kept 10 v
   unfolding regWritten
-  psc-taken at d u = update-loads (withPsc t (bitAnd v (keptMask 10))) at d u .psc
+  psc-taken at d u = update-loads (withPsc t (kept 10 v)) at d u .psc
 
-  pub arr-at-once : ARPE (t .regs .cr1) ≡ false → regWritten t 0x2c v now div .timer .count .«arr_act» ≡ keptWidth t v
+  pub arr-at-once : ARPE (t .regs .cr1) ≡ false → regWritten t 0x2c v now div .timer .count .«arr_act» ≡ keptWidth t (kept 11 v)
   unfolding regWritten arrWritten recomputed
   arr-at-once h = rw h
 
@@ -473,35 +473,35 @@ module _ (t : Timer) (v now div : ℕ) where
       let e = ap (λ (r : Regs). r .cr1) (regs-synced t now) in
       either (λ (w : Written). w .timer .regs .cr1 ≡ t .regs .cr1) (ARPE (t .regs .cr1)) e e
 
-  arr-kept : regWritten t 0x2c v now div .timer .regs .arr ≡ keptWidth t v
+  arr-kept : regWritten t 0x2c v now div .timer .regs .arr ≡ keptWidth t (kept 11 v)
   unfolding regWritten arrWritten recomputed
-  arr-kept = either (λ (w : Written). w .timer .regs .arr ≡ keptWidth t v) (ARPE (t .regs .cr1)) refl refl
+  arr-kept = either (λ (w : Written). w .timer .regs .arr ≡ keptWidth t (kept 11 v)) (ARPE (t .regs .cr1)) refl refl
 
-  pub arr-taken : (at d : ℕ) → UDIS (t .regs .cr1) ≡ false → updated (regWritten t 0x2c v now div .timer) at d .count .«arr_act» ≡ keptWidth t v
+  pub arr-taken : (at d : ℕ) → UDIS (t .regs .cr1) ≡ false → updated (regWritten t 0x2c v now div .timer) at d .count .«arr_act» ≡ keptWidth t (kept 11 v)
   arr-taken at d u = update-loads (regWritten t 0x2c v now div .timer) at d (ap UDIS arr-cr1 ∙ u) .arr ∙ arr-kept
 
   module _ (ch : ℕ) (c : 0 < t .inst .channels) (h : ch < 4) where
-    pub ccr-at-once : Shaped t → Out.OCxPE (ccmrByte t ch) ≡ false → ccrAct (regWritten t (ccrOffset ch) v now div .timer) ch ≡ keptWidth t v
+    pub ccr-at-once : Shaped t → Out.OCxPE (ccmrByte t ch) ≡ false → ccrAct (regWritten t (ccrOffset ch) v now div .timer) ch ≡ keptWidth t (kept (13 + ch) v)
     unfolding ccrWritten
     ccr-at-once s o =
         rw (write-ccr t v now div c ch h, o, chan-synced t now)
-        (getD-set-same (t .chan .«ccr_act») ch (keptWidth t v) 0 (omega (arith, s .act-length)))
+        (getD-set-same (t .chan .«ccr_act») ch (keptWidth t (kept (13 + ch) v)) 0 (omega (arith, s .act-length)))
 
     pub ccr-waits : Out.OCxPE (ccmrByte t ch) ≡ true → ccrAct (regWritten t (ccrOffset ch) v now div .timer) ch ≡ ccrAct t ch
     unfolding ccrWritten
     ccr-waits o = rw (write-ccr t v now div c ch h, o, chan-synced t now)
 
-    ccr-cr1 : ccrWritten t ch v now .timer .regs .cr1 ≡ t .regs .cr1
+    ccr-cr1 : ccrWritten t ch (kept (13 + ch) v) now .timer .regs .cr1 ≡ t .regs .cr1
     unfolding ccrWritten
     ccr-cr1 =
         let e = ap (λ (r : Regs). r .cr1) (regs-synced t now) in
         either (λ (w : Written). w .timer .regs .cr1 ≡ t .regs .cr1) (Out.OCxPE (ccmrByte t ch)) e e
 
     pub ccr-taken : (at d : ℕ) → Shaped t → UDIS (t .regs .cr1) ≡ false
-        → ccrAct (updated (regWritten t (ccrOffset ch) v now div .timer) at d) ch ≡ keptWidth t v
+        → ccrAct (updated (regWritten t (ccrOffset ch) v now div .timer) at d) ch ≡ keptWidth t (kept (13 + ch) v)
     ccr-taken at d s u =
-        rw (write-ccr t v now div c ch h, update-loads (ccrWritten t ch v now .timer) at d (ap UDIS ccr-cr1 ∙ u) .ccr)
-        (ccr-kept t v now div c ch h s)
+        rw (write-ccr t v now div c ch h, update-loads (ccrWritten t ch (kept (13 + ch) v) now .timer) at d (ap UDIS ccr-cr1 ∙ u) .ccr)
+        (ccr-kept t v now div c ch (kept (13 + ch) v) h s)
 
 -- ---- writes that do not drive
 

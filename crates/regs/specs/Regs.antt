@@ -16,11 +16,15 @@ use Rattle.tim.specs.Count.{cntAt, synced, atCount}
 use Rattle.tim.specs.Change.{behind, withDone, recomputed, started, stopped, matched}
 use Rattle.tim.specs.Change as C
 
+-- "Bits kept on a write are a fixed table", by register index, offset / 4
+abbrev pub kept : ℕ → ℕ → ℕ
+kept reg v = bitAnd v (keptMask reg)
+
 -- "CR1 3ff (8f without channels)"
 abbrev pub keptCr1 : Timer → ℕ → ℕ
 keptCr1 t v = bitAnd v (cond (eqb (t .inst .channels) 0) 0x8f (keptMask 0))
 
--- "CNT, ARR, CCR the timer's width"
+-- "CNT, ARR, CCR the timer's width", of what the table keeps
 abbrev pub keptWidth : Timer → ℕ → ℕ
 keptWidth t v = bitAnd v (max t)
 
@@ -136,36 +140,36 @@ unfoldable pub ccmrWritten : Timer → ℕ → ℕ → ℕ → Written
 ccmrWritten t i v now = let s = withCcmr (synced t now) i v in driven s (cntAt s now) true
 
 unfoldable pub ccerWritten : Timer → ℕ → ℕ → Written
-ccerWritten t v now = let s = withCcer t (bitAnd v (keptMask 8)) in driven s (cntAt s now) false
+ccerWritten t v now = let s = withCcer t v in driven s (cntAt s now) false
 
 -- channel of CCR1 to CCR4's offset
 abbrev pub ccrChannel : ℕ → ℕ
 ccrChannel off = (off - 0x34) / 4
 
 abbrev pub isCcr : ℕ → Bool
-isCcr off = leb 0x34 off && leb off 0x43
+isCcr off = leb 0x34 off && leb off 0x40
 
 -- "CCMR, CCER and CCR need a channel count above 0"; other offsets store nothing
 unfoldable pub channelWritten : Timer → ℕ → ℕ → ℕ → Written
 channelWritten t off v now =
     cond (eqb (t .inst .channels) 0) (only t)
-    (cond (eqb off 0x18) (ccmrWritten t 0 v now)
-    (cond (eqb off 0x1c) (ccmrWritten t 1 v now)
-    (cond (eqb off 0x20) (ccerWritten t v now)
-    (cond (isCcr off) (ccrWritten t (ccrChannel off) v now) (only t)))))
+    (cond (eqb off 0x18) (ccmrWritten t 0 (kept 6 v) now)
+    (cond (eqb off 0x1c) (ccmrWritten t 1 (kept 7 v) now)
+    (cond (eqb off 0x20) (ccerWritten t (kept 8 v) now)
+    (cond (isCcr off) (ccrWritten t (ccrChannel off) (kept (off / 4) v) now) (only t)))))
 
 -- "The register is chosen by the offset with its low two bits cleared." A narrower write comes merged (docs/DIFFERENCES.md, byte-access).
 unfoldable pub regWritten : Timer → ℕ → ℕ → ℕ → ℕ → Written
 regWritten t off v now div =
     cond (eqb off 0x00) (booked (cr1Written t v now div))
-    (cond (eqb off 0x04) (only (withCr2 t v))
-    (cond (eqb off 0x08) (only (withSmcr t v))
-    (cond (eqb off 0x0c) (lined (withDier t (bitAnd v (keptMask 3))))
+    (cond (eqb off 0x04) (only (withCr2 t (kept 1 v)))
+    (cond (eqb off 0x08) (only (withSmcr t (kept 2 v)))
+    (cond (eqb off 0x0c) (lined (withDier t (kept 3 v)))
     (cond (eqb off 0x10) (lined (withSr t (keptSr (t .regs .sr) v)))
     (cond (eqb off 0x14) (generated (egrWritten t v now div) now)
-    (cond (eqb off 0x24) (counted (cntWritten t v now))
-    (cond (eqb off 0x28) (only (withPsc t (bitAnd v (keptMask 10))))
-    (cond (eqb off 0x2c) (arrWritten t v now) (channelWritten t off v now)))))))))
+    (cond (eqb off 0x24) (counted (cntWritten t (kept 9 v) now))
+    (cond (eqb off 0x28) (only (withPsc t (kept 10 v)))
+    (cond (eqb off 0x2c) (arrWritten t (kept 11 v) now) (channelWritten t off v now)))))))))
 
 -- a register's value at a cycle, clock enabled or not since (docs/DIFFERENCES.md, gated-counts); "Others, and EGR, read 0."
 unfoldable pub channelRead : Timer → ℕ → ℕ

@@ -143,7 +143,14 @@ fn with_ccr_act(mut timer: Timer, ch: usize, v: u32) -> Timer
     timer
 }
 
-// The bits that CR1 keeps: those of a basic timer without channels.
+// What SR keeps: a written 0 clears a flag, and the table says which bits are flags.
+pub fn kept_sr(sr: u32, v: u32) -> u32
+    ensures { λ r. ⌜ r ≡ R.keptSr sr v ⌝ }
+{
+    sr & (v | !kept(4))
+}
+
+// The bits that CR1 keeps: the table's, and of a timer without channels those of a basic timer.
 pub fn kept_cr1(timer: Timer, v: u32) -> u32
     ensures { λ r. ⌜ r ≡ R.keptCr1 timer v ⌝ }
 {
@@ -282,7 +289,7 @@ fn write_ccer(timer: Timer, v: u32, now: u64) -> Written
     requires { ⌜ (Fit timer) × (now < 9223372036854775808) ⌝ }
     ensures { λ r. ⌜ r ≡ R.ccerWritten timer v now ⌝ }
 {
-    let t = with_ccer(timer, v & kept(8));
+    let t = with_ccer(timer, v);
     let cnt = t.cnt_at(now);
     driven(t, cnt, false)
 }
@@ -295,28 +302,34 @@ fn write_channel(timer: Timer, off: u32, v: u32, now: u64) -> Written
         return only(timer);
     }
     match off {
-        0x18 => write_ccmr(timer, 0, v, now),
-        0x1c => write_ccmr(timer, 1, v, now),
-        0x20 => write_ccer(timer, v, now),
-        0x34..=0x43 => write_ccr(timer, ((off - 0x34) / 4) as usize, v, now),
+        0x18 => write_ccmr(timer, 0, v & kept(6), now),
+        0x1c => write_ccmr(timer, 1, v & kept(7), now),
+        0x20 => write_ccer(timer, v & kept(8), now),
+        0x34..=0x40 => write_ccr(
+            timer,
+            ((off - 0x34) / 4) as usize,
+            v & kept((off / 4) as usize),
+            now,
+        ),
         _ => only(timer),
     }
 }
 
-// A write of a register other than CR1, which is write_cr1's: the next timer, and what follows.
+// A write of the register at off, whose low two bits are clear: the next timer, and what follows.
 pub fn write_reg(timer: Timer, off: u32, v: u32, now: u64, div: u32) -> Written
-    requires { ⌜ (Ready timer now div) × (off ≡ 0 → ⊥) ⌝ }
+    requires { ⌜ Ready timer now div ⌝ }
     ensures { λ r. ⌜ r ≡ R.regWritten timer off v now div ⌝ }
 {
     match off {
-        0x04 => only(with_cr2(timer, v)),
-        0x08 => only(with_smcr(timer, v)),
+        0x00 => booked(write_cr1(timer, v, now, div)),
+        0x04 => only(with_cr2(timer, v & kept(1))),
+        0x08 => only(with_smcr(timer, v & kept(2))),
         0x0c => lined(with_dier(timer, v & kept(3))),
-        0x10 => lined(with_sr(timer, timer.regs.sr & (v | Timer::SR_STAYS))),
+        0x10 => lined(with_sr(timer, kept_sr(timer.regs.sr, v))),
         0x14 => generated(write_egr(timer, v, now, div), now),
-        0x24 => counted(write_cnt(timer, v, now)),
+        0x24 => counted(write_cnt(timer, v & kept(9), now)),
         0x28 => only(with_psc(timer, v & kept(10))),
-        0x2c => write_arr(timer, v, now),
+        0x2c => write_arr(timer, v & kept(11), now),
         _ => write_channel(timer, off, v, now),
     }
 }
@@ -333,7 +346,7 @@ fn read_channel(timer: Timer, off: u32) -> u32
         0x18 => ccmr[0],
         0x1c => ccmr[1],
         0x20 => timer.regs.ccer,
-        0x34..=0x43 => ccr[((off - 0x34) / 4) as usize],
+        0x34..=0x40 => ccr[((off - 0x34) / 4) as usize],
         _ => 0,
     }
 }

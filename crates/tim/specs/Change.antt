@@ -20,8 +20,12 @@ use Rattle.tim.specs.Count.{synced}
 -- ---- which compares are done
 
 -- "a channel counts as done if its compare is at or below the counter (upward) or above it (downward)" (docs/DIFFERENCES.md, done-equality, match-again)
+abbrev pub behindOf : Timer → ℕ → Bool
+behindOf t ccr = cond (down t) (ltb (t .count .cnt0) ccr) (leb ccr (t .count .cnt0))
+
+-- of channel ch's compare in use
 unfoldable pub behind : Timer → ℕ → Bool
-behind t ch = cond (down t) (ltb (t .count .cnt0) (ccrAct t ch)) (leb (ccrAct t ch) (t .count .cnt0))
+behind t ch = behindOf t (ccrAct t ch)
 
 abbrev pub doneNow : Timer → ℕ → Bool
 doneNow t ch = cond (ltb ch (t .inst .channels)) (behind t ch) false

@@ -174,8 +174,6 @@ impl Timer {
 
     pub const CR1_BASIC: u32 = 0x8f;
 
-    pub const SR_STAYS: u32 = 0xffff_e1a0;
-
     fn fresh(inst: Inst, div: u32) -> Timer
         requires { ⌜ div ≤ 8192 ⌝ }
         ensures { λ r. ⌜ r ≡ C.resetState inst div ⌝ }
@@ -438,6 +436,16 @@ impl Timer {
         )
     }
 
+    // The compare value ccr lies behind the counter.
+    pub fn is_past(self, ccr: u32) -> bool
+        ensures { λ r. ⌜ r ≡ C.behindOf self ccr ⌝ }
+    {
+        if self.down() {
+            return self.count.cnt0 < ccr;
+        }
+        ccr <= self.count.cnt0
+    }
+
     // Channel ch's compare lies behind the counter.
     pub fn is_behind(self, ch: usize) -> bool
         requires { ⌜ ch < 4 ⌝ }
@@ -445,10 +453,7 @@ impl Timer {
     {
         let act = self.chan.ccr_act;
         let ccr = act[ch];
-        if self.down() {
-            return self.count.cnt0 < ccr;
-        }
-        ccr <= self.count.cnt0
+        self.is_past(ccr)
     }
 
     fn is_done(self, ch: usize) -> bool

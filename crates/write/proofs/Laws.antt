@@ -1,97 +1,57 @@
 -- A write over any board: the callees' equations in, step's answer out. Assumes nothing.
 use mathlib.Core.Path.{_≡_, refl, ap, sym, subst, _∙_}
-use mathlib.Core.Bool.{Bool, true, false, cond, not, _&&_, _||_, false≢true}
+use mathlib.Core.Bool.{Bool, true, false, cond, _&&_, false≢true}
 use mathlib.Core.List.{List, [], _∷_}
 use Prim.Native.Nat.{ℕ, _*_, _/_, _%_, _≤_, _<_}
 use native.Mathlib.Omega.{arith}
+use lib.Bits.{bitAnd}
 use lib.Dec.{leb, eqb}
-use borrow.Author.Tests.{eq-eqb, ne-eqb, eqb-true, leb-true, not-true, not-false}
+use borrow.Author.Tests.{eq-eqb, ne-eqb, leb-true}
 use lib.Ieee.{Float}
 use lib.ListN.{length}
 use Rattle.tim.specs.declared.Timer.{Timer}
 use Rattle.regs.specs.declared.Written.{Written}
 use Rattle.tim.specs.declared.Inst.{Inst}
-use Rattle.tim.specs.Timer.{Ready, withRegs, ccmrByte}
+use Rattle.tim.specs.Timer.{Ready, ccmrByte}
 use Rattle.tim.specs.Count.{cntAt}
 use Rattle.rm0440.specs.Output as Out
+use Rattle.rm0440.specs.Registers.{keptMask}
 use Rattle.regs.specs.Regs as R
 use Rattle.tim.proofs.Fit.{either}
 use Rattle.regs.proofs.Fixed.{inst-written}
 use Rattle.periph.specs.Lane.{laneWrite}
-use Rattle.book.specs.Book.{Entry, Book, book, puts, entriesOf, Holds, Lent, Room}
+use Rattle.book.specs.Book.{Entry, Book, book, Holds, Lent, Room}
 use Rattle.book.proofs.Laws.{holds}
-use Rattle.machine.specs.Board.{Board, timerAt, withTimer, withPads, withLast}
-use Rattle.machine.specs.Sys.{driveOutputs}
+use Rattle.machine.specs.Board.{Board, timerAt, withTimer, withLast}
 use Rattle.machine.specs.Deliver.{dividerOf, lineSettled, rebooked}
 use Rattle.machine.specs.Call.{Call, Outcome, write, served}
 use Rattle.machine.specs.Step.{step, refuseIf, astray, clockOn, register, present, written, counterAstray, followed}
-use Rattle.machine.specs.Refusals.{Refusal, refusals, inOrder, first}
+use Rattle.machine.specs.Refusals.{Refusal, refusals, first, rises}
 use Rattle.machine.specs.Refusals as Refusals
 use Rattle.state.specs.Board.{withInst}
 use Rattle.state.specs.View.{view}
 use Rattle.state.proofs.InRange.{bounded}
 use Rattle.rcc.proofs.Laws.{stored-there}
-use Rattle.outputs.specs.Outputs as O
 use Rattle.answer.specs.declared.Answer.{Answer}
 use Rattle.answer.specs.Promise.{answer, Answers}
-use Rattle.machine.proofs.NumberLaws.{given, passing}
+use Rattle.machine.proofs.NumberLaws.{Verdict, refuses, passes, given, verdict}
 use Rattle.answer.proofs.Given.{first-front, away, gives, turns-away, turns-away-book, unbooked}
-use Rattle.mmio.specs.Leaves.{Leaves}
-use Rattle.mmio.proofs.Laws.{asked}
-use Rattle.regfile.specs.Plain.{plain, lines, plainRegs, plainly}
+use Rattle.mmio.specs.Leaves.{Leaves, after}
+use Rattle.mmio.proofs.Laws.{asked, after-stored}
+use Rattle.fields.specs.Field.{withReg}
 use Rattle.fields.proofs.Words.{same-timer}
-use Rattle.write.specs.Writes.{Driven, writtenBy, writtenOn, compareWritten, answerOf}
-
--- ---- what follows
-pub drives-on : (on : Bool) (t : Timer) (cnt cycle : ℕ) (b b₁ : Board) (k k₁ : Book) → on ≡ true → O.Driven (driveOutputs t cnt (b .pads)) cycle b b₁ k k₁
-    → Driven on t cnt cycle b b₁ k k₁
-drives-on on t cnt cycle b b₁ k k₁ o m = rw o (record { board = m .board; entries = m .entries })
-
-pub drives-off : (on : Bool) (t : Timer) (cnt cycle : ℕ) (b : Board) (k : Book) → on ≡ false → Driven on t cnt cycle b b k k
-unfolding puts
-drives-off on t cnt cycle b k o = rw o (record { board = refl; entries = refl })
-
--- a timer stored, its outputs driven
-stored : (on : Bool) (t : Timer) (i cnt cycle : ℕ) (b b₁ b₂ : Board) (k k₁ : Book) → b₁ ≡ withTimer b i t → Driven on t cnt cycle b₁ b₂ k k₁
-    → (b₂ ≡ withPads (withTimer b i t) (cond on (driveOutputs t cnt (b .pads) .pads) (b .pads)))
-    × (k₁ ≡ puts k (cond on (entriesOf cycle (driveOutputs t cnt (b .pads) .changes)) []))
-stored on t i cnt cycle b b₁ b₂ k k₁ e d = (
-  d .board ∙ ap (λ (y : Board). withPads y (cond on (driveOutputs t cnt (y .pads) .pads) (y .pads))) e,
-  d .entries ∙ ap (λ (y : Board). puts k (cond on (entriesOf cycle (driveOutputs t cnt (y .pads) .changes)) [])) e,
-)
-
--- the same, driven as it is stored
-driven-there : (on : Bool) (t : Timer) (i cnt cycle : ℕ) (b b₁ b₂ : Board) (k k₁ : Book) → i < length (b .timers) → b₁ ≡ withTimer b i t
-    → Driven on (timerAt b₁ i) cnt cycle b₁ b₂ k k₁ → Driven on t cnt cycle b₁ b₂ k k₁
-driven-there on t i cnt cycle b b₁ b₂ k k₁ l e d = subst (λ (y : Timer). Driven on y cnt cycle b₁ b₂ k k₁) (stored-there b b₁ i t l e) d
-
--- outputs and lines leave the timers
-drive-there : (on : Bool) (t : Timer) (i cnt cycle : ℕ) (b b₁ : Board) (k k₁ : Book) → Driven on t cnt cycle b b₁ k k₁ → timerAt b₁ i ≡ timerAt b i
-drive-there on t i cnt cycle b b₁ k k₁ d = ap (λ (y : Board). timerAt y i) (d .board)
-
-line-there : (line : Bool) (t : Timer) (i : ℕ) (b b₁ : Board) → b₁ ≡ cond line (lineSettled t b) b → timerAt b₁ i ≡ timerAt b i
-unfolding lineSettled
-line-there line t i b b₁ e = ap (λ (y : Board). timerAt y i) e ∙ either (λ (y : Board). timerAt y i ≡ timerAt b i) line refl refl
-
-pub follows : (b b₁ b₂ b₃ b₄ b₅ : Board) (i cycle : ℕ) (w : Written) (k k₁ : Book)
-    → i < length (b .timers) → b₁ ≡ withTimer b i (w .timer) → Driven (w .drive) (timerAt b₁ i) (w .cnt) cycle b₁ b₂ k k₁
-    → b₃ ≡ cond (w .line) (lineSettled (timerAt b₂ i) b₂) b₂ → b₄ ≡ cond (w .book) (rebooked i (timerAt b₃ i) cycle b₃) b₃ → b₅ ≡ withLast b₄ cycle
-    → Leaves (followed b i cycle w) b₅ k k₁
-unfolding followed
-follows b b₁ b₂ b₃ b₄ b₅ i cycle w k k₁ l e₁ d e₃ e₄ e₅ =
-    let s = stored (w .drive) (w .timer) i (w .cnt) cycle b b₁ b₂ k k₁ e₁ (driven-there (w .drive) (w .timer) i (w .cnt) cycle b b₁ b₂ k k₁ l e₁ d) in
-    let there : timerAt b₂ i ≡ w .timer = drive-there (w .drive) (timerAt b₁ i) i (w .cnt) cycle b₁ b₂ k k₁ d ∙ stored-there b b₁ i (w .timer) l e₁ in
-    let last : timerAt b₃ i ≡ w .timer = line-there (w .line) (timerAt b₂ i) i b₂ b₃ e₃ ∙ there in
-    record {
-      board = e₅ ∙ ap (λ (y : Board). withLast y cycle) (e₄ ∙ ap (λ (y : Timer). cond (w .book) (rebooked i y cycle b₃) b₃) last
-          ∙ ap (λ (y : Board). cond (w .book) (rebooked i (w .timer) cycle y) y)
-          (e₃ ∙ ap (λ (y : Timer). cond (w .line) (lineSettled y b₂) b₂) there ∙ ap (λ (y : Board). cond (w .line) (lineSettled (w .timer) y) y) (s .0)));
-      entries = s .1;
-    }
+use Rattle.write.specs.Writes.{writtenBy, writtenOn, answerOf}
 
 -- stored but for its fixed parts, which a write leaves
-pub stored-live : (b b₁ : Board) (i : ℕ) (t : Timer) → t .inst ≡ timerAt b i .inst → b₁ ≡ withTimer b i (withInst t (timerAt b i .inst)) → b₁ ≡ withTimer b i t
+stored-live : (b b₁ : Board) (i : ℕ) (t : Timer) → t .inst ≡ timerAt b i .inst → b₁ ≡ withTimer b i (withInst t (timerAt b i .inst)) → b₁ ≡ withTimer b i t
 stored-live b b₁ i t h e = e ∙ ap (λ (k : Inst). withTimer b i (withInst t k)) (sym h)
+
+-- what follows from it, of the board before
+pub stored-follows : (b b₁ b₂ : Board) (i cycle : ℕ) (u : Written) (k k₁ : Book) → i < length (b .timers) → u .timer .inst ≡ timerAt b i .inst
+    → b₁ ≡ withTimer b i (withInst (u .timer) (timerAt b i .inst)) → Leaves (after b₁ i cycle (u .drive) (u .cnt) (u .line) (u .book)) b₂ k k₁ → Leaves (followed b i cycle u) b₂ k k₁
+unfolding followed
+stored-follows b b₁ b₂ i cycle u k k₁ l h e m =
+    subst (λ (o : Outcome). Leaves o b₂ k k₁) (after-stored b b₁ i cycle (u .cnt) (u .timer) (u .drive) (u .line) (u .book) l (stored-live b b₁ i (u .timer) h e)) m
 
 -- ---- writes
 pub loaded-ready : (w : List ℕ) (x : List Float) (i cycle div : ℕ) (t : Timer) → t ≡ timerAt (view w x) i → cycle ≤ 4611686018427387904 → 1 ≤ div → div ≤ 8192
@@ -167,77 +127,64 @@ coding k =
     let c : (4294967296 * k) / 4294967296 ≡ k = omega arith in
     rw (n, c)
 
--- ---- the five plain registers
+-- ---- short ways
 
--- what holds at each of them
-plain-cases : (P : ℕ → Type 0) → P 0x04 → P 0x08 → P 0x0c → P 0x10 → P 0x28 → (off : ℕ) → plain off ≡ true → P off
-plain-cases P a b c d e off h = go (eqb off 0x04) refl (eqb off 0x08) refl (eqb off 0x0c) refl (eqb off 0x10) refl (eqb off 0x28) refl h
-  where
-    go : (s : Bool) → eqb off 0x04 ≡ s → (t : Bool) → eqb off 0x08 ≡ t → (u : Bool) → eqb off 0x0c ≡ u → (y : Bool) → eqb off 0x10 ≡ y → (z : Bool) → eqb off 0x28 ≡ z
-        → (s || (t || (u || (y || z)))) ≡ true → P off
-    go true p t q u r y f z g h = subst P (sym (eqb-true off 0x04 p)) a
-    go false p true q u r y f z g h = subst P (sym (eqb-true off 0x08 q)) b
-    go false p false q true r y f z g h = subst P (sym (eqb-true off 0x0c r)) c
-    go false p false q false r true f z g h = subst P (sym (eqb-true off 0x10 f)) d
-    go false p false q false r false f true g h = subst P (sym (eqb-true off 0x28 g)) e
-    go false p false q false r false f false g h = absurd (false≢true h)
+-- without entries nothing of the book changes
+pub no-entries : (o : Outcome) (r : Answer) (w w₁ : List ℕ) (x x₁ : List Float) → o .entries ≡ [] → Answers o r w w₁ x x₁ → (s : Lent)
+    → Holds (o .entries) s s (r .count)
+no-entries o r w w₁ x x₁ e m s = unbooked o s (r .count) (m .count ∙ ap length e) e
 
-plain-written : (t : Timer) (v now div off : ℕ) → plain off ≡ true → R.regWritten t off v now div ≡ plainly t off v
-unfolding R.regWritten plainRegs
-plain-written t v now div = plain-cases (λ off. R.regWritten t off v now div ≡ plainly t off v) refl refl refl refl refl
+-- by its number
+module _ (w : List ℕ) (x : List Float) (i off n v cycle : ℕ) (h : off ≡ n) where
+  pub at-reg : (r : Answer) (w₁ : List ℕ) (x₁ : List Float) → Answers (writtenBy (view w x) i n v cycle) r w w₁ x x₁ → Answers (writtenBy (view w x) i off v cycle) r w w₁ x x₁
+  at-reg r w₁ x₁ m = subst (λ (k : ℕ). Answers (writtenBy (view w x) i k v cycle) r w w₁ x x₁) (sym h) m
 
-plain-steady : (t : Timer) (off : ℕ) → plain off ≡ true → counterAstray off t ≡ false
-plain-steady t = plain-cases (λ off. counterAstray off t ≡ false) refl refl refl refl refl
+  pub at-reg-book : (s s₁ : Lent) (k : ℕ) → Holds (writtenBy (view w x) i n v cycle .entries) s s₁ k
+      → Holds (writtenBy (view w x) i off v cycle .entries) s s₁ k
+  at-reg-book s s₁ k m = subst (λ (y : ℕ). Holds (writtenBy (view w x) i y v cycle .entries) s s₁ k) (sym h) m
 
-module _ (w : List ℕ) (x : List Float) (i off v cycle : ℕ) (h : plain off ≡ true) where
-  plain-by : writtenBy (view w x) i off v cycle ≡ followed (view w x) i cycle (plainly (timerAt (view w x) i) off v)
-  unfolding writtenBy
-  plain-by =
-      let t = timerAt (view w x) i in
-      rw (plain-written t v cycle (dividerOf (view w x) t) off h, plain-steady (withRegs t (plainRegs (t .regs) off v)) off h)
+-- ---- DIER and SR
 
-  pub plain-gives : (w₁ : List ℕ) → view w₁ x ≡ followed (view w x) i cycle (plainly (timerAt (view w x) i) off v) .board → (r : Answer) → r ≡ answer 0 0 0
-      → Answers (writtenBy (view w x) i off v cycle) r w w₁ x x
+module _ (w : List ℕ) (x : List Float) (i v cycle : ℕ) where
+  dier-by : writtenBy (view w x) i 0x0c v cycle ≡ followed (view w x) i cycle (R.lined (R.withDier (timerAt (view w x) i) (R.kept 3 v)))
+  unfolding writtenBy R.regWritten
+  dier-by = refl
+
+  sr-by : writtenBy (view w x) i 0x10 v cycle ≡ followed (view w x) i cycle (R.lined (R.withSr (timerAt (view w x) i) (R.keptSr (timerAt (view w x) i .regs .sr) v)))
+  unfolding writtenBy R.regWritten
+  sr-by = refl
+
+  pub dier-entries : writtenBy (view w x) i 0x0c v cycle .entries ≡ []
   unfolding followed
-  plain-gives w₁ e r a =
-      rw (plain-by, a) (gives (followed (view w x) i cycle (plainly (timerAt (view w x) i) off v)) (answer 0 0 0) w w₁ x x refl refl refl e refl)
+  dier-entries = ap (λ (o : Outcome). o .entries) dier-by
 
-  pub plain-book : (r : Answer) → r ≡ answer 0 0 0 → (s : Lent) → Holds (writtenBy (view w x) i off v cycle .entries) s s (r .count)
+  pub sr-entries : writtenBy (view w x) i 0x10 v cycle .entries ≡ []
   unfolding followed
-  plain-book r a s = unbooked (writtenBy (view w x) i off v cycle) s (r .count) (ap (λ (y : Answer). y .count) a) (rw plain-by refl)
+  sr-entries = ap (λ (o : Outcome). o .entries) sr-by
 
--- the registers stored, the line settled
-pub plain-follows : (b b₁ b₂ b₃ : Board) (i off v cycle : ℕ) (on : Bool) → i < length (b .timers) → on ≡ lines off
-    → b₁ ≡ withTimer b i (withRegs (timerAt b i) (plainRegs (timerAt b i .regs) off v)) → b₂ ≡ cond on (lineSettled (timerAt b₁ i) b₁) b₁ → b₃ ≡ withLast b₂ cycle
-    → b₃ ≡ followed b i cycle (plainly (timerAt b i) off v) .board
-unfolding followed
-plain-follows b b₁ b₂ b₃ i off v cycle on l line e₁ e₂ e₃ =
-    let u = withRegs (timerAt b i) (plainRegs (timerAt b i .regs) off v) in
-    let settled : b₂ ≡ cond (lines off) (lineSettled u (withTimer b i u)) (withTimer b i u) =
-    e₂
-    ∙ ap (λ (z : Bool). cond z (lineSettled (timerAt b₁ i) b₁) b₁) line
-    ∙ ap (λ (y : Timer). cond (lines off) (lineSettled y b₁) b₁) (stored-there b b₁ i u l e₁)
-    ∙ ap (λ (y : Board). cond (lines off) (lineSettled u y) y) e₁ in
-    e₃ ∙ ap (λ (y : Board). withLast y cycle) settled
+  module _ (b₁ b₂ : Board) (w₁ : List ℕ) (l : i < length (view w x .timers)) (e₂ : b₂ ≡ lineSettled (timerAt b₁ i) b₁) (e₃ : view w₁ x ≡ withLast b₂ cycle) where
+    lined-gives : (u : Timer) → b₁ ≡ withTimer (view w x) i u → Answers (followed (view w x) i cycle (R.lined u)) (answerOf 0) w w₁ x x
+    unfolding followed
+    lined-gives u e₁ =
+        gives (followed (view w x) i cycle (R.lined u)) (answer 0 0 0) w w₁ x x refl refl refl
+        (e₃ ∙ ap (λ (y : Board). withLast y cycle)
+        (e₂ ∙ ap (λ (y : Timer). lineSettled y b₁) (stored-there (view w x) b₁ i u l e₁) ∙ ap (lineSettled u) e₁))
+        refl
 
--- DIER and SR are plain
-pub lines-plain : (off : ℕ) → lines off ≡ true → plain off ≡ true
-lines-plain off h = go (eqb off 0x0c) refl (eqb off 0x10) refl h
-  where
-    go : (a : Bool) → eqb off 0x0c ≡ a → (c : Bool) → eqb off 0x10 ≡ c → lines off ≡ true → plain off ≡ true
-    go true p c q k = rw (eqb-true off 0x0c p) refl
-    go false p true q k = rw (eqb-true off 0x10 q) refl
-    go false p false q k = absurd (false≢true (sym (rw (p, q) refl) ∙ k))
+    pub dier-gives : (m : ℕ) → m ≡ keptMask 3 → b₁ ≡ withTimer (view w x) i (withReg (timerAt (view w x) i) 3 (bitAnd v m))
+        → Answers (writtenBy (view w x) i 0x0c v cycle) (answerOf 0) w w₁ x x
+    dier-gives m k e₁ =
+        subst (λ (o : Outcome). Answers o (answerOf 0) w w₁ x x) (sym dier-by)
+        (lined-gives (R.withDier (timerAt (view w x) i) (R.kept 3 v)) (e₁ ∙ ap (λ (y : ℕ). withTimer (view w x) i (R.withDier (timerAt (view w x) i) (bitAnd v y))) k))
+
+    pub sr-gives : (t : Timer) (n : ℕ) → t ≡ timerAt (view w x) i → n ≡ R.keptSr (t .regs .sr) v → b₁ ≡ withTimer (view w x) i (withReg (timerAt (view w x) i) 4 n)
+        → Answers (writtenBy (view w x) i 0x10 v cycle) (answerOf 0) w w₁ x x
+    sr-gives t n load k e₁ =
+        subst (λ (o : Outcome). Answers o (answerOf 0) w w₁ x x) (sym sr-by)
+        (lined-gives (R.withSr (timerAt (view w x) i) (R.keptSr (timerAt (view w x) i .regs .sr) v))
+        (e₁ ∙ ap (λ (y : ℕ). withTimer (view w x) i (R.withSr (timerAt (view w x) i) y)) (k ∙ ap (λ (y : Timer). R.keptSr (y .regs .sr) v) load)))
 
 -- ---- CR1
-
-was-astray : (a go : Bool) → go ≡ not a → go ≡ false → a ≡ true
-was-astray true go e h = refl
-was-astray false go e h = absurd (false≢true (sym h ∙ e))
-
-not-astray : (a go : Bool) → go ≡ not a → go ≡ true → a ≡ false
-not-astray true go e h = absurd (false≢true (sym e ∙ h))
-not-astray false go e h = refl
 
 module _ (w : List ℕ) (x : List Float) (i v cycle : ℕ) where
   abbrev started : Timer
@@ -248,37 +195,30 @@ module _ (w : List ℕ) (x : List Float) (i v cycle : ℕ) where
   cr1-by = refl
 
   -- CR1 drives nothing
-  cr1-entries : writtenBy (view w x) i 0 v cycle .entries ≡ []
+  pub cr1-entries : writtenBy (view w x) i 0 v cycle .entries ≡ []
   unfolding followed
   cr1-entries = ap (λ (o : Outcome). o .entries) cr1-by ∙ either (λ (o : Outcome). o .entries ≡ []) (R.astray started) refl refl
 
-  module _ (go : Bool) (g : go ≡ not (R.astray started)) where
-    pub cr1-refused : (w₁ : List ℕ) → not go ≡ true → (go ≡ false → w₁ ≡ w) → (r : Answer) → r ≡ answer 7 0 0 → Answers (writtenBy (view w x) i 0 v cycle) r w w₁ x x
-    cr1-refused w₁ h same r a =
-        subst (λ (y : List ℕ). Answers (writtenBy (view w x) i 0 v cycle) r w y x x) (sym (same (not-true go h)))
-        (away w x (writtenBy (view w x) i 0 v cycle) 7 (cr1-by ∙ rw (was-astray (R.astray started) go g (not-true go h)) refl) r a)
+  pub cr1-served : (b₁ b₂ : Board) (w₁ : List ℕ) → i < length (view w x .timers) → R.astray started ≡ false → b₁ ≡ withTimer (view w x) i started
+      → b₂ ≡ rebooked i (timerAt b₁ i) cycle b₁ → view w₁ x ≡ withLast b₂ cycle → Answers (writtenBy (view w x) i 0 v cycle) (answerOf 0) w w₁ x x
+  unfolding followed
+  cr1-served b₁ b₂ w₁ l h e₁ e₂ e₃ =
+      let served : writtenBy (view w x) i 0 v cycle ≡ followed (view w x) i cycle (R.booked started) = cr1-by ∙ rw h refl in
+      rw served
+      (gives (followed (view w x) i cycle (R.booked started)) (answer 0 0 0) w w₁ x x refl refl refl
+      (e₃ ∙ ap (λ (y : Board). withLast y cycle)
+      (e₂ ∙ ap (λ (y : Timer). rebooked i y cycle b₁) (stored-there (view w x) b₁ i started l e₁) ∙ ap (rebooked i started cycle) e₁))
+      refl)
 
-    pub cr1-served : (b₁ b₂ : Board) (w₁ : List ℕ) → i < length (view w x .timers) → not go ≡ false → (go ≡ true → b₁ ≡ withTimer (view w x) i started)
-        → b₂ ≡ rebooked i (timerAt b₁ i) cycle b₁ → view w₁ x ≡ withLast b₂ cycle → (r : Answer) → r ≡ answer 0 0 0 → Answers (writtenBy (view w x) i 0 v cycle) r w w₁ x x
-    unfolding followed
-    cr1-served b₁ b₂ w₁ l h stored e₂ e₃ r a =
-        let e₁ = stored (not-false go h) in
-        let served : writtenBy (view w x) i 0 v cycle ≡ followed (view w x) i cycle (R.booked started) =
-        cr1-by ∙ rw (not-astray (R.astray started) go g (not-false go h)) refl in
-        rw (served, a)
-        (gives (followed (view w x) i cycle (R.booked started)) (answer 0 0 0) w w₁ x x refl refl refl
-        (e₃ ∙ ap (λ (y : Board). withLast y cycle)
-        (e₂ ∙ ap (λ (y : Timer). rebooked i y cycle b₁) (stored-there (view w x) b₁ i started l e₁) ∙ ap (rebooked i started cycle) e₁))
-        refl)
+-- the words are as they were
+module _ (w w₀ : List ℕ) (same : w₀ ≡ w) (x : List Float) (i off v cycle : ℕ) where
+  pub from-same : (r : Answer) (w₁ : List ℕ) (x₁ : List Float) → Answers (writtenBy (view w₀ x) i off v cycle) r w₀ w₁ x x₁
+      → Answers (writtenBy (view w x) i off v cycle) r w w₁ x x₁
+  from-same r w₁ x₁ m = subst (λ (y : List ℕ). Answers (writtenBy (view y x) i off v cycle) r y w₁ x x₁) same m
 
-  module _ (off : ℕ) (h : off ≡ 0) (r : Answer) (w₁ : List ℕ) (m : Answers (writtenBy (view w x) i 0 v cycle) r w w₁ x x) where
-    pub cr1-gives : Answers (writtenBy (view w x) i off v cycle) r w w₁ x x
-    cr1-gives = subst (λ (n : ℕ). Answers (writtenBy (view w x) i n v cycle) r w w₁ x x) (sym h) m
-
-    pub cr1-book : (s : Lent) → Holds (writtenBy (view w x) i off v cycle .entries) s s (r .count)
-    cr1-book s =
-        subst (λ (n : ℕ). Holds (writtenBy (view w x) i n v cycle .entries) s s (r .count)) (sym h)
-        (unbooked (writtenBy (view w x) i 0 v cycle) s (r .count) (m .count ∙ ap length cr1-entries) cr1-entries)
+  pub from-same-book : (s s₁ : Lent) (k : ℕ) → Holds (writtenBy (view w₀ x) i off v cycle .entries) s s₁ k
+      → Holds (writtenBy (view w x) i off v cycle .entries) s s₁ k
+  from-same-book s s₁ k m = subst (λ (y : List ℕ). Holds (writtenBy (view y x) i off v cycle .entries) s s₁ k) same m
 
 -- ---- compares
 
@@ -297,78 +237,77 @@ compare-line : (t : Timer) (ch v cycle : ℕ) → R.ccrWritten t ch v cycle .lin
 unfolding R.ccrWritten
 compare-line t ch v cycle = either (λ (w : Written). w .line ≡ false) (Out.OCxPE (ccmrByte t ch)) refl refl
 
-driven-at : (on : Bool) (t : Timer) (cnt cnt₁ cycle : ℕ) (b b₁ : Board) (k k₁ : Book) → (on ≡ true → cnt ≡ cnt₁) → Driven on t cnt cycle b b₁ k k₁ → Driven on t cnt₁ cycle b b₁ k k₁
-driven-at true t cnt cnt₁ cycle b b₁ k k₁ h d = subst (λ (n : ℕ). Driven true t n cycle b b₁ k k₁) (h refl) d
-driven-at false t cnt cnt₁ cycle b b₁ k k₁ h d = record { board = d .board; entries = d .entries }
+-- the count is looked at only where the outputs are driven
+at-count : (b : Board) (i cycle cnt cnt₁ : ℕ) (driven lined booked : Bool) → (driven ≡ true → cnt ≡ cnt₁)
+    → after b i cycle driven cnt lined booked ≡ after b i cycle driven cnt₁ lined booked
+unfolding followed
+at-count b i cycle cnt cnt₁ true lined booked h = ap (λ (n : ℕ). after b i cycle true n lined booked) (h refl)
+at-count b i cycle cnt cnt₁ false lined booked h = refl
 
-compares : (b b₁ b₂ b₃ b₄ : Board) (i ch v cycle cnt : ℕ) (on : Bool) (k k₁ : Book) → i < length (b .timers)
-    → b₁ ≡ withTimer b i (R.ccrWritten (timerAt b i) ch v cycle .timer) → on ≡ R.ccrWritten (timerAt b i) ch v cycle .drive → (R.ccrWritten (timerAt b i) ch v cycle .drive ≡ true → cnt ≡ cntAt (timerAt b₁ i) cycle)
-    → Driven on (timerAt b₁ i) cnt cycle b₁ b₂ k k₁ → b₃ ≡ cond on (rebooked i (timerAt b₂ i) cycle b₂) b₂ → b₄ ≡ withLast b₃ cycle
-    → Leaves (followed b i cycle (R.ccrWritten (timerAt b i) ch v cycle)) b₄ k k₁
-compares b b₁ b₂ b₃ b₄ i ch v cycle cnt on k k₁ l e₁ o n d e₃ e₄ =
+pub compare-follows : (b b₁ : Board) (i ch v cycle cnt : ℕ) (on : Bool) → i < length (b .timers)
+    → b₁ ≡ withTimer b i (R.ccrWritten (timerAt b i) ch v cycle .timer) → on ≡ R.ccrWritten (timerAt b i) ch v cycle .drive
+    → (R.ccrWritten (timerAt b i) ch v cycle .drive ≡ true → cnt ≡ cntAt (timerAt b₁ i) cycle)
+    → after b₁ i cycle on cnt false on ≡ followed b i cycle (R.ccrWritten (timerAt b i) ch v cycle)
+unfolding followed
+compare-follows b b₁ i ch v cycle cnt on l e o n =
     let w = R.ccrWritten (timerAt b i) ch v cycle in
-    let there : timerAt b₁ i ≡ w .timer = stored-there b b₁ i (w .timer) l e₁ in
-    let d₁ : Driven (w .drive) (timerAt b₁ i) cnt cycle b₁ b₂ k k₁ = subst (λ (z : Bool). Driven z (timerAt b₁ i) cnt cycle b₁ b₂ k k₁) o d in
-    follows b b₁ b₂ b₂ b₃ b₄ i cycle w k k₁ l e₁
-    (driven-at (w .drive) (timerAt b₁ i) cnt (w .cnt) cycle b₁ b₂ k k₁
-    (λ h. n h ∙ ap (λ (y : Timer). cntAt y cycle) there ∙ compare-count (timerAt b i) ch v cycle h) d₁)
-    (ap (λ (z : Bool). cond z (lineSettled (timerAt b₂ i) b₂) b₂) (sym (compare-line (timerAt b i) ch v cycle)))
-    (e₃ ∙ ap (λ (z : Bool). cond z (rebooked i (timerAt b₂ i) cycle b₂) b₂) (o ∙ compare-booked (timerAt b i) ch v cycle))
-    e₄
-
--- it waits for the update, or it acts at once
-pub compare-waits : (b b₁ b₄ : Board) (i ch v cycle : ℕ) (on : Bool) (k : Book) → i < length (b .timers)
-    → b₁ ≡ withTimer b i (R.ccrWritten (timerAt b i) ch v cycle .timer) → on ≡ R.ccrWritten (timerAt b i) ch v cycle .drive → on ≡ false → b₄ ≡ withLast b₁ cycle
-    → Leaves (followed b i cycle (R.ccrWritten (timerAt b i) ch v cycle)) b₄ k k
-compare-waits b b₁ b₄ i ch v cycle on k l e₁ o z e₄ =
-    compares b b₁ b₁ b₁ b₄ i ch v cycle 0 on k k l e₁ o (λ h. absurd (false≢true (sym z ∙ o ∙ h))) (drives-off on (timerAt b₁ i) 0 cycle b₁ k z) (rw z refl) e₄
-
-pub compare-acts : (b b₁ b₂ b₃ b₄ : Board) (i ch v cycle cnt : ℕ) (on : Bool) (k k₁ : Book) → i < length (b .timers)
-    → b₁ ≡ withTimer b i (R.ccrWritten (timerAt b i) ch v cycle .timer) → on ≡ R.ccrWritten (timerAt b i) ch v cycle .drive → (R.ccrWritten (timerAt b i) ch v cycle .drive ≡ true → cnt ≡ cntAt (timerAt b₁ i) cycle)
-    → on ≡ true → O.Driven (driveOutputs (timerAt b₁ i) cnt (b₁ .pads)) cycle b₁ b₂ k k₁ → b₃ ≡ rebooked i (timerAt b₂ i) cycle b₂ → b₄ ≡ withLast b₃ cycle
-    → Leaves (followed b i cycle (R.ccrWritten (timerAt b i) ch v cycle)) b₄ k k₁
-compare-acts b b₁ b₂ b₃ b₄ i ch v cycle cnt on k k₁ l e₁ o n z d e₃ e₄ =
-    compares b b₁ b₂ b₃ b₄ i ch v cycle cnt on k k₁ l e₁ o n (drives-on on (timerAt b₁ i) cnt cycle b₁ b₂ k k₁ z d) (rw z e₃) e₄
-
--- a timer with channels, and one without
-module _ (b b₁ : Board) (i ch v cycle : ℕ) (n : Inst) (k : Book) (load : n ≡ timerAt b i .inst) where
-  pub with-channels : (k₁ : Book) → (n .channels ≡ 0 → ⊥) → Leaves (followed b i cycle (R.ccrWritten (timerAt b i) ch v cycle)) b₁ k k₁
-      → Leaves (followed b i cycle (compareWritten (timerAt b i) ch v cycle)) b₁ k k₁
-  unfolding compareWritten
-  with-channels k₁ h m = rw (ap (λ (y : Inst). eqb (y .channels) 0) (sym load) ∙ ne-eqb _ _ h) m
-
-  pub no-channels : n .channels ≡ 0 → b₁ ≡ withLast b cycle → Leaves (followed b i cycle (compareWritten (timerAt b i) ch v cycle)) b₁ k k
-  unfolding followed compareWritten puts
-  no-channels h e =
-      rw (ap (λ (y : Inst). eqb (y .channels) 0) (sym load) ∙ eq-eqb _ _ h)
-      (record { board = e ∙ ap (λ (y : Board). withLast y cycle) (sym (same-timer b i)); entries = refl })
+    let there : timerAt b₁ i ≡ w .timer = stored-there b b₁ i (w .timer) l e in
+    ap (λ (z : Bool). after b₁ i cycle z cnt false z) o
+    ∙ at-count b₁ i cycle cnt (w .cnt) (w .drive) false (w .drive) (λ h. n h ∙ ap (λ (y : Timer). cntAt y cycle) there ∙ compare-count (timerAt b i) ch v cycle h)
+    ∙ ap (λ (z : Bool). after b₁ i cycle (w .drive) (w .cnt) z (w .drive)) (sym (compare-line (timerAt b i) ch v cycle))
+    ∙ ap (λ (z : Bool). after b₁ i cycle (w .drive) (w .cnt) (w .line) z) (compare-booked (timerAt b i) ch v cycle)
+    ∙ after-stored b b₁ i cycle (w .cnt) (w .timer) (w .drive) (w .line) (w .book) l e
 
 -- at the offset of a compare
 pub channel-lt : (off : ℕ) → R.isCcr off ≡ true → (0x34 ≤ off) × (R.ccrChannel off < 4)
-channel-lt off h = go (leb 0x34 off) refl (leb off 0x43) refl h
+channel-lt off h = go (leb 0x34 off) refl (leb off 0x40) refl h
   where
-    go : (a : Bool) → leb 0x34 off ≡ a → (b : Bool) → leb off 0x43 ≡ b → (a && b) ≡ true → (0x34 ≤ off) × (R.ccrChannel off < 4)
-    go true e true f h = (leb-true 0x34 off e, omega (arith, leb-true 0x34 off e, leb-true off 0x43 f))
+    go : (a : Bool) → leb 0x34 off ≡ a → (b : Bool) → leb off 0x40 ≡ b → (a && b) ≡ true → (0x34 ≤ off) × (R.ccrChannel off < 4)
+    go true e true f h = (leb-true 0x34 off e, omega (arith, leb-true 0x34 off e, leb-true off 0x40 f))
     go true e false f h = absurd (false≢true h)
     go false e b f h = absurd (false≢true h)
 
 module _ (w : List ℕ) (x : List Float) (i off v cycle : ℕ) (h : R.isCcr off ≡ true) where
-  abbrev compared : Outcome
-  compared = followed (view w x) i cycle (compareWritten (timerAt (view w x) i) (R.ccrChannel off) v cycle)
+  abbrev t : Timer
+  t = timerAt (view w x) i
 
-  compare-by : writtenBy (view w x) i off v cycle ≡ compared
-  unfolding writtenBy R.regWritten R.channelWritten compareWritten
+  abbrev compared : Written
+  compared = R.ccrWritten t (R.ccrChannel off) (R.kept (off / 4) v) cycle
+
+  compare-by : writtenBy (view w x) i off v cycle ≡ followed (view w x) i cycle (cond (eqb (t .inst .channels) 0) (R.only t) compared)
+  unfolding writtenBy R.regWritten R.channelWritten
   compare-by =
       let other : (n : ℕ) → n < 0x34 → eqb off n ≡ false = λ n l. ne-eqb off n (λ e. omega (arith, e, channel-lt off h .0)) in
       simp (other 0x00 (omega arith), other 0x04 (omega arith), other 0x08 (omega arith), other 0x0c (omega arith), other 0x10 (omega arith), other 0x14 (omega arith), other 0x18 (omega arith), other 0x1c (omega arith), other 0x20 (omega arith), other 0x24 (omega arith), other 0x28 (omega arith), other 0x2c (omega arith), h)
 
-  pub compare-gives : (w₁ : List ℕ) (x₁ : List Float) (s s₁ : Lent) (k : ℕ) → Leaves compared (view w₁ x₁) (book s 0) (book s₁ k)
-      → Room k s
-      → Answers (writtenBy (view w x) i off v cycle) (answer 0 0 k) w w₁ x x₁ × Holds (writtenBy (view w x) i off v cycle .entries) s s₁ k
-  unfolding followed
-  compare-gives w₁ x₁ s s₁ k m f =
-      let q = holds (compared .entries) s s₁ k (m .entries) f in
-      rw compare-by (gives compared (answer 0 0 k) w w₁ x x₁ refl refl (q .count) (m .board) refl, q)
+  module _ (n : Inst) (load : n ≡ t .inst) where
+    -- a timer without channels
+    without : n .channels ≡ 0 → writtenBy (view w x) i off v cycle ≡ followed (view w x) i cycle (R.only t)
+    without z = compare-by ∙ rw (ap (λ (y : Inst). eqb (y .channels) 0) (sym load) ∙ eq-eqb _ _ z) refl
+
+    pub without-entries : n .channels ≡ 0 → writtenBy (view w x) i off v cycle .entries ≡ []
+    unfolding followed
+    without-entries z = ap (λ (o : Outcome). o .entries) (without z)
+
+    pub without-gives : n .channels ≡ 0 → (w₁ : List ℕ) → view w₁ x ≡ withLast (view w x) cycle → Answers (writtenBy (view w x) i off v cycle) (answerOf 0) w w₁ x x
+    unfolding followed
+    without-gives z w₁ e =
+        subst (λ (o : Outcome). Answers o (answerOf 0) w w₁ x x) (sym (without z))
+        (gives (followed (view w x) i cycle (R.only t)) (answer 0 0 0) w w₁ x x refl refl refl (e ∙ ap (λ (y : Board). withLast y cycle) (sym (same-timer (view w x) i))) refl)
+
+    -- one with channels
+    pub compare-gives : (n .channels ≡ 0 → ⊥) → (kv : ℕ) → kv ≡ R.kept (off / 4) v → (o : Outcome) → o ≡ followed (view w x) i cycle (R.ccrWritten t (R.ccrChannel off) kv cycle)
+        → (w₁ : List ℕ) (x₁ : List Float) (s s₁ : Lent) (k : ℕ) → Leaves o (view w₁ x₁) (book s 0) (book s₁ k)
+        → Room k s
+        → Answers (writtenBy (view w x) i off v cycle) (answer 0 0 k) w w₁ x x₁ × Holds (writtenBy (view w x) i off v cycle .entries) s s₁ k
+    unfolding followed
+    compare-gives z kv q o e w₁ x₁ s s₁ k m f =
+        let by : writtenBy (view w x) i off v cycle ≡ followed (view w x) i cycle compared =
+        compare-by ∙ rw (ap (λ (y : Inst). eqb (y .channels) 0) (sym load) ∙ ne-eqb _ _ z) refl in
+        let m₁ : Leaves (followed (view w x) i cycle compared) (view w₁ x₁) (book s 0) (book s₁ k) =
+        subst (λ (y : Outcome). Leaves y (view w₁ x₁) (book s 0) (book s₁ k)) (e ∙ ap (λ (y : ℕ). followed (view w x) i cycle (R.ccrWritten t (R.ccrChannel off) y cycle)) q) m in
+        let g = holds (followed (view w x) i cycle compared .entries) s s₁ k (m₁ .entries) f in
+        rw by (gives (followed (view w x) i cycle compared) (answer 0 0 k) w w₁ x x₁ refl refl (g .count) (m₁ .board) refl, g)
 
 -- ---- the call
 module _ (w : List ℕ) (x : List Float) (timer offset size value cycle room num : ℕ) (h : num ≡ asked timer size (view w x) cycle room) where
@@ -392,8 +331,12 @@ module _ (w : List ℕ) (x : List Float) (timer offset size value cycle room num
   module _ (z : num ≡ 0) (on : Bool) (gate : on ≡ clockOn (view w x) (timerAt (view w x) timer)) where
     -- the four tests pass: the gate, and what is below it
     pub write-gated : step (view w x) writing ≡ cond on (writtenOn (view w x) timer offset size value cycle) (served 0 (withLast (view w x) cycle))
-    unfolding step given inOrder written writtenBy
-    write-gated = rw gate (passing tests (view w x) _ refl (sym h ∙ z))
+    unfolding step given rises written writtenBy
+    write-gated = rw gate (go _ (verdict 0 tests (view w x) _ refl))
+      where
+        go : (o : Outcome) → Verdict tests (view w x) o → given tests (view w x) o ≡ o
+        go o (refuses n l u f a g) = absurd (omega (arith, sym f ∙ sym h ∙ z))
+        go o (passes f a g) = g
 
     pub write-below : on ≡ true → (r : Answer) (w₁ : List ℕ) (x₁ : List Float) → Answers (writtenOn (view w x) timer offset size value cycle) r w w₁ x x₁
         → Answers (step (view w x) writing) r w w₁ x x₁

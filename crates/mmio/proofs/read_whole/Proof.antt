@@ -1,5 +1,5 @@
--- Refused, gated off, the counter, or another register.
-use Rattle.mmio.proofs.Laws.{read-away, read-on, read-off, read-admitted, counter-read}
+-- Refused, gated off, or read.
+use Rattle.mmio.proofs.Laws.{read-away, read-on, read-off, read-admitted}
 use mathlib.Core.List.{[]}
 use native.Mathlib.Omega.{arith}
 use borrow.Author.Needs.{needs}
@@ -27,9 +27,10 @@ returns-2 : tie.Need-returns-2
 returns-2 c =
     λ x. read-off (c .before .before .before .before .before .args .words .now) x (c .before .before .before .before .before .args .timer) (c .before .before .before .before .before .args .offset) 4 (c .before .before .before .before .before .args .cycle) _ _ (c .before .before .before .before .timer-refusal .ensures x) (c .before .before .before .if1 .left) _ (c .before .before .clock-on .ensures x) (c .before .if2 .taken) (c .served .ensures)
 
-count-of-requires : tie.Need-count-of-requires
-count-of-requires c κs =
-    let q = read-admitted (c .before .before .before .before .before .args .words .now) [] (c .before .before .before .before .before .args .timer) 4 (c .before .before .before .before .before .args .cycle) _ (c .before .before .before .before .timer-refusal .ensures []) (c .before .before .before .if1 .left) in (q .index-lt, omega (arith, q .cycle-le))
+whole-of-requires : tie.Need-whole-of-requires
+whole-of-requires c κs =
+    let s = c .before .before .before .before in
+    let q = read-admitted (s .args .words .now) [] (s .args .timer) 4 (s .args .cycle) _ (c .before .before .before .timer-refusal .ensures []) (c .before .before .if1 .left) in (q .index-lt, omega (arith, q .cycle-le))
 
 cast-served : tie.Need-cast-served
 cast-served c = search needs
@@ -39,21 +40,8 @@ served-requires-2 c κs = search needs
 
 returns-3 : tie.Need-returns-3
 returns-3 c =
-    λ x. read-on (c .before .before .before .before .before .before .before .args .words .now) x (c .before .before .before .before .before .before .before .args .timer) (c .before .before .before .before .before .before .before .args .offset) 4 (c .before .before .before .before .before .before .before .args .cycle) _ _ (c .before .before .before .before .before .before .timer-refusal .ensures x) (c .before .before .before .before .before .if1 .left) _ (c .before .before .before .before .clock-on .ensures x) _ (c .before .before .before .if2 .left) (counter-read _ (c .before .before .before .before .before .before .before .args .offset) (c .before .before .before .before .before .before .before .args .cycle) _ (c .before .before .if3 .taken) (c .before .count-of .ensures x)) (c .served2 .ensures)
-
-lane-of-requires : tie.Need-lane-of-requires
-lane-of-requires c κs =
-    let q = read-admitted (c .before .before .before .before .before .args .words .now) [] (c .before .before .before .before .before .args .timer) 4 (c .before .before .before .before .before .args .cycle) _ (c .before .before .before .before .timer-refusal .ensures []) (c .before .before .before .if1 .left) in (q .index-lt, q .size-le, omega (arith, q .cycle-le))
-
-cast-served-2 : tie.Need-cast-served-2
-cast-served-2 c = search needs
-
-served-requires-3 : tie.Need-served-requires-3
-served-requires-3 c κs = search needs
-
-returns-4 : tie.Need-returns-4
-returns-4 c =
-    λ x. read-on (c .before .before .before .before .before .before .before .args .words .now) x (c .before .before .before .before .before .before .before .args .timer) (c .before .before .before .before .before .before .before .args .offset) 4 (c .before .before .before .before .before .before .before .args .cycle) _ _ (c .before .before .before .before .before .before .timer-refusal .ensures x) (c .before .before .before .before .before .if1 .left) _ (c .before .before .before .before .clock-on .ensures x) _ (c .before .before .before .if2 .left) (c .before .lane-of .ensures x) (c .served3 .ensures)
+    let s = c .before .before .before .before .before .before in
+    λ x. read-on (s .args .words .now) x (s .args .timer) (s .args .offset) 4 (s .args .cycle) _ _ (c .before .before .before .before .before .timer-refusal .ensures x) (c .before .before .before .before .if1 .left) _ (c .before .before .before .clock-on .ensures x) _ (c .before .before .if2 .left) (c .before .whole-of .ensures x) (c .served2 .ensures)
 
 pub read-whole-spec : {M : Type 1} → statement M
 read-whole-spec =
@@ -65,11 +53,7 @@ read-whole-spec =
     clock-on-requires
     served-requires
     returns-2
-    count-of-requires
+    whole-of-requires
     cast-served
     served-requires-2
-    returns-3
-    lane-of-requires
-    cast-served-2
-    served-requires-3
-    returns-4)
+    returns-3)

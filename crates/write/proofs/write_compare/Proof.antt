@@ -1,7 +1,14 @@
--- With channels, or without.
+-- Without channels, or stored, and what follows.
+use Rattle.book.specs.Book.{slices}
 use native.Mathlib.Omega.{arith}
+use lib.Bits.{bitAnd}
+use mathlib.Core.Path.{ap}
 use Rattle.regs.specs.Regs as R
-use Rattle.write.proofs.Laws.{channel-lt, with-channels, no-channels}
+use Rattle.state.specs.View.{view}
+use Rattle.state.proofs.InRange.{bounded}
+use Rattle.mmio.proofs.Laws.{of-eight}
+use Rattle.write.proofs.Laws.{channel-lt, coded, coded-book, compare-follows, compare-gives, no-entries, without-entries, without-gives}
+use Rattle.write.proofs.Synced.{rests}
 use borrow.Author.Needs.{needs}
 use Rattle.write.proofs.write_compare.Statement.{statement}
 use Rattle.write.proofs.write_compare.Tie as tie
@@ -15,18 +22,34 @@ set-last-requires c κs = search needs
 returns : tie.Need-returns
 returns c =
     let s = c .before .before .before .before .before .before .before .before .before in
-    (no-channels _ _ (s .args .i) (R.ccrChannel (s .args .off)) (s .args .v) (s .args .cycle) _ _ (c .before .before .before .before .inst .ensures (s .args .reals .now)) (c .before .before .if1 .taken) (c .set-last .ensures (s .args .reals .now)), omega arith)
+    let load = c .before .before .before .before .inst .ensures (s .args .reals .now) in
+    let z = c .before .before .if1 .taken in
+    let m = without-gives (s .args .words .now) (s .args .reals .now) (s .args .i) (s .args .off) (s .args .v) (s .args .cycle) (s .pre .0 .1) _ load z _ (c .set-last .ensures (s .args .reals .now)) in
+    (m, no-entries _ _ _ _ _ _ (without-entries (s .args .words .now) (s .args .reals .now) (s .args .i) (s .args .off) (s .args .v) (s .args .cycle) (s .pre .0 .1) _ load z) m (slices (s .args .pins .now) (s .args .levels .now) (s .args .cycles .now)))
 
 sub-ch : tie.Need-sub-ch
-sub-ch c =
-    let s = c .before .before .before .before .before .before .before in omega (arith, channel-lt (s .args .off) (s .pre .0 .1) .0)
+sub-ch c = let s = c .before .before .before .before .before .before .before in omega (arith, channel-lt (s .args .off) (s .pre .0 .1) .0)
 
 cast-ch : tie.Need-cast-ch
 cast-ch c = search needs
 
+cast-kept : tie.Need-cast-kept
+cast-kept c = search needs
+
+kept-requires : tie.Need-kept-requires
+kept-requires c κs = let s = c .before .before .before .before .before .before .before in omega (arith, channel-lt (s .args .off) (s .pre .0 .1) .0, channel-lt (s .args .off) (s .pre .0 .1) .1)
+
 write-ccr-requires : tie.Need-write-ccr-requires
-write-ccr-requires c κs =
-    let s = c .before .before .before .before .before .before .before .before .before .before .before .before in ((s .pre .0 .0, channel-lt (s .args .off) (s .pre .0 .1) .1, s .pre .0 .2), s .pre .1)
+write-ccr-requires c κs = let s = c .before .before .before .before .before .before .before .before .before in (s .pre .0 .0, channel-lt (s .args .off) (s .pre .0 .1) .1, s .pre .0 .2)
+
+cnt0-requires : tie.Need-cnt0-requires
+cnt0-requires c κs = search needs
+
+follow-requires : tie.Need-follow-requires
+follow-requires c κs = search needs
+
+made-requires : tie.Need-made-requires
+made-requires c κs = c .before .before .before .before .before .before .follow .ensures .1
 
 same-length : tie.Need-same-length
 same-length c = search needs
@@ -39,8 +62,14 @@ same-length-3 c = search needs
 
 returns-2 : tie.Need-returns-2
 returns-2 c =
-    let s = c .before .before .before .before .before .before .before .before .before .before .before .before .before .before .before .before .before .before .before in
-    (with-channels _ _ (s .args .i) (R.ccrChannel (s .args .off)) (s .args .v) (s .args .cycle) _ _ (c .before .before .before .before .before .before .before .before .before .before .before .before .before .before .inst .ensures (s .args .reals .now)) _ (c .before .before .before .before .before .before .before .before .before .before .before .before .if1 .left) (c .before .before .before .before .before .before .write-ccr .ensures .0), c .before .before .before .before .before .before .write-ccr .ensures .1)
+    let s = c .before .before .before .before .before .before .before .before .before .before .before .before .before .before .before .before .before .before .before .before .before .before .before .before .before in
+    let f = c .before .before .before .before .before .before .before .follow .ensures in
+    let l = of-eight (s .args .words .now) (s .args .reals .now) (s .args .i) (s .pre .0 .0) in
+    let e = c .before .before .before .before .before .before .before .before .before .before .before .before .before .before .before .write-ccr .ensures in
+    let n = rests (view (s .args .words .now) (s .args .reals .now)) _ (s .args .i) (R.ccrChannel (s .args .off)) _ (s .args .cycle) _ l (bounded (s .args .words .now) (s .args .reals .now) .timer-fit (s .args .i) .tick-pos) (e .0 (s .args .reals .now)) (c .before .before .before .before .before .before .before .before .before .before .before .before .before .cnt0 .ensures (s .args .reals .now)) in
+    let o = compare-follows (view (s .args .words .now) (s .args .reals .now)) _ (s .args .i) (R.ccrChannel (s .args .off)) _ (s .args .cycle) _ _ l (e .0 (s .args .reals .now)) (e .1 (s .args .reals .now)) n in
+    let m = compare-gives (s .args .words .now) (s .args .reals .now) (s .args .i) (s .args .off) (s .args .v) (s .args .cycle) (s .pre .0 .1) _ (c .before .before .before .before .before .before .before .before .before .before .before .before .before .before .before .before .before .before .before .before .inst .ensures (s .args .reals .now)) (c .before .before .before .before .before .before .before .before .before .before .before .before .before .before .before .before .before .before .if1 .left) _ (ap (bitAnd (s .args .v)) (c .before .before .before .before .before .before .before .before .before .before .before .before .before .before .before .before .before .kept .ensures)) _ o _ _ _ _ _ (f .0) ((omega (arith, f .1, s .pre .1 .0)), (omega (arith, f .1, s .pre .1 .1)), (omega (arith, f .1, s .pre .1 .2))) in
+    (coded _ _ _ _ _ _ _ (c .made .ensures) (m .0), coded-book _ _ _ _ _ (c .made .ensures) (m .1))
 
 pub write-compare-spec : {M : Type 1} → statement M
 write-compare-spec =
@@ -51,7 +80,12 @@ write-compare-spec =
     returns
     sub-ch
     cast-ch
+    cast-kept
+    kept-requires
     write-ccr-requires
+    cnt0-requires
+    follow-requires
+    made-requires
     same-length
     same-length-2
     same-length-3

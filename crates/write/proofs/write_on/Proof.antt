@@ -1,10 +1,20 @@
--- Whole, or a part.
+-- By a short way, or merged and by the general one.
+use native.Mathlib.Omega.{arith}
+use mathlib.Core.Path.{sym, _∙_}
+use borrow.Author.Tests.{eqb-true}
+use Rattle.write.proofs.Laws.{on-merged, on-merged-book, whole}
 use borrow.Author.Needs.{needs}
 use Rattle.write.proofs.write_on.Statement.{statement}
 use Rattle.write.proofs.write_on.Tie as tie
 
-write-whole-requires : tie.Need-write-whole-requires
-write-whole-requires c κs = search needs
+mul-off : tie.Need-mul-off
+mul-off c = search needs
+
+quick-requires : tie.Need-quick-requires
+quick-requires c κs = search needs
+
+write-quick-requires : tie.Need-write-quick-requires
+write-quick-requires c κs = search needs
 
 same-length : tie.Need-same-length
 same-length c = search needs
@@ -17,10 +27,16 @@ same-length-3 c = search needs
 
 returns : tie.Need-returns
 returns c =
-    (rw (c .before .before .before .before .before .before .before .before .before .before .before .before .if1 .taken) (c .before .before .before .before .before .before .write-whole .ensures .0), rw (c .before .before .before .before .before .before .before .before .before .before .before .before .if1 .taken) (c .before .before .before .before .before .before .write-whole .ensures .1))
+    let s = c .before .before .before .before .before .before .before .before .before .before .before .before .before .before .before .before .before in
+    let f = c .before .before .before .before .before .before .write-quick .ensures in
+    let k = eqb-true (s .args .size) 4 (sym (c .before .before .before .before .before .before .before .before .before .before .before .before .before .quick .ensures) ∙ c .before .before .before .before .before .before .before .before .before .before .before .before .if1 .taken) in
+    (on-merged (s .args .words .now) (s .args .reals .now) (s .args .i) (s .args .offset) (s .args .size) (s .args .value) (s .args .cycle) _ (whole _ _ (s .args .size) _ k) _ _ _ (f .0), on-merged-book (s .args .words .now) (s .args .reals .now) (s .args .i) (s .args .offset) (s .args .size) (s .args .value) (s .args .cycle) _ (whole _ _ (s .args .size) _ k) _ _ _ (f .1))
 
-write-any-requires : tie.Need-write-any-requires
-write-any-requires c κs = search needs
+merged-requires : tie.Need-merged-requires
+merged-requires c κs = let s = c .before .before .before .before .before .before in (s .pre .0 .0, s .pre .0 .1, omega (arith, s .pre .0 .2))
+
+write-timer-requires : tie.Need-write-timer-requires
+write-timer-requires c κs = search needs
 
 same-length-4 : tie.Need-same-length-4
 same-length-4 c = search needs
@@ -32,18 +48,25 @@ same-length-6 : tie.Need-same-length-6
 same-length-6 c = search needs
 
 returns-2 : tie.Need-returns-2
-returns-2 c = search needs
+returns-2 c =
+    let s = c .before .before .before .before .before .before .before .before .before .before .before .before .before .before .before .before .before .before .before in
+    let f = c .before .before .before .before .before .before .write-timer .ensures in
+    let e = c .before .before .before .before .before .before .before .before .before .before .before .before .merged .ensures (s .args .reals .now) in
+    (on-merged (s .args .words .now) (s .args .reals .now) (s .args .i) (s .args .offset) (s .args .size) (s .args .value) (s .args .cycle) _ e _ _ _ (f .0), on-merged-book (s .args .words .now) (s .args .reals .now) (s .args .i) (s .args .offset) (s .args .size) (s .args .value) (s .args .cycle) _ e _ _ _ (f .1))
 
 pub write-on-spec : {M : Type 1} → statement M
 write-on-spec =
     tie.close
     (tie.spec
-    write-whole-requires
+    mul-off
+    quick-requires
+    write-quick-requires
     same-length
     same-length-2
     same-length-3
     returns
-    write-any-requires
+    merged-requires
+    write-timer-requires
     same-length-4
     same-length-5
     same-length-6
