@@ -24,8 +24,9 @@ use Rattle.machine.specs.Sys as Sys
 use Rattle.machine.specs.Deliver.{dividerOf, delivered, mostEvents, dueBy}
 use Rattle.machine.specs.Call.{Setup, Question, reading, peeking, booked, next, level, volts, line, time, BookCall, pinSetting, outsideDrive, pinReset, writing, resetting, delivery, Call, setUp, clockTree, enable, clearPending, ask, lend, isDelivery, lent, bookCycle, Outcome, refused, served, isRefusal}
 use Rattle.machine.specs.Step.{step, withinLimits, treeSet, moved, cfgOf, pinsReset, changesOf, clockOn, written, followed, timerReset, deliveredTo, asking, told}
-use Rattle.machine.specs.Refusals.{Refusal, _when_, noSuchIndex, ofQuestion, refusals, order, inOrder, placeIn, applies, holds, first, ending, most, lastAfter}
+use Rattle.machine.specs.Refusals.{Refusal, _when_, limits, noSuchIndex, ofQuestion, refusals, order, inOrder, placeIn, applies, holds, first, ending, most, lastAfter}
 use Rattle.machine.specs.Demand1.{Every, StampedAt}
+use Rattle.machine.proofs.TableLaws.{positive-same, limits-same, tree-same, away-same}
 use Rattle.machine.proofs.DeliverLaws.{Delivery, run-law, every-none, every-append, entry-stamped, entries-stamped, entry-few, entries-few}
 
 -- ---- refusals in order, then what follows
@@ -210,17 +211,25 @@ asked-given b (volts pin) o = refl
 asked-given b (line irq) o = refl
 asked-given b (time cycle) o = refl
 
+-- equal tests refuse alike
+by-test : (n : ℕ) (b : Board) (o : Outcome) {t u : Bool} → t ≡ u → cond (not t) (refused n b) o ≡ cond (not u) (refused n b) o
+by-test n b o e = rw e refl
+
+by-tests : (n m : ℕ) (b : Board) (o : Outcome) {t u v w : Bool} → t ≡ u → v ≡ w
+    → cond (not t) (refused n b) (cond (not v) (refused m b) o) ≡ cond (not u) (refused n b) (cond (not w) (refused m b) o)
+by-tests n m b o e f = rw (e, f) refl
+
 pub step-given : (b : Board) (c : Call) → step b c ≡ given (refusals b c) b (performed b c)
 unfolding step given refusals performed
-step-given b (setUp s) = refl
-step-given b (clockTree t cycle) = refl
+step-given b (setUp s) = by-tests 1 4 b _ (sym (limits-same s)) (sym (positive-same (s .hz)))
+step-given b (clockTree t cycle) = by-test 4 b _ (sym (tree-same t))
 step-given b (enable word value) = refl
 step-given b (clearPending irq) = refl
 step-given b (ask q) = asked-given b q (served (told b q) b)
 step-given b (lend (pinSetting pin mode openDrain out pullup pulldown function) cycle places) = refl
 step-given b (lend (outsideDrive pin e) cycle places) = refl
 step-given b (lend pinReset cycle places) = refl
-step-given b (lend (writing timer offset size value) cycle places) = rw gated refl
+step-given b (lend (writing timer offset size value) cycle places) = rw (gated, away-same) refl
 step-given b (lend (resetting timer) cycle places) = refl
 step-given b (lend (delivery timer) cycle places) = refl
 
@@ -364,7 +373,7 @@ here i n rs h = leb-false n i (head-free 2 (leb n i) rs h)
 
 pub set-up-within : (b : Board) (s : Setup) → applies (refusals b (setUp s)) ≡ false → withinLimits s ≡ true
 unfolding refusals
-set-up-within b s h = not-false (withinLimits s) (head-free 1 (not (withinLimits s)) _ h)
+set-up-within b s h = sym (limits-same s) ∙ not-false (limits s) (head-free 1 (not (limits s)) _ h)
 
 -- nor the second, third, fourth
 third : (n₁ n₂ n₃ : ℕ) (t₁ t₂ t₃ : Bool) (rs : List Refusal) → applies ((n₁ when t₁) ∷ (n₂ when t₂) ∷ (n₃ when t₃) ∷ rs) ≡ false → t₃ ≡ false
