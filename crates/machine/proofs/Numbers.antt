@@ -1,20 +1,19 @@
 -- The numbers of document 01's table, and what every answer keeps: the statements of specs/Demand1.antt, proved. Assumes nothing.
 use mathlib.Core.Path.{_≡_, refl, ap, sym, _∙_}
 use mathlib.Core.Bool.{Bool, true, false, cond, not}
-use mathlib.Core.List.{List, []}
+use mathlib.Core.List.{List}
 use mathlib.Core.Logic.{_⊎_, inl, inr}
-use Prim.Native.Nat.{ℕ, _/_, _≤_, _<_, min}
+use Prim.Native.Nat.{ℕ, _<_}
 use native.Mathlib.Omega.{arith}
-use lib.Dec.{leb}
 use lib.ListN.{length}
 use lib.Seq.{getD-set-same}
-use borrow.Author.Tests.{leb-false, eq-eqb}
+use borrow.Author.Tests.{eq-eqb}
 use Rattle.tim.specs.declared.Timer.{Timer}
 use Rattle.tim.specs.Next.{nextEvent}
 use Rattle.pins.specs.declared.ExtDrive.{ExtDrive}
 use Rattle.book.specs.Book.{Entry}
 use Rattle.machine.specs.Board.{Board, timerAt, noTimer}
-use Rattle.machine.specs.Deliver.{Turn, dividerOf, dueBy, delivered, settled, rebooked, lineSettled}
+use Rattle.machine.specs.Deliver.{Turn, dividerOf, dueBy, delivered, afterDelivery, rebooked, lineSettled}
 use Rattle.machine.specs.Call.{Setup, Call, setUp, setPin, drivePin, deliver, isDelivery, isSetUp, bookCycle, Outcome, refused, isRefusal}
 use Rattle.real.specs.Real.{positive}
 use Rattle.machine.specs.Step.{step, withinLimits, deliveredTo, cfgOf}
@@ -128,7 +127,7 @@ eight-or-not true n h = (λ z. absurd (omega arith), λ z. refl)
 eight-or-not false n h = (λ z. refl, λ z. absurd (omega arith))
 
 delivered-works : (b : Board) (i cycle places : ℕ) → i < length (b .timers) → Works b i cycle places (deliveredTo b i cycle places)
-unfolding deliveredTo settled rebooked lineSettled
+unfolding deliveredTo afterDelivery rebooked lineSettled
 delivered-works b i cycle places h =
     let r = delivered b i cycle places in
     let d = delivered-law b i cycle places in

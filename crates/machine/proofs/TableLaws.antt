@@ -5,7 +5,6 @@ use mathlib.Core.List.{List, [], _∷_, map}
 use Prim.Native.Nat.{ℕ, _+_, _*_}
 use lib.Dec.{eqb, ltb, leb}
 use lib.ListN.{length}
-use lib.Ieee as Ieee
 use lib.Ieee.{Float, nan, inf, fin}
 use Rattle.rm0440.specs.Bits.{DIR}
 use Rattle.tim.specs.declared.Timer.{Timer}
@@ -15,8 +14,8 @@ use Rattle.real.specs.Real.{positive}
 use Rattle.clk.specs.declared.ClockTree.{ClockTree}
 use Rattle.clk.specs.Clk.{inRange, timerDiv, good}
 use Rattle.machine.specs.Call.{Setup}
-use Rattle.machine.specs.Step.{fresh, instGood, instsGood, entriesBelow, withinLimits}
-use Rattle.machine.specs.Refusals.{between, all, different, finiteAboveZero, timerLimits, limits, treeDividers, madeDividers, goodTree, runsAway}
+use Rattle.machine.specs.Step.{fresh, instsGood, entriesBelow, withinLimits}
+use Rattle.machine.specs.Refusals.{all, different, finiteAboveZero, timerLimits, limits, goodTree, runsAway}
 
 pub positive-same : (f : Float) → finiteAboveZero f ≡ positive f
 unfolding finiteAboveZero positive

@@ -51,8 +51,8 @@ finiteAboveZero f = finite f && Ieee.lt zeroFloat f
 
 -- 1, wrong board: "set-up outside the sizes above or limits below".
 -- "1 to 8 timers, 1 to 128 pins, .. 0 to 256 lines"
-abbrev pub sizes : Setup → Bool
-sizes s = between 1 8 (length (s .timers)) && between 1 128 (s .pins) && leb (s .lines) 256
+abbrev pub boardSizes : Setup → Bool
+boardSizes s = between 1 8 (length (s .timers)) && between 1 128 (s .pins) && leb (s .lines) 256
 
 -- "timer numbers 1 to 24 ..; width 16 or 32; 0 to 4 channels; enable word 0 to 8, bit 0 to 31"
 abbrev pub timerLimits : Inst → Bool
@@ -62,7 +62,7 @@ timerLimits i =
 -- ".., all different; ..; supply volts finite and above 0; signal table of exactly pins × 16 entries below 256"
 unfoldable pub limits : Setup → Bool
 limits s =
-    sizes s && all timerLimits (s .timers) && different (map (λ (i : Inst). i .n) (s .timers)) && finiteAboveZero (s .vcc)
+    boardSizes s && all timerLimits (s .timers) && different (map (λ (i : Inst). i .n) (s .timers)) && finiteAboveZero (s .vcc)
     && eqb (length (s .table)) (s .pins * 16) && all (λ (e : ℕ). ltb e 256) (s .table)
 
 abbrev pub wrongBoard : Setup → Refusal
@@ -161,9 +161,9 @@ inOrder [] (r ∷ rs) = false
 inOrder (o ∷ os) ((n when t) ∷ rs) = cond (eqb o n) (inOrder os rs) (inOrder os ((n when t) ∷ rs))
 
 -- the place of a number in an order
-unfoldable pub placeIn : List ℕ → ℕ → ℕ
-placeIn [] n = 0
-placeIn (o ∷ os) n = cond (eqb o n) 0 (suc (placeIn os n))
+unfoldable pub rank : List ℕ → ℕ → ℕ
+rank [] n = 0
+rank (o ∷ os) n = cond (eqb o n) 0 (suc (rank os n))
 
 -- ---- the answer of a list
 

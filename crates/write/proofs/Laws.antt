@@ -24,7 +24,7 @@ use Rattle.machine.specs.Board.{Board, timerAt, withTimer, withPads, withLast}
 use Rattle.machine.specs.Sys.{driveOutputs}
 use Rattle.machine.specs.Deliver.{dividerOf, lineSettled, rebooked}
 use Rattle.machine.specs.Call.{Call, Outcome, write, served}
-use Rattle.machine.specs.Step.{step, refuseIf, astray, clockOn, register, present, written, counterAstray, followed}
+use Rattle.machine.specs.Step.{step, refuseIf, clockOn, register, present, written, counterAstray, followed}
 use Rattle.machine.specs.Refusals.{Refusal, refusals, inOrder, first}
 use Rattle.machine.specs.Refusals as Refusals
 use Rattle.state.specs.Board.{withInst}
