@@ -19,7 +19,7 @@ use Rattle.machine.specs.Sys as Sys
 use Rattle.machine.specs.Deliver.{dividerOf, delivered, mostEvents, dueBy}
 use Rattle.machine.specs.Call.{Setup, Question, reading, peeking, booked, next, level, volts, line, time, BookCall, pinSetting, outsideDrive, pinReset, writing, resetting, delivery, Call, setUp, clockTree, enable, clearPending, ask, lend, isDelivery, lent, bookCycle, Outcome, refused, served, isRefusal}
 use Rattle.machine.specs.Step.{step, withinLimits, treeSet, moved, cfgOf, pinsReset, changesOf, clockOn, written, followed, timerReset, deliveredTo, asking, told}
-use Rattle.machine.specs.Refusals.{Refusal, _when_, limits, noSuchIndex, ofQuestion, refusals, order, inOrder, rank, applies, holds, first, ending, most, lastAfter}
+use Rattle.machine.specs.Refusals.{Refusal, _when_, limits, noSuchIndex, ofQuestion, refusals, order, inOrder, among, rank, applies, holds, first, ending, most, lastAfter}
 use Rattle.machine.specs.Demand1.{Every, StampedAt}
 use Rattle.machine.proofs.TableLaws.{positive-same, limits-same, tree-same, away-same}
 use Rattle.machine.proofs.DeliverLaws.{Delivery, run-law, every-none, every-append, entry-stamped, entries-stamped, entry-few, entries-few}
@@ -102,10 +102,6 @@ first-holds ((m when false) ∷ rs) h = first-holds rs h
 
 -- ---- the first that applies stands before every other that does
 
-unfoldable pub among : ℕ → List ℕ → Bool
-among n [] = false
-among n (o ∷ os) = eqb o n || among n os
-
 -- no number twice
 unfoldable pub once : List ℕ → Bool
 once [] = true
@@ -115,7 +111,7 @@ same-number : (a b n : ℕ) → eqb a b ≡ true → eqb a n ≡ eqb b n
 same-number a b n e = ap (λ (k : ℕ). eqb k n) (eqb-true a b e)
 
 -- a number of a list in order is one of the order
-held-among : (os : List ℕ) (n : ℕ) (rs : List Refusal) → inOrder os rs ≡ true → holds n rs ≡ true → among n os ≡ true
+pub held-among : (os : List ℕ) (n : ℕ) (rs : List Refusal) → inOrder os rs ≡ true → holds n rs ≡ true → among n os ≡ true
 unfolding inOrder holds among
 held-among os n [] r h = absurd (no-both false h refl)
 held-among [] n (x ∷ rs) r h = absurd (no-both false r refl)

@@ -17,7 +17,7 @@ use Rattle.machine.specs.Deliver.{Turn, dividerOf, dueBy, delivered, aft
 use Rattle.machine.specs.Call.{Setup, Call, setUp, setPin, drivePin, deliver, isDelivery, isSetUp, bookCycle, Outcome, refused, isRefusal}
 use Rattle.real.specs.Real.{positive}
 use Rattle.machine.specs.Step.{step, withinLimits, deliveredTo, cfgOf}
-use Rattle.machine.specs.Refusals.{refusals, order, applies, first, ending, lastAfter}
+use Rattle.machine.specs.Refusals.{refusals, order, among, applies, first, ending, lastAfter}
 use Rattle.machine.specs.Demand1.{Unchanged, Numbered, Fits, Every, StampedAt, StampedBy, pinLevel, edgeOf, Traced, stamps, Works, reached, Demand1}
 use Rattle.machine.proofs.DeliverLaws.{every-none, turned-cycles}
 use Rattle.machine.proofs.NumberLaws.{Verdict, refuses, passes, no-both, answered, performed, step-given, performed-number, performed-last, performed-few, most-fits, delivered-law}
@@ -52,6 +52,7 @@ numbered b c = go (answer b c)
   where
     go : Answer b c → Numbered b c
     go (turned-away u f a k) = record {
+      listed = inr (inr (rw f (N.held-among order (first (refusals b c)) (refusals b c) (N.in-order b c) (N.first-holds (refusals b c) a))));
       ordered = N.in-order b c;
       first-given = λ h. f;
       first-refuses = λ h. u;
@@ -62,6 +63,7 @@ numbered b c = go (answer b c)
       backlog = λ h. absurd (no-both _ u (ap isRefusal h));
     }
     go (done a e z) = record {
+      listed = ends (N.ending-cases b c) (number-of e ∙ performed-number b c);
       ordered = N.in-order b c;
       first-given = λ h. absurd (no-both (applies (refusals b c)) h a);
       first-refuses = λ h. absurd (no-both (applies (refusals b c)) h a);
@@ -72,6 +74,11 @@ numbered b c = go (answer b c)
       backlog = λ h. ending-delivers (N.ending-cases b c) (sym (performed-number b c) ∙ sym (number-of e) ∙ h);
     }
       where
+        ends : (ending b c ≡ 0) ⊎ ((ending b c ≡ 8) × (isDelivery c ≡ true)) → step b c .number ≡ ending b c
+            → (step b c .number ≡ 0) ⊎ ((step b c .number ≡ 8) ⊎ (among (step b c .number) order ≡ true))
+        ends (inl z) h = inl (h ∙ z)
+        ends (inr z) h = inr (inl (h ∙ z .0))
+
         ending-delivers : (ending b c ≡ 0) ⊎ ((ending b c ≡ 8) × (isDelivery c ≡ true)) → ending b c ≡ 8 → isDelivery c ≡ true
         ending-delivers (inl z) h = absurd (omega arith)
         ending-delivers (inr z) h = z .1

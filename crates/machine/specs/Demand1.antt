@@ -17,7 +17,7 @@ use Rattle.machine.specs.Board.{Board, Pads, timerAt, gpioAt, firstBoard
 use Rattle.machine.specs.Deliver.{Turn, turnOf, dividerOf, dueBy}
 use Rattle.machine.specs.Call.{Setup, Call, setUp, setPin, drivePin, deliver, isDelivery, isSetUp, lent, bookCycle, Outcome, isRefusal}
 use Rattle.machine.specs.Step.{step, boardAfter}
-use Rattle.machine.specs.Refusals.{refusals, order, inOrder, rank, applies, first, holds, ending, most, lastAfter}
+use Rattle.machine.specs.Refusals.{refusals, order, inOrder, among, rank, applies, first, holds, ending, most, lastAfter}
 
 -- ---- the number
 
@@ -29,6 +29,8 @@ pub record Unchanged (b : Board) (o : Outcome) : Type 0 where
 
 -- "given exactly when": of every board and every call
 pub record Numbered (b : Board) (c : Call) : Type 0 where
+  -- the number is one of the table's
+  pub listed : (step b c .number ≡ 0) ⊎ ((step b c .number ≡ 8) ⊎ (among (step b c .number) order ≡ true))
   -- the table lists a call's numbers in the table's order; the first that applies is given, and it is a refusal
   pub ordered : inOrder order (refusals b c) ≡ true
   pub first-given : applies (refusals b c) ≡ true → step b c .number ≡ first (refusals b c)

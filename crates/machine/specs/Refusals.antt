@@ -160,6 +160,11 @@ inOrder os [] = true
 inOrder [] (r ∷ rs) = false
 inOrder (o ∷ os) ((n when t) ∷ rs) = cond (eqb o n) (inOrder os rs) (inOrder os ((n when t) ∷ rs))
 
+-- a number is one of a list
+unfoldable pub among : ℕ → List ℕ → Bool
+among n [] = false
+among n (o ∷ os) = eqb o n || among n os
+
 -- the place of a number in an order
 unfoldable pub rank : List ℕ → ℕ → ℕ
 rank [] n = 0
