@@ -22,7 +22,7 @@ use Rattle.regs.specs.Regs as R
 use Rattle.machine.specs.Board.{Board, Clocks, timerAt, noTimer}
 use Rattle.machine.specs.Deliver.{dividerOf, lineSettled, rebooked}
 use Rattle.machine.specs.Call.{write, Outcome}
-use Rattle.machine.specs.Step.{step, absent, oddSize, astray, bookFull, clockOn, written, register, counterAstray, followed}
+use Rattle.machine.specs.Step.{step, absent, oddSize, cycleAstray, bookFull, clockOn, written, register, counterAstray, followed}
 use Rattle.machine.specs.Sound.{Sound}
 use Rattle.machine.proofs.Routing.{either, by-test}
 use Rattle.machine.proofs.Reach.{inst-written}
@@ -188,7 +188,7 @@ module _ (b : Board) (i offset size value s places : ℕ) (sound : Sound b) wher
       all =
           by-test Then (absent i (b .counts .timers)) (λ e z. absurd (omega arith))
           (λ here. either Then (oddSize size) (λ z. absurd (omega arith))
-          (either Then (astray b s) (λ z. absurd (omega arith))
+          (either Then (cycleAstray b s) (λ z. absurd (omega arith))
           (either Then (bookFull 4 places) (λ z. absurd (omega arith))
           (either Then (clockOn b (timerAt b i))
           (either Then (counterAstray (register offset) (written b (timerAt b i) offset size value s .timer)) (λ z. absurd (omega arith))

@@ -7,32 +7,18 @@ use mathlib.Core.List.{List, [], _∷_, _++_}
 use lib.Dec.{eqb, ltb, leb}
 use borrow.Author.Tests.{eqb-true, ltb-true, leb-true, not-true}
 use lib.ListN.{getD, replicate}
-use lib.Ieee as Ieee
 use Rattle.rm0440.specs.Bits.{CEN, DIR, OPM}
-use Rattle.rm0440.specs.Registers.{mask, bits}
 use Rattle.rm0440.specs.Output as Out
-use Rattle.real.specs.Real.{positive}
-use Rattle.pins.specs.Pins.{sensedFrom, resolved}
-use Rattle.clk.specs.Clk.{timerDiv}
-use Rattle.nvic.specs.Nvic.{lineAt, onLine}
-use Rattle.periph.specs.Lane.{laneWrite}
-use Rattle.sig.specs.Signal.{isUart, timSignal}
-use Rattle.gpio.specs.Gpio as G
+use Rattle.sig.specs.Signal.{timSignal}
 use Rattle.gpio.specs.Gpio.{alternateMode}
-use Rattle.book.specs.Book.{Entry, entryOf, entriesOf}
+use Rattle.book.specs.Book.{Entry}
 use Rattle.tim.specs.Timer.{isOutput, ocMode, ccrAct}
-use Rattle.tim.specs.Change as C
-use Rattle.tim.specs.Count.{upFrom, downFrom, cntAt, synced}
-use Rattle.tim.specs.Next.{compares, consider, nextSteps, nextEvent}
-use Rattle.regs.specs.Regs as R
-use Rattle.machine.specs.Board.{Board, idleLevels, freshBoard, timerAt, gpioAt, routeOf, one}
-use Rattle.machine.specs.Sys as Sys
+use Rattle.machine.specs.Board.{Board, timerAt, gpioAt, routeOf, one}
 use Rattle.machine.specs.Sys.{driver}
-use Rattle.machine.specs.Deliver.{lineSettled, rebooked, turn, settled}
-use Rattle.machine.specs.Deliver as D
 use Rattle.machine.specs.Call.{Call, Setup, setUp, enable, setPin, write, Outcome}
-use Rattle.machine.specs.Step.{fresh, instsGood, entriesBelow, withinLimits, written, followed, step, run, boardAfter}
-use Rattle.accuracy.specs.Claim.{Pilot, Steady, Window, steadyCall, steady, covered, joined, levelAt, highs, board₀, board₁, timer₁, signal, firstUpdate, cyclesOf, periodOf, highOf}
+use Rattle.machine.specs.Step.{step, run, boardAfter}
+use Rattle.accuracy.specs.Claim.{Pilot, Steady, Window, steady, covered, joined, levelAt, highs, board₀, board₁, timer₁, signal, firstUpdate, cyclesOf, periodOf, highOf}
+use Rattle.accuracy.proofs.Computed.{computed}
 use Rattle.accuracy.proofs.Tests.{both-left, both-right}
 use Rattle.accuracy.proofs.Quick.{delivery, few, suffice, joined-last, steady-last, covered-last}
 
@@ -224,7 +210,7 @@ pub record Bench : Type 0 where
   pub none-meets : _≡_ {A = ℕ} (7 * 3) (0 * 10 + 3 * (10 - 3))
 
 pub bench-holds : Bench
-unfolding testsBy seenBy step withinLimits instsGood fresh entriesBelow positive freshBoard Ieee.ofBits Ieee.lt idleLevels isUart mask bits Out.ocref Out.atMatch sensedFrom resolved timerDiv lineAt onLine laneWrite G.sideOf G.updated G.refreshed entryOf entriesOf C.behind C.recomputed C.recomputedAfterUpdate C.ccFlag C.reloaded C.restarted C.ended C.updated C.matched C.compared C.output C.started C.resetState upFrom downFrom cntAt synced compares consider nextSteps nextEvent R.turned R.cr1Written R.arrWritten R.ccrWritten R.ccmrWritten R.ccerWritten R.channelWritten R.regWritten R.channelRead R.regRead R.astray lineSettled rebooked turn D.run settled written followed run boardAfter Sys.updatePin Sys.refreshPin Sys.selectAf Sys.sigOut Sys.driveChannel Sys.driveOutputs Sys.setPin joined steady steadyCall levelAt highs
+unfolding computed testsBy seenBy
 bench-holds = record {
   conditions = trial-tests bench;
   starts = refl;

@@ -5,21 +5,19 @@ use mathlib.Core.Path.{_≡_, refl}
 use mathlib.Core.Bool.{false}
 use mathlib.Core.List.{List, [], _∷_, map}
 use lib.IntN.{pos}
-use lib.Ieee as Ieee
 use lib.Ieee.{Float, fin}
-use Rattle.rm0440.specs.Registers.{mask, bits}
 use Rattle.tim.specs.declared.Timer.{Timer}
-use Rattle.tim.specs.Count.{upFrom, downFrom, cntAt, synced}
-use Rattle.tim.specs.Change.{behind, recomputed, started, stopped, retimed, resetState}
+use Rattle.tim.specs.Change.{retimed, resetState}
 use Rattle.tim.specs.Timer.{withRegs}
-use Rattle.regs.specs.Regs.{turned, cr1Written, cntWritten, arrWritten, regWritten, regRead}
-use Rattle.periph.specs.Lane.{laneRead, merged, laneWrite}
+use Rattle.regs.specs.Regs.{regWritten, regRead}
+use Rattle.periph.specs.Lane.{laneRead, laneWrite}
 use Rattle.sig.specs.Signal.{timSignal}
 use Rattle.real.specs.Real.{nearestTo}
-use Rattle.pins.specs.Pins.{blank, withExt, withLevel, sensedFrom, resolved}
+use Rattle.pins.specs.Pins.{blank, withExt, withLevel, resolved}
 use Rattle.pins.specs.declared.ExtDrive.the-variants as ext
 use Rattle.pins.proofs.Figures.{v5·0, v3·0, v2·0, v1·5}
 use Rattle.stepping.proofs.Figures.{inst, run, up, dn}
+use Rattle.accuracy.proofs.Computed.{computed}
 use Rattle.accuracy.proofs.Bench.{Bench, bench-holds}
 
 -- CNT of a timer at cycles
@@ -62,7 +60,7 @@ pub record Twelve : Type 0 where
   pub flags : regWritten (flagged 0x1f) 0x10 0xffff_fffe 0 1 .timer .regs .sr ≡ 0x1e
 
 pub twelve : Twelve
-unfolding mask bits regRead regWritten cr1Written cntWritten arrWritten turned started stopped recomputed behind retimed resetState synced cntAt upFrom downFrom laneRead merged laneWrite resolved sensedFrom Ieee.ofInt Ieee.ofBits Ieee.lt Ieee.le Ieee.mul
+unfolding computed
 twelve = record {
   upward = refl;
   slower = refl;

@@ -11,6 +11,7 @@ pub mod Own
 pub mod Others
 pub mod Accurate
 pub mod Quick
+pub mod Computed
 pub mod Bench
 pub mod Needed
 pub mod Figures

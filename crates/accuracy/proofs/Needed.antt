@@ -7,28 +7,9 @@ use mathlib.Core.List.{List, [], _∷_, map}
 use lib.Dec.{leb}
 use borrow.Author.Tests.{le-leb}
 use lib.ListN.{getD, replicate, set, drop}
-use lib.Ieee as Ieee
-use Rattle.rm0440.specs.Registers.{mask, bits}
-use Rattle.rm0440.specs.Output as Out
-use Rattle.real.specs.Real.{positive}
-use Rattle.pins.specs.Pins.{sensedFrom, resolved}
-use Rattle.clk.specs.Clk.{timerDiv}
-use Rattle.nvic.specs.Nvic.{lineAt, onLine}
-use Rattle.periph.specs.Lane.{laneWrite}
-use Rattle.sig.specs.Signal.{isUart}
-use Rattle.gpio.specs.Gpio as G
-use Rattle.book.specs.Book.{entryOf, entriesOf}
-use Rattle.tim.specs.Change as C
-use Rattle.tim.specs.Count.{upFrom, downFrom, cntAt, synced}
-use Rattle.tim.specs.Next.{compares, consider, nextSteps, nextEvent}
-use Rattle.regs.specs.Regs as R
-use Rattle.machine.specs.Board.{idleLevels, freshBoard}
-use Rattle.machine.specs.Sys as Sys
-use Rattle.machine.specs.Deliver.{lineSettled, rebooked, turn, settled}
-use Rattle.machine.specs.Deliver as D
-use Rattle.machine.specs.Call.{Call, setPin, write}
-use Rattle.machine.specs.Step.{fresh, instsGood, entriesBelow, withinLimits, written, followed, step, run, boardAfter}
-use Rattle.accuracy.specs.Claim.{Within, steadyCall, steady, joined, levelAt, highs, board₁, signal}
+use Rattle.machine.specs.Call.{Call, write}
+use Rattle.accuracy.specs.Claim.{Within, steady, board₁, signal}
+use Rattle.accuracy.proofs.Computed.{computed}
 use Rattle.accuracy.proofs.Tests.{never}
 use Rattle.accuracy.proofs.Quick.{suffice}
 use Rattle.accuracy.proofs.Bench.{wire, prepared, plain, usual, Trial, pilot, testsBy, tests, passed, Seen, seenBy, seen, board₂, entries, trial-tests, trial-seen}
@@ -95,7 +76,7 @@ all-by (c ∷ cs) e =
     rw (first, rest)
 
 pub cases-hold : map outcome cases ≡ map expected cases
-unfolding cases testsBy seenBy step withinLimits instsGood fresh entriesBelow positive freshBoard Ieee.ofBits Ieee.lt idleLevels isUart mask bits Out.ocref Out.atMatch sensedFrom resolved timerDiv lineAt onLine laneWrite G.sideOf G.updated G.refreshed entryOf entriesOf C.behind C.recomputed C.recomputedAfterUpdate C.ccFlag C.reloaded C.restarted C.ended C.updated C.matched C.compared C.output C.started C.resetState upFrom downFrom cntAt synced compares consider nextSteps nextEvent R.turned R.cr1Written R.arrWritten R.ccrWritten R.ccmrWritten R.ccerWritten R.channelWritten R.regWritten R.channelRead R.regRead R.astray lineSettled rebooked turn D.run settled written followed run boardAfter Sys.updatePin Sys.refreshPin Sys.selectAf Sys.sigOut Sys.driveChannel Sys.driveOutputs Sys.setPin joined steady steadyCall levelAt highs
+unfolding computed cases testsBy seenBy
 cases-hold = all-by cases refl
 
 -- the bound as a test, of the figures

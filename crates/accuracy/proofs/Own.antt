@@ -9,10 +9,10 @@ use Rattle.tim.specs.declared.Timer.{Timer}
 use Rattle.clk.specs.Clk.{timerDiv}
 use Rattle.book.specs.Book.{Entry}
 use Rattle.machine.specs.Board.{Board, timerAt, noTimer}
-use Rattle.machine.specs.Deliver.{dividerOf, mostEvents, delivered, settled, lineSettled, rebooked}
+use Rattle.machine.specs.Deliver.{dividerOf, mostEvents, delivered, afterDelivery, lineSettled, rebooked}
 use Rattle.machine.specs.Deliver as D
 use Rattle.machine.specs.Call.{deliver, Outcome, refused}
-use Rattle.machine.specs.Step.{step, absent, astray, bookFull, deliveredTo}
+use Rattle.machine.specs.Step.{step, absent, cycleAstray, bookFull, deliveredTo}
 use Rattle.machine.specs.Sound.{Sound}
 use Rattle.machine.proofs.Routing.{either}
 use Rattle.accuracy.proofs.Aim.{Aim, due}
@@ -30,7 +30,7 @@ module _ (a : Aim) (pin l₀ i from : ℕ) (b : Board) (es : List Entry) (sound 
   unfolding delivered
   ran =
       let div : dividerOf b (timerAt b i) ≡ a .div = ap (timerDiv (b .clocks .tree)) (k .told .fixed .bus) ∙ k .divider in
-      subst (λ (d : ℕ). Ran a pin l₀ cycle from es (D.run mostEvents cycle d places (timerAt b i) (b .pads))) (sym div)
+      subst (λ (d : ℕ). Ran a pin l₀ cycle from es (D.handled mostEvents cycle d places (timerAt b i) (b .pads))) (sym div)
       (run-told a pin l₀ mostEvents cycle places from (timerAt b i) (b .pads) es (k .told) (k .later))
 
   -- the pilot goes on, and answered 0 everything up to the cycle was handled
@@ -39,7 +39,7 @@ module _ (a : Aim) (pin l₀ i from : ℕ) (b : Board) (es : List Entry) (sound 
     pub full : o .number ≡ 0 → cycle < due (timerAt (o .board) i)
 
   served-to : Served (deliveredTo b i cycle places)
-  unfolding deliveredTo settled rebooked lineSettled
+  unfolding deliveredTo afterDelivery rebooked lineSettled
   served-to =
       let r = delivered b i cycle places in
       let e : getD (set (b .timers) i (r .timer)) i noTimer ≡ r .timer = getD-set-same (b .timers) i (r .timer) noTimer (omega (arith, sound .timers, sound .few-timers, k .here)) in
@@ -63,5 +63,5 @@ module _ (a : Aim) (pin l₀ i from : ℕ) (b : Board) (es : List Entry) (sound 
   unfolding step
   deliver-own =
       either Served (absent i (b .counts .timers)) (served-refused 2 (λ z. omega arith))
-      (either Served (astray b cycle) (served-refused 5 (λ z. omega arith))
+      (either Served (cycleAstray b cycle) (served-refused 5 (λ z. omega arith))
       (either Served (bookFull 4 places) (served-refused 6 (λ z. omega arith)) served-to))

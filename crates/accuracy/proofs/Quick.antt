@@ -12,27 +12,27 @@ use Rattle.tim.specs.declared.Timer.{Timer}
 use Rattle.tim.specs.Next.{nextEvent}
 use Rattle.book.specs.Book.{Entry}
 use Rattle.machine.specs.Board.{Board, Pads, timerAt, withLast}
-use Rattle.machine.specs.Deliver.{dividerOf, Run, stop, after, dueBy, turnOf, delivered, settled}
+use Rattle.machine.specs.Deliver.{dividerOf, Run, stop, after, dueBy, turnOf, delivered, afterDelivery}
 use Rattle.machine.specs.Deliver as D
 use Rattle.machine.specs.Call.{Call, deliver, Outcome, isRefusal}
-use Rattle.machine.specs.Step.{absent, astray, deliveredTo, step, run, boardAfter}
+use Rattle.machine.specs.Step.{absent, cycleAstray, deliveredTo, step, run, boardAfter}
 use Rattle.accuracy.proofs.Tests.{both-left, both-right}
 use Rattle.accuracy.specs.Claim.{steadyCall, steady, deliveredAt, covered, joined}
 
 -- with more events than it has, a delivery that was answered 0 goes as far
-fuel : (n k now div left : ℕ) (t : Timer) (p : Pads) → D.run n now div left t p .number ≡ 0 → D.run (n + k) now div left t p ≡ D.run n now div left t p
-unfolding D.run
+fuel : (n k now div left : ℕ) (t : Timer) (p : Pads) → D.handled n now div left t p .number ≡ 0 → D.handled (n + k) now div left t p ≡ D.handled n now div left t p
+unfolding D.handled
 fuel zero zero now div left t p e = refl
 fuel zero (suc k) now div left t p e = rw zero-add (go (dueBy (nextEvent t) now) refl e)
   where
-    go : (b : Bool) → dueBy (nextEvent t) now ≡ b → stop t p (cond b 8 0) .number ≡ 0 → D.run (suc k) now div left t p ≡ stop t p (cond b 8 0)
+    go : (b : Bool) → dueBy (nextEvent t) now ≡ b → stop t p (cond b 8 0) .number ≡ 0 → D.handled (suc k) now div left t p ≡ stop t p (cond b 8 0)
     go true q z = absurd (omega arith)
     go false q z = rw q
 fuel (suc n) k now div left t p e =
     let s = turnOf t p (nextEvent t) div in
     let left₁ = left - length (s .entries) in
     rw suc-add
-    (go (s .entries) (dueBy (nextEvent t) now) (ltb left 4) (D.run (n + k) now div left₁ (s .timer) (s .pads)) (D.run n now div left₁ (s .timer) (s .pads)) (fuel n k now div left₁ (s .timer) (s .pads)) e)
+    (go (s .entries) (dueBy (nextEvent t) now) (ltb left 4) (D.handled (n + k) now div left₁ (s .timer) (s .pads)) (D.handled n now div left₁ (s .timer) (s .pads)) (fuel n k now div left₁ (s .timer) (s .pads)) e)
   where
     go : (es : List Entry) (d l : Bool) (x y : Run) → (y .number ≡ 0 → x ≡ y) → cond d (cond l (stop t p 8) (after es y)) (stop t p 0) .number ≡ 0
         → cond d (cond l (stop t p 8) (after es x)) (stop t p 0) ≡ cond d (cond l (stop t p 8) (after es y)) (stop t p 0)
@@ -48,30 +48,30 @@ delivery cycle = deliver 0 cycle 100
 -- by at most 20 events
 abbrev pub few : Board → ℕ → Outcome
 few b cycle =
-    let r = D.run 20 cycle (dividerOf b (timerAt b 0)) 100 (timerAt b 0) (b .pads) in
-    record { number = r .number; value = r .events; entries = r .entries; board = withLast (settled b 0 cycle (r .timer) (r .pads)) cycle }
+    let r = D.handled 20 cycle (dividerOf b (timerAt b 0)) 100 (timerAt b 0) (b .pads) in
+    record { number = r .number; value = r .events; entries = r .entries; board = withLast (afterDelivery b 0 cycle (r .timer) (r .pads)) cycle }
 
 -- not refused, and answered 0
 abbrev pub suffice : Board → ℕ → Bool
-suffice b cycle = not (absent 0 (b .counts .timers)) && (not (astray b cycle) && eqb (few b cycle .number) 0)
+suffice b cycle = not (absent 0 (b .counts .timers)) && (not (cycleAstray b cycle) && eqb (few b cycle .number) 0)
 
 few-is : (b : Board) (cycle : ℕ) → suffice b cycle ≡ true → step b (delivery cycle) ≡ few b cycle
 unfolding step deliveredTo delivered
 few-is b cycle e =
     let x = absent 0 (b .counts .timers) in
-    let y = astray b cycle in
+    let y = cycleAstray b cycle in
     let z = eqb (few b cycle .number) 0 in
     let p : x ≡ false = not-true x (both-left (not x) (not y && z) e) in
     let q : y ≡ false = not-true y (both-left (not y) z (both-right (not x) (not y && z) e)) in
     let r : few b cycle .number ≡ 0 = eqb-true _ 0 (both-right (not y) z (both-right (not x) (not y && z) e)) in
     rw (p, q)
-    (ap (λ (r : Run). record { number = r .number; value = r .events; entries = r .entries; board = withLast (settled b 0 cycle (r .timer) (r .pads)) cycle })
+    (ap (λ (r : Run). record { number = r .number; value = r .events; entries = r .entries; board = withLast (afterDelivery b 0 cycle (r .timer) (r .pads)) cycle })
     (fuel 20 99981 cycle (dividerOf b (timerAt b 0)) 100 (timerAt b 0) (b .pads) r))
 
 few-served : (b : Board) (cycle : ℕ) → suffice b cycle ≡ true → step b (delivery cycle) .number ≡ 0
 few-served b cycle e =
     let x = absent 0 (b .counts .timers) in
-    let y = astray b cycle in
+    let y = cycleAstray b cycle in
     let z = eqb (few b cycle .number) 0 in
     ap (λ (o : Outcome). o .number) (few-is b cycle e) ∙ eqb-true _ 0 (both-right (not y) z (both-right (not x) (not y && z) e))
 

@@ -19,7 +19,7 @@ use Rattle.gpio.specs.Gpio.{bit}
 use Rattle.book.specs.Book.{Entry, entriesOf}
 use Rattle.machine.specs.Board.{Pads}
 use Rattle.machine.specs.Sys.{driver, driveOutputs}
-use Rattle.machine.specs.Deliver.{applied, countAt, turn, turnOf, Run, run, stop, dueBy}
+use Rattle.machine.specs.Deliver.{applied, countAt, turn, turnOf, Run, handled, stop, dueBy}
 use Rattle.machine.proofs.Routing.{by-test}
 use Rattle.accuracy.specs.Claim.{levelAt}
 use Rattle.accuracy.proofs.Wave.{wave}
@@ -102,8 +102,8 @@ module _ (a : Aim) (pin l₀ : ℕ) where
   stops : (now from : ℕ) (t : Timer) (p : Pads) (es : List Entry) (n : ℕ) → Told a pin l₀ t p es → from ≤ due t → (n ≡ 0 → leb (due t) now ≡ false) → Ran now from es (stop t p n)
   stops now from t p es n h le none = record { told = rw append-nil h; later = le; full = λ z. leb-false (due t) now (none z) }
 
-  pub run-told : (events now left from : ℕ) (t : Timer) (p : Pads) (es : List Entry) → Told a pin l₀ t p es → from ≤ due t → Ran now from es (run events now (a .div) left t p)
-  unfolding run
+  pub run-told : (events now left from : ℕ) (t : Timer) (p : Pads) (es : List Entry) → Told a pin l₀ t p es → from ≤ due t → Ran now from es (handled events now (a .div) left t p)
+  unfolding handled
   run-told zero now left from t p es h le = stops now from t p es _ h le (λ z. sym (due-by t now (h .fixed .running)) ∙ go (dueBy (nextEvent t) now) z)
     where
       go : (b : Bool) → _≡_ {A = ℕ} (cond b 8 0) 0 → b ≡ false

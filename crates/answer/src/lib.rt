@@ -5,7 +5,7 @@ ghost use mathlib.Core.List.{List, [], _∷_};
 ghost use lib.Ieee.{Float};
 ghost use Rattle.state.specs.View.{view};
 ghost use Rattle.book.specs.Book.{places, slices};
-ghost use Rattle.machine.specs.Step.{astray, oddSize};
+ghost use Rattle.machine.specs.Step.{cycleAstray, oddSize};
 ghost use Rattle.machine.specs.Refusals.{first, noSuchIndex, badSize, clockAstray, bookFull};
 ghost use Rattle.answer.specs.Promise.{answer};
 
@@ -54,7 +54,7 @@ pub fn odd_size(size: u32) -> bool
 
 // The cycle is above 2^62 or below that of the last changing call.
 pub fn is_astray(words: &[u64; WORDS], cycle: u64) -> bool
-    ensures { λ r. ⌜ ((x : List Float) → r ≡ astray (view (now (words .entry)) x) cycle) ⌝ }
+    ensures { λ r. ⌜ ((x : List Float) → r ≡ cycleAstray (view (now (words .entry)) x) cycle) ⌝ }
 {
     if cycle > 4611686018427387904 {
         return true;

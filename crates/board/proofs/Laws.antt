@@ -1,9 +1,8 @@
 -- Set-up answers with a number alone. Assumes nothing.
-use mathlib.Core.Path.{_≡_, refl, ap, sym, _∙_}
+use mathlib.Core.Path.{_≡_, refl, sym}
 use mathlib.Core.Bool.{not}
 use mathlib.Core.List.{List}
-use Prim.Native.Nat.{ℕ, _≤_}
-use native.Mathlib.Omega.{arith}
+use Prim.Native.Nat.{ℕ}
 use lib.Ieee.{Float}
 use lib.ListN.{length}
 use Rattle.real.specs.Real.{positive}
@@ -13,7 +12,6 @@ use Rattle.machine.specs.Step.{step, withinLimits}
 use Rattle.machine.proofs.NumberLaws.{refusal-nonzero, either}
 use Rattle.state.specs.View.{view}
 use Rattle.setup.specs.Setup.{Answered}
-use Rattle.answer.specs.declared.Answer.{Answer}
 use Rattle.answer.specs.Promise.{answer, Answers}
 
 pub record Plain (o : Outcome) : Type 0 where

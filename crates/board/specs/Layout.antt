@@ -3,8 +3,8 @@ use Prim.Native.Nat.{ℕ}
 use lib.Ieee.{Float}
 use Rattle.clk.specs.declared.ClockTree.{ClockTree}
 
-abbrev pub treeOf : Float → Float → ℕ → ℕ → ℕ → ℕ → ℕ → ℕ → ClockTree
-treeOf sys hclk p₁ p₂ p₃ p₄ t₁ t₂ = record {
+abbrev pub treeGiven : Float → Float → ℕ → ℕ → ℕ → ℕ → ℕ → ℕ → ClockTree
+treeGiven sys hclk p₁ p₂ p₃ p₄ t₁ t₂ = record {
   «sysclk_hz» = sys;
   «hclk_hz» = hclk;
   ppre1 = p₁;

@@ -12,10 +12,10 @@ ghost use Rattle.state.specs.View.{view};
 ghost use Rattle.machine.specs.Board.{firstBoard};
 ghost use Rattle.machine.specs.Call as C;
 ghost use Rattle.machine.specs.Step.{step};
-ghost use Rattle.pads.specs.Ext.{extOf};
+ghost use Rattle.pads.specs.Ext.{driveOf};
 ghost use Rattle.setup.specs.Setup.{setupOf};
 ghost use Rattle.answer.specs.Promise.{Answers};
-ghost use Rattle.board.specs.Layout.{treeOf};
+ghost use Rattle.board.specs.Layout.{treeGiven};
 
 // ---- the arrays
 
@@ -82,7 +82,7 @@ pub extern "C" fn board_set_clock_tree(
     tim2: u32,
     cycle: u64,
 ) -> Answer
-    ensures { λ r. ⌜ Answers (step (view (now (words .entry)) (now (reals .entry))) (C.clockTree (treeOf «sysclk_hz» «hclk_hz» ppre1 ppre2 ppre3 ppre4 tim1 tim2) cycle)) r (now (words .entry)) (now (words .exit)) (now (reals .entry)) (now (reals .exit)) ⌝ }
+    ensures { λ r. ⌜ Answers (step (view (now (words .entry)) (now (reals .entry))) (C.clockTree (treeGiven «sysclk_hz» «hclk_hz» ppre1 ppre2 ppre3 ppre4 tim1 tim2) cycle)) r (now (words .entry)) (now (words .exit)) (now (reals .entry)) (now (reals .exit)) ⌝ }
 {
     let t = ClockTree {
         sysclk_hz,
@@ -160,8 +160,8 @@ pub extern "C" fn board_drive_pin(
     levels: &mut [u8],
     cycles: &mut [u64],
 ) -> Answer
-    ensures { λ r. ⌜ Answers (step (view (now (words .entry)) (now (reals .entry))) (C.drivePin pin (extOf kind volts) cycle (places (slices (now (pins .entry)) (now (levels .entry)) (now (cycles .entry)))))) r (now (words .entry)) (now (words .exit)) (now (reals .entry)) (now (reals .exit)) ⌝ }
-    ensures { λ r. ⌜ Holds (step (view (now (words .entry)) (now (reals .entry))) (C.drivePin pin (extOf kind volts) cycle (places (slices (now (pins .entry)) (now (levels .entry)) (now (cycles .entry))))) .entries) (slices (now (pins .entry)) (now (levels .entry)) (now (cycles .entry))) (slices (now (pins .exit)) (now (levels .exit)) (now (cycles .exit))) (r .count) ⌝ }
+    ensures { λ r. ⌜ Answers (step (view (now (words .entry)) (now (reals .entry))) (C.drivePin pin (driveOf kind volts) cycle (places (slices (now (pins .entry)) (now (levels .entry)) (now (cycles .entry)))))) r (now (words .entry)) (now (words .exit)) (now (reals .entry)) (now (reals .exit)) ⌝ }
+    ensures { λ r. ⌜ Holds (step (view (now (words .entry)) (now (reals .entry))) (C.drivePin pin (driveOf kind volts) cycle (places (slices (now (pins .entry)) (now (levels .entry)) (now (cycles .entry))))) .entries) (slices (now (pins .entry)) (now (levels .entry)) (now (cycles .entry))) (slices (now (pins .exit)) (now (levels .exit)) (now (cycles .exit))) (r .count) ⌝ }
 {
     pads::drive_pin(words, reals, pins, levels, cycles, pin, kind, volts, cycle)
 }

@@ -6,7 +6,7 @@ use lib.Ieee as Ieee
 use lib.Ieee.{binary64}
 use Rattle.machine.specs.Call.{Call, setUp, clockTree, enable, setPin, drivePin, resetPins, read, write, peek, resetTimer, deliver, queryBooked, queryNext, queryLevel, queryVolts, queryLine, queryTime, clearPending}
 use Rattle.setup.specs.Setup.{setupOf}
-use Rattle.pads.specs.Ext.{extOf}
+use Rattle.pads.specs.Ext.{driveOf}
 use Rattle.encoding.specs.Encoding.{word, word64, real64, bookCall, changeCall, questionCall, callWith, sizeOf, lenOf, bookOf}
 use Rattle.calls.specs.Taken.{callsFrom, callsOf}
 
@@ -18,7 +18,7 @@ abbrev pub figures : List Figure
 figures =
     record { words = 2 ∷ 3 ∷ 1 ∷ 5 ∷ 7 ∷ 1 ∷ 4 ∷ 0 ∷ 12 ∷ 17 ∷ 8 ∷ []; calls = enable 3 1 ∷ resetPins 4294967303 4 ∷ queryNext ∷ clearPending 8 ∷ [] }
     ∷ record { words = 3 ∷ 1 ∷ 2 ∷ 3 ∷ 4 ∷ 5 ∷ 6 ∷ 7 ∷ 8 ∷ 0 ∷ 9 ∷ 0 ∷ 9 ∷ 1 ∷ 2 ∷ 0 ∷ 3 ∷ 0 ∷ []; calls = setPin 1 2 3 4 5 6 7 8 9 ∷ resetTimer 1 2 3 ∷ [] }
-    ∷ record { words = 4 ∷ 1 ∷ 2 ∷ 0 ∷ 0 ∷ 3 ∷ 0 ∷ 4 ∷ 0 ∷ []; calls = drivePin 1 (extOf 2 (Ieee.ofBits binary64 0)) 3 4 ∷ [] }
+    ∷ record { words = 4 ∷ 1 ∷ 2 ∷ 0 ∷ 0 ∷ 3 ∷ 0 ∷ 4 ∷ 0 ∷ []; calls = drivePin 1 (driveOf 2 (Ieee.ofBits binary64 0)) 3 4 ∷ [] }
     ∷ record { words = 7 ∷ 1 ∷ 2 ∷ 3 ∷ 4 ∷ 5 ∷ 0 ∷ 6 ∷ 0 ∷ 10 ∷ 1 ∷ 2 ∷ 0 ∷ 3 ∷ 0 ∷ []; calls = write 1 2 3 4 5 6 ∷ deliver 1 2 3 ∷ [] }
     ∷ record { words = 6 ∷ 1 ∷ 2 ∷ 3 ∷ 4 ∷ 0 ∷ 8 ∷ 1 ∷ 2 ∷ 3 ∷ 0 ∷ 16 ∷ 1 ∷ 0 ∷ []; calls = read 1 2 3 4 ∷ peek 1 2 3 ∷ queryTime 1 ∷ [] }
     ∷ record { words = 11 ∷ 1 ∷ 13 ∷ 2 ∷ 14 ∷ 3 ∷ 15 ∷ 4 ∷ 18 ∷ 12 ∷ []; calls = queryBooked 1 ∷ queryLevel 2 ∷ queryVolts 3 ∷ queryLine 4 ∷ [] }

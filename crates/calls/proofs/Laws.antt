@@ -1,14 +1,13 @@
 -- Calls as words. Assumes nothing.
 use mathlib.Core.Path.{_≡_, refl, sym, subst, _∙_}
-use mathlib.Core.Bool.{Bool, true, false, not, _&&_}
+use mathlib.Core.Bool.{Bool, true, false, not}
 use mathlib.Core.List.{List, [], _∷_}
-use Prim.Native.Nat.{ℕ, _+_, _-_, _*_, _%_, _/_, _≤_}
+use Prim.Native.Nat.{ℕ, _+_, _-_, _*_, _≤_}
 use native.Mathlib.Omega.{arith}
-use lib.Dec.{T, eqb}
-use lib.Ieee as Ieee
-use lib.Ieee.{Float, binary64}
+use lib.Dec.{eqb}
+use lib.Ieee.{Float}
 use lib.ListN.{length, take, drop}
-use borrow.Author.Tests.{eq-eqb, ne-eqb}
+use borrow.Author.Tests.{ne-eqb}
 use Rattle.real.specs.Real.{positive}
 use Rattle.clk.specs.declared.ClockTree.{ClockTree}
 use Rattle.book.specs.Book.{Entry, Holds, slices, Lent}
@@ -19,7 +18,7 @@ use Rattle.machine.specs.Call.{lent}
 use Rattle.machine.proofs.NumberLaws.{refusal-nonzero, either}
 use Rattle.machine.proofs.Numbers.{entries-fit}
 use Rattle.state.specs.View.{view}
-use Rattle.pads.specs.Ext.{extOf}
+use Rattle.pads.specs.Ext.{driveOf}
 use Rattle.setup.specs.Setup.{setupOf, Answered}
 use Rattle.answer.specs.declared.Answer.{Answer}
 use Rattle.answer.specs.Promise.{answer, Answers}
@@ -137,7 +136,7 @@ module _ (ns : List ℕ) where
     unfolding bookCall
     set-pin-is a b c d e f g h p q r s t u v w = rw (p, q, r, s, t, u, v, w)
 
-    pub drive-pin-is : (a b : ℕ) (v : Float) (c : ℕ) → a ≡ word ns 1 → b ≡ word ns 2 → v ≡ real64 ns 3 → c ≡ word64 ns 5 → drivePin a (extOf b v) c room ≡ bookCall 4 ns room
+    pub drive-pin-is : (a b : ℕ) (v : Float) (c : ℕ) → a ≡ word ns 1 → b ≡ word ns 2 → v ≡ real64 ns 3 → c ≡ word64 ns 5 → drivePin a (driveOf b v) c room ≡ bookCall 4 ns room
     unfolding bookCall
     drive-pin-is a b v c p q r s = rw (p, q, r, s)
 

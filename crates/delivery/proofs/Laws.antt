@@ -28,7 +28,7 @@ use Rattle.state.proofs.InRange.{bounded}
 use Rattle.state.specs.Board.{withBooking, withInst}
 use Rattle.machine.specs.Board.{Board, Pads, noTimer, timerAt, withPads, withTimer}
 use Rattle.machine.specs.Sys.{driveOutputs}
-use Rattle.machine.specs.Deliver.{applied, countAt, Turn, turn, turnOf, dueBy, Run, stop, after, run, mostEvents, dividerOf, bookingOf, lineSettled, rebooked, delivered, settled}
+use Rattle.machine.specs.Deliver.{applied, countAt, Turn, turn, turnOf, dueBy, Run, stop, after, handled as run, mostEvents, dividerOf, bookingOf, lineSettled, rebooked, delivered, afterDelivery}
 use Rattle.outputs.specs.Outputs.{Driven}
 use Rattle.delivery.specs.declared.Ran.{Ran}
 use Rattle.delivery.specs.Delivery.{OfFour, verdictOf, Ends, Delivers}
@@ -299,7 +299,7 @@ module _ (b b₁ b₂ b₃ b₄ : Board) (i cycle div places : ℕ) (t : Timer) 
       → Room (r .count) u
       → b₂ ≡ cond (eqb (r .events) 0) b₁ (withTimer b₁ i (withInst (r .timer) (timerAt b₁ i .inst))) → b₃ ≡ lineSettled (r .timer) b₂ → b₄ ≡ rebooked i (r .timer) cycle b₃
       → Delivers (delivered b i cycle places) b i cycle b₄ (record { number = r .number; events = r .events; count = r .count }) u u₁
-  unfolding settled
+  unfolding afterDelivery
   delivers u u₁ e′ x store′ line book′ =
       let o = delivered b i cycle places in
       let store : b₂ ≡ withTimer b₁ i (r .timer) =

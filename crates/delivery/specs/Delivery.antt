@@ -8,7 +8,7 @@ use Rattle.tim.specs.declared.Next.{Next}
 use Rattle.tim.specs.declared.Next.the-variants.{Update, Compare}
 use Rattle.book.specs.Book.{Book, puts, Holds, Lent}
 use Rattle.machine.specs.Board.{Board, withPads}
-use Rattle.machine.specs.Deliver.{Run, mostEvents, settled}
+use Rattle.machine.specs.Deliver.{Run, mostEvents, afterDelivery}
 use Rattle.delivery.specs.declared.Ran.{Ran}
 use Rattle.delivery.specs.declared.Delivered.{Delivered}
 
@@ -33,5 +33,5 @@ pub record Ends (o : Run) (b b₁ : Board) (k k₁ : Book) (r : Ran) : Type 0 wh
 pub record Delivers (d : Run) (b : Board) (i cycle : ℕ) (b₁ : Board) (r : Delivered) (u u₁ : Lent) : Type 0 where
   pub number : r .number ≡ d .number
   pub events : r .events ≡ d .events
-  pub board : b₁ ≡ settled b i cycle (d .timer) (d .pads)
+  pub board : b₁ ≡ afterDelivery b i cycle (d .timer) (d .pads)
   pub entries : Holds (d .entries) u u₁ (r .count)

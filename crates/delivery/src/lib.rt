@@ -20,7 +20,7 @@ ghost use Rattle.state.specs.View.{view};
 ghost use Rattle.state.specs.Board.{withInst};
 ghost use Rattle.machine.specs.Board.{timerAt, withTimer};
 ghost use Rattle.machine.specs.Sys.{driveOutputs};
-ghost use Rattle.machine.specs.Deliver.{applied, countAt, run, mostEvents, delivered};
+ghost use Rattle.machine.specs.Deliver.{applied, countAt, handled, mostEvents, delivered};
 ghost use Rattle.outputs.specs.Outputs.{Driven};
 ghost use Rattle.delivery.specs.Delivery.{OfFour, verdictOf, Ends, Delivers};
 
@@ -230,7 +230,7 @@ fn run(
     cycle: u64,
 ) -> Ran
     requires { ⌜ (Fit timer) × (1 ≤ div) × (div ≤ 8192) × (cycle < 9223372036854775808) ⌝ }
-    ensures { λ r. ⌜ Ends (run mostEvents cycle div (places (slices (now (pins .entry)) (now (levels .entry)) (now (cycles .entry)))) timer (view (now (words .entry)) (now (reals .entry)) .pads)) (view (now (words .entry)) (now (reals .entry))) (view (now (words .exit)) (now (reals .exit))) (book (slices (now (pins .entry)) (now (levels .entry)) (now (cycles .entry))) 0) (book (slices (now (pins .exit)) (now (levels .exit)) (now (cycles .exit))) (r .count)) r ⌝ }
+    ensures { λ r. ⌜ Ends (handled mostEvents cycle div (places (slices (now (pins .entry)) (now (levels .entry)) (now (cycles .entry)))) timer (view (now (words .entry)) (now (reals .entry)) .pads)) (view (now (words .entry)) (now (reals .entry))) (view (now (words .exit)) (now (reals .exit))) (book (slices (now (pins .entry)) (now (levels .entry)) (now (cycles .entry))) 0) (book (slices (now (pins .exit)) (now (levels .exit)) (now (cycles .exit))) (r .count)) r ⌝ }
     ensures { λ r. ⌜ (Fit (r .timer)) × (r .due ≡ nextEvent (r .timer)) × (Room (r .count) (slices (now (pins .entry)) (now (levels .entry)) (now (cycles .entry)))) × (r .count ≤ 400004) ⌝ }
 {
     let room = book::room(pins, levels, cycles);

@@ -8,7 +8,7 @@ use lib.Ieee as Ieee
 use lib.Ieee.{Float, binary64}
 use lib.ListN.{getD, length, take, drop}
 use Rattle.clk.specs.declared.ClockTree.{ClockTree}
-use Rattle.pads.specs.Ext.{extOf}
+use Rattle.pads.specs.Ext.{driveOf}
 use Rattle.setup.specs.Setup.{setupOf}
 use Rattle.machine.specs.Call.{Call, Setup, setUp, clockTree, enable, setPin, drivePin, resetPins, read, write, peek, resetTimer, deliver, queryBooked, queryNext, queryLevel, queryVolts, queryLine, queryTime, clearPending}
 
@@ -50,7 +50,7 @@ hasBook op = eqb op 3 || (eqb op 4 || (eqb op 5 || (eqb op 7 || (eqb op 9 || eqb
 unfoldable pub bookCall : ℕ → List ℕ → ℕ → Call
 bookCall op ns places =
     cond (eqb op 3) (setPin (word ns 1) (word ns 2) (word ns 3) (word ns 4) (word ns 5) (word ns 6) (word ns 7) (word64 ns 8) places)
-    (cond (eqb op 4) (drivePin (word ns 1) (extOf (word ns 2) (real64 ns 3)) (word64 ns 5) places)
+    (cond (eqb op 4) (drivePin (word ns 1) (driveOf (word ns 2) (real64 ns 3)) (word64 ns 5) places)
     (cond (eqb op 5) (resetPins (word64 ns 1) places)
     (cond (eqb op 7) (write (word ns 1) (word ns 2) (word ns 3) (word ns 4) (word64 ns 5) places)
     (cond (eqb op 9) (resetTimer (word ns 1) (word64 ns 2) places)

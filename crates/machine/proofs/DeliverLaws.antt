@@ -1,7 +1,7 @@
 -- What holds of every delivery: its answer, its events, its entries. Assumes nothing.
 use mathlib.Core.Path.{_≡_, refl, ap, _∙_}
 use mathlib.Core.Bool.{Bool, true, false, cond}
-use mathlib.Core.List.{List, [], _∷_, _++_, map}
+use mathlib.Core.List.{List, [], _∷_, _++_}
 use Prim.Native.Nat.{ℕ, zero, suc, _-_, _/_, _≤_, min}
 use native.Mathlib.Numerals.{add-one}
 use native.Mathlib.Omega.{arith}
@@ -17,7 +17,7 @@ use Rattle.gpio.specs.declared.Change.{Change}
 use Rattle.gpio.specs.declared.Change.the-variants.{Same, Level}
 use Rattle.book.specs.Book.{Changes, Entry, entryOf, entriesOf}
 use Rattle.machine.specs.Board.{Pads}
-use Rattle.machine.specs.Deliver.{Turn, turn, turnOf, Run, run, stop, after, dueBy}
+use Rattle.machine.specs.Deliver.{Turn, turn, turnOf, Run, handled, stop, after, dueBy}
 use Rattle.machine.specs.Demand1.{Every, StampedAt, StampedBy, afterEvents, AllDue, dueCycle, dueCycles, stamps}
 
 -- ---- entries
@@ -154,17 +154,17 @@ after-law most now div left t p s r q d l f st h = record {
   stamped = every-append (StampedBy now) (s .entries) (r .entries) st (h .stamped);
 }
 
-pub run-law : (most now div left : ℕ) (t : Timer) (p : Pads) → Delivery most now div left t p (run most now div left t p)
-unfolding run
+pub run-law : (most now div left : ℕ) (t : Timer) (p : Pads) → Delivery most now div left t p (handled most now div left t p)
+unfolding handled
 run-law zero now div left t p = stop-law zero now div left t p (dueBy (nextEvent t) now) refl (λ e. omega arith)
 run-law (suc most) now div left t p =
     let s = turnOf t p (nextEvent t) div in
     go (dueBy (nextEvent t) now) refl (ltb left 4) refl (run-law most now div (left - length (s .entries)) (s .timer) (s .pads))
   where
     go : (d : Bool) → dueBy (nextEvent t) now ≡ d → (l : Bool) → ltb left 4 ≡ l
-        → (let s = turnOf t p (nextEvent t) div in Delivery most now div (left - length (s .entries)) (s .timer) (s .pads) (run most now div (left - length (s .entries)) (s .timer) (s .pads)))
+        → (let s = turnOf t p (nextEvent t) div in Delivery most now div (left - length (s .entries)) (s .timer) (s .pads) (handled most now div (left - length (s .entries)) (s .timer) (s .pads)))
         → Delivery (suc most) now div left t p
-        (cond d (cond l (stop t p 8) (let s = turnOf t p (nextEvent t) div in after (s .entries) (run most now div (left - length (s .entries)) (s .timer) (s .pads)))) (stop t p 0))
+        (cond d (cond l (stop t p 8) (let s = turnOf t p (nextEvent t) div in after (s .entries) (handled most now div (left - length (s .entries)) (s .timer) (s .pads)))) (stop t p 0))
     go false d l e h = stop-law (suc most) now div left t p false d (λ z. let f : _≡_ {A = ℕ} 0 1 = cc in omega arith)
     go true d true e h = stop-law (suc most) now div left t p true d (λ z. omega (arith, ltb-true left 4 e))
     go true d false e h =

@@ -1,4 +1,5 @@
 pub mod Numbers
+pub mod TableLaws
 pub mod NumberLaws
 pub mod DeliverLaws
 pub mod PinLaws

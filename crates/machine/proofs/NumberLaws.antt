@@ -5,27 +5,23 @@ use mathlib.Core.List.{List, [], _∷_}
 use mathlib.Core.Logic.{_⊎_, inl, inr}
 use Prim.Native.Nat.{ℕ, zero, suc, _+_, _≤_, _<_}
 use native.Mathlib.Omega.{arith}
-use lib.Dec.{eqb, ltb, leb, lit≤}
+use lib.Dec.{eqb, leb, lit≤}
 use lib.ListN.{length, set, length-append}
-use borrow.Author.Tests.{ltb-true, ltb-false, leb-true, eqb-true, eqb-false, eq-eqb, leb-false, not-true, not-false}
+use borrow.Author.Tests.{ltb-false, eqb-true, eqb-false, eq-eqb, leb-false, not-true, not-false}
 use Rattle.regs.specs.declared.Written.{Written}
 use Rattle.tim.specs.Next.{nextEvent}
-use Rattle.regs.specs.Regs as R
 use Rattle.tim.specs.Change.{resetState}
-use Rattle.periph.specs.Lane.{laneRead}
-use Rattle.real.specs.Real.{bitsOf}
-use Rattle.pins.specs.Clock as Clock
 use Rattle.nvic.specs.Nvic as N
-use Rattle.scheduler.specs.Booking as S
 use Rattle.gpio.specs.declared.Change.{Change}
 use Rattle.book.specs.Book.{Entry, entryOf}
-use Rattle.machine.specs.Board.{Board, timerAt, gpioAt, withClocks, withNvic, withLast, freshBoard}
+use Rattle.machine.specs.Board.{Board, timerAt, withClocks, withNvic, withLast, freshBoard}
 use Rattle.machine.specs.Sys as Sys
 use Rattle.machine.specs.Deliver.{dividerOf, delivered, mostEvents, dueBy}
 use Rattle.machine.specs.Call.{Setup, Question, reading, peeking, booked, next, level, volts, line, time, BookCall, pinSetting, outsideDrive, pinReset, writing, resetting, delivery, Call, setUp, clockTree, enable, clearPending, ask, lend, isDelivery, lent, bookCycle, Outcome, refused, served, isRefusal}
 use Rattle.machine.specs.Step.{step, withinLimits, treeSet, moved, cfgOf, pinsReset, changesOf, clockOn, written, followed, timerReset, deliveredTo, asking, told}
-use Rattle.machine.specs.Refusals.{Refusal, _when_, noSuchIndex, ofQuestion, refusals, order, inOrder, placeIn, applies, holds, first, ending, most, lastAfter}
+use Rattle.machine.specs.Refusals.{Refusal, _when_, limits, noSuchIndex, ofQuestion, refusals, order, inOrder, among, rank, applies, holds, first, ending, most, lastAfter}
 use Rattle.machine.specs.Demand1.{Every, StampedAt}
+use Rattle.machine.proofs.TableLaws.{positive-same, limits-same, tree-same, away-same}
 use Rattle.machine.proofs.DeliverLaws.{Delivery, run-law, every-none, every-append, entry-stamped, entries-stamped, entry-few, entries-few}
 
 -- ---- refusals in order, then what follows
@@ -106,10 +102,6 @@ first-holds ((m when false) ∷ rs) h = first-holds rs h
 
 -- ---- the first that applies stands before every other that does
 
-unfoldable pub among : ℕ → List ℕ → Bool
-among n [] = false
-among n (o ∷ os) = eqb o n || among n os
-
 -- no number twice
 unfoldable pub once : List ℕ → Bool
 once [] = true
@@ -119,7 +111,7 @@ same-number : (a b n : ℕ) → eqb a b ≡ true → eqb a n ≡ eqb b n
 same-number a b n e = ap (λ (k : ℕ). eqb k n) (eqb-true a b e)
 
 -- a number of a list in order is one of the order
-held-among : (os : List ℕ) (n : ℕ) (rs : List Refusal) → inOrder os rs ≡ true → holds n rs ≡ true → among n os ≡ true
+pub held-among : (os : List ℕ) (n : ℕ) (rs : List Refusal) → inOrder os rs ≡ true → holds n rs ≡ true → among n os ≡ true
 unfolding inOrder holds among
 held-among os n [] r h = absurd (no-both false h refl)
 held-among [] n (x ∷ rs) r h = absurd (no-both false r refl)
@@ -138,34 +130,34 @@ held-among (o ∷ os) n ((m when t) ∷ rs) r h =
     go false p false q r h i j = j r h
 
 -- a number further on in the order stands behind
-further : (o n f : ℕ) (os : List ℕ) → once (o ∷ os) ≡ true → among n os ≡ true → placeIn os f ≤ placeIn os n → placeIn (o ∷ os) f ≤ placeIn (o ∷ os) n
-unfolding once placeIn
+further : (o n f : ℕ) (os : List ℕ) → once (o ∷ os) ≡ true → among n os ≡ true → rank os f ≤ rank os n → rank (o ∷ os) f ≤ rank (o ∷ os) n
+unfolding once rank
 further o n f os a h l = go (eqb o n) refl (eqb o f) (not-true (among o os) (both (not (among o os)) (once os) a .0))
   where
-    go : (e : Bool) → eqb o n ≡ e → (g : Bool) → among o os ≡ false → cond g 0 (suc (placeIn os f)) ≤ cond e 0 (suc (placeIn os n))
+    go : (e : Bool) → eqb o n ≡ e → (g : Bool) → among o os ≡ false → cond g 0 (suc (rank os f)) ≤ cond e 0 (suc (rank os n))
     go true e g z = absurd (no-both (among n os) h (ap (λ (k : ℕ). among k os) (sym (eqb-true o n e)) ∙ z))
     go false e true z = omega arith
     go false e false z = omega arith
 
 pub first-before : (os : List ℕ) (n : ℕ) (rs : List Refusal) → once os ≡ true → inOrder os rs ≡ true → holds n rs ≡ true
-    → placeIn os (first rs) ≤ placeIn os n
-unfolding once inOrder holds first placeIn
+    → rank os (first rs) ≤ rank os n
+unfolding once inOrder holds first rank
 first-before os n [] a r h = absurd (no-both false h refl)
 first-before [] n (x ∷ rs) a r h = absurd (no-both false r refl)
 first-before (o ∷ os) n ((m when true) ∷ rs) a r h = go (eqb o m) refl r (first-before os n ((m when true) ∷ rs) (both (not (among o os)) (once os) a .1))
   where
     go : (e : Bool) → eqb o m ≡ e → cond e (inOrder os rs) (inOrder os ((m when true) ∷ rs)) ≡ true
-        → (inOrder os ((m when true) ∷ rs) ≡ true → holds n ((m when true) ∷ rs) ≡ true → placeIn os m ≤ placeIn os n)
-        → cond (eqb o m) 0 (suc (placeIn os m)) ≤ cond (eqb o n) 0 (suc (placeIn os n))
+        → (inOrder os ((m when true) ∷ rs) ≡ true → holds n ((m when true) ∷ rs) ≡ true → rank os m ≤ rank os n)
+        → cond (eqb o m) 0 (suc (rank os m)) ≤ cond (eqb o n) 0 (suc (rank os n))
     go true e r i = rw e (omega arith)
     go false e r i = further o n m os a (held-among os n ((m when true) ∷ rs) r h) (i r h)
 first-before (o ∷ os) n ((m when false) ∷ rs) a r h =
     go (eqb o m) refl r (first-before os n rs (both (not (among o os)) (once os) a .1)) (first-before os n ((m when false) ∷ rs) (both (not (among o os)) (once os) a .1))
   where
     go : (e : Bool) → eqb o m ≡ e → cond e (inOrder os rs) (inOrder os ((m when false) ∷ rs)) ≡ true
-        → (inOrder os rs ≡ true → holds n rs ≡ true → placeIn os (first rs) ≤ placeIn os n)
-        → (inOrder os ((m when false) ∷ rs) ≡ true → holds n ((m when false) ∷ rs) ≡ true → placeIn os (first rs) ≤ placeIn os n)
-        → cond (eqb o (first rs)) 0 (suc (placeIn os (first rs))) ≤ cond (eqb o n) 0 (suc (placeIn os n))
+        → (inOrder os rs ≡ true → holds n rs ≡ true → rank os (first rs) ≤ rank os n)
+        → (inOrder os ((m when false) ∷ rs) ≡ true → holds n ((m when false) ∷ rs) ≡ true → rank os (first rs) ≤ rank os n)
+        → cond (eqb o (first rs)) 0 (suc (rank os (first rs))) ≤ cond (eqb o n) 0 (suc (rank os n))
     go true e r i j = further o n (first rs) os a (held-among os n rs r h) (i r h)
     go false e r i j = further o n (first rs) os a (held-among os n ((m when false) ∷ rs) r h) (j r h)
 
@@ -210,17 +202,25 @@ asked-given b (volts pin) o = refl
 asked-given b (line irq) o = refl
 asked-given b (time cycle) o = refl
 
+-- equal tests refuse alike
+by-test : (n : ℕ) (b : Board) (o : Outcome) {t u : Bool} → t ≡ u → cond (not t) (refused n b) o ≡ cond (not u) (refused n b) o
+by-test n b o e = rw e refl
+
+by-tests : (n m : ℕ) (b : Board) (o : Outcome) {t u v w : Bool} → t ≡ u → v ≡ w
+    → cond (not t) (refused n b) (cond (not v) (refused m b) o) ≡ cond (not u) (refused n b) (cond (not w) (refused m b) o)
+by-tests n m b o e f = rw (e, f) refl
+
 pub step-given : (b : Board) (c : Call) → step b c ≡ given (refusals b c) b (performed b c)
 unfolding step given refusals performed
-step-given b (setUp s) = refl
-step-given b (clockTree t cycle) = refl
+step-given b (setUp s) = by-tests 1 4 b _ (sym (limits-same s)) (sym (positive-same (s .hz)))
+step-given b (clockTree t cycle) = by-test 4 b _ (sym (tree-same t))
 step-given b (enable word value) = refl
 step-given b (clearPending irq) = refl
 step-given b (ask q) = asked-given b q (served (told b q) b)
 step-given b (lend (pinSetting pin mode openDrain out pullup pulldown function) cycle places) = refl
 step-given b (lend (outsideDrive pin e) cycle places) = refl
 step-given b (lend pinReset cycle places) = refl
-step-given b (lend (writing timer offset size value) cycle places) = rw gated refl
+step-given b (lend (writing timer offset size value) cycle places) = rw (gated, away-same) refl
 step-given b (lend (resetting timer) cycle places) = refl
 step-given b (lend (delivery timer) cycle places) = refl
 
@@ -364,7 +364,7 @@ here i n rs h = leb-false n i (head-free 2 (leb n i) rs h)
 
 pub set-up-within : (b : Board) (s : Setup) → applies (refusals b (setUp s)) ≡ false → withinLimits s ≡ true
 unfolding refusals
-set-up-within b s h = not-false (withinLimits s) (head-free 1 (not (withinLimits s)) _ h)
+set-up-within b s h = sym (limits-same s) ∙ not-false (limits s) (head-free 1 (not (limits s)) _ h)
 
 -- nor the second, third, fourth
 third : (n₁ n₂ n₃ : ℕ) (t₁ t₂ t₃ : Bool) (rs : List Refusal) → applies ((n₁ when t₁) ∷ (n₂ when t₂) ∷ (n₃ when t₃) ∷ rs) ≡ false → t₃ ≡ false

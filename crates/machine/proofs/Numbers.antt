@@ -1,24 +1,23 @@
 -- The numbers of document 01's table, and what every answer keeps: the statements of specs/Demand1.antt, proved. Assumes nothing.
 use mathlib.Core.Path.{_≡_, refl, ap, sym, _∙_}
 use mathlib.Core.Bool.{Bool, true, false, cond, not}
-use mathlib.Core.List.{List, []}
+use mathlib.Core.List.{List}
 use mathlib.Core.Logic.{_⊎_, inl, inr}
-use Prim.Native.Nat.{ℕ, _/_, _≤_, _<_, min}
+use Prim.Native.Nat.{ℕ, _<_}
 use native.Mathlib.Omega.{arith}
-use lib.Dec.{leb}
 use lib.ListN.{length}
 use lib.Seq.{getD-set-same}
-use borrow.Author.Tests.{leb-false, eq-eqb}
+use borrow.Author.Tests.{eq-eqb}
 use Rattle.tim.specs.declared.Timer.{Timer}
 use Rattle.tim.specs.Next.{nextEvent}
 use Rattle.pins.specs.declared.ExtDrive.{ExtDrive}
 use Rattle.book.specs.Book.{Entry}
 use Rattle.machine.specs.Board.{Board, timerAt, noTimer}
-use Rattle.machine.specs.Deliver.{Turn, dividerOf, dueBy, delivered, settled, rebooked, lineSettled}
+use Rattle.machine.specs.Deliver.{Turn, dividerOf, dueBy, delivered, afterDelivery, rebooked, lineSettled}
 use Rattle.machine.specs.Call.{Setup, Call, setUp, setPin, drivePin, deliver, isDelivery, isSetUp, bookCycle, Outcome, refused, isRefusal}
 use Rattle.real.specs.Real.{positive}
 use Rattle.machine.specs.Step.{step, withinLimits, deliveredTo, cfgOf}
-use Rattle.machine.specs.Refusals.{refusals, order, applies, first, ending, lastAfter}
+use Rattle.machine.specs.Refusals.{refusals, order, among, applies, first, ending, lastAfter}
 use Rattle.machine.specs.Demand1.{Unchanged, Numbered, Fits, Every, StampedAt, StampedBy, pinLevel, edgeOf, Traced, stamps, Works, reached, Demand1}
 use Rattle.machine.proofs.DeliverLaws.{every-none, turned-cycles}
 use Rattle.machine.proofs.NumberLaws.{Verdict, refuses, passes, no-both, answered, performed, step-given, performed-number, performed-last, performed-few, most-fits, delivered-law}
@@ -53,6 +52,7 @@ numbered b c = go (answer b c)
   where
     go : Answer b c → Numbered b c
     go (turned-away u f a k) = record {
+      listed = inr (inr (rw f (N.held-among order (first (refusals b c)) (refusals b c) (N.in-order b c) (N.first-holds (refusals b c) a))));
       ordered = N.in-order b c;
       first-given = λ h. f;
       first-refuses = λ h. u;
@@ -63,6 +63,7 @@ numbered b c = go (answer b c)
       backlog = λ h. absurd (no-both _ u (ap isRefusal h));
     }
     go (done a e z) = record {
+      listed = ends (N.ending-cases b c) (number-of e ∙ performed-number b c);
       ordered = N.in-order b c;
       first-given = λ h. absurd (no-both (applies (refusals b c)) h a);
       first-refuses = λ h. absurd (no-both (applies (refusals b c)) h a);
@@ -73,6 +74,11 @@ numbered b c = go (answer b c)
       backlog = λ h. ending-delivers (N.ending-cases b c) (sym (performed-number b c) ∙ sym (number-of e) ∙ h);
     }
       where
+        ends : (ending b c ≡ 0) ⊎ ((ending b c ≡ 8) × (isDelivery c ≡ true)) → step b c .number ≡ ending b c
+            → (step b c .number ≡ 0) ⊎ ((step b c .number ≡ 8) ⊎ (among (step b c .number) order ≡ true))
+        ends (inl z) h = inl (h ∙ z)
+        ends (inr z) h = inr (inl (h ∙ z .0))
+
         ending-delivers : (ending b c ≡ 0) ⊎ ((ending b c ≡ 8) × (isDelivery c ≡ true)) → ending b c ≡ 8 → isDelivery c ≡ true
         ending-delivers (inl z) h = absurd (omega arith)
         ending-delivers (inr z) h = z .1
@@ -128,7 +134,7 @@ eight-or-not true n h = (λ z. absurd (omega arith), λ z. refl)
 eight-or-not false n h = (λ z. refl, λ z. absurd (omega arith))
 
 delivered-works : (b : Board) (i cycle places : ℕ) → i < length (b .timers) → Works b i cycle places (deliveredTo b i cycle places)
-unfolding deliveredTo settled rebooked lineSettled
+unfolding deliveredTo afterDelivery rebooked lineSettled
 delivered-works b i cycle places h =
     let r = delivered b i cycle places in
     let d = delivered-law b i cycle places in

@@ -14,7 +14,7 @@ use Rattle.gpio.specs.declared.Change.the-variants.{Same, Level}
 use Rattle.gpio.specs.Gpio.{updated, refreshed, configured, connected, signalOf, withMcu, sideOf}
 use Rattle.pins.specs.Pins.{resolved}
 use lib.Ieee.{Float}
-use Rattle.book.specs.Book.{Entry, entryOf}
+use Rattle.book.specs.Book.{entryOf}
 use Rattle.machine.specs.Board.{Pads, gpioAt, routeOf, levelOf, withGpio, withRoute, noPin, noGpio}
 use Rattle.machine.specs.Demand1.{edgeOf, pinLevel}
 use Rattle.machine.specs.Sys.{updatePin, refreshPin, selectAf, selected, leave, take, setPin, drivePin}

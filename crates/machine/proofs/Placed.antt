@@ -1,7 +1,7 @@
 -- What the theorems ask of a board, and that every list of calls from the first board leads to such a board: a place for each timer and each pin, and
 -- routes that lead to pins. Assumes nothing.
 use mathlib.Core.Path.{_≡_, refl, ap, _∙_}
-use mathlib.Core.Bool.{Bool, true, false, cond, not, _&&_}
+use mathlib.Core.Bool.{Bool, true, false, cond, _&&_}
 use mathlib.Core.List.{List, [], _∷_}
 use mathlib.Core.Logic.{_⊎_, inl, inr}
 use Prim.Native.Nat.{ℕ, zero, suc, _+_, _*_, _≤_, _<_}
@@ -9,7 +9,7 @@ use native.Mathlib.Omega.{arith}
 use lib.Dec.{eqb, leb, lit≤}
 use lib.Ieee.{Float}
 use lib.ListN.{length, set, getD, replicate, length-set, length-append, length-map, length-replicate}
-use borrow.Author.Tests.{leb-true, leb-false, not-false}
+use borrow.Author.Tests.{leb-true}
 use Rattle.tim.specs.declared.Timer.{Timer}
 use Rattle.tim.specs.declared.Inst.{Inst}
 use Rattle.regs.specs.declared.Written.{Written}
@@ -24,7 +24,7 @@ use Rattle.pins.specs.declared.ExtDrive.{ExtDrive}
 use Rattle.gpio.specs.Gpio.{updated, configured, connected}
 use Rattle.machine.specs.Board.{Board, Pads, timerAt, gpioAt, routeOf, withGpio, withRoute, withPads, withTimer, withClocks, withLast, noPin, plainCfg, freshBoard, firstBoard, one}
 use Rattle.machine.specs.Sys as Sys
-use Rattle.machine.specs.Deliver.{dividerOf, delivered, settled, rebooked, lineSettled}
+use Rattle.machine.specs.Deliver.{dividerOf, delivered, afterDelivery, rebooked, lineSettled}
 use Rattle.machine.specs.Call.{Setup, pinSetting, outsideDrive, pinReset, writing, resetting, delivery, Call, setUp, clockTree, enable, clearPending, ask, lend, Outcome}
 use Rattle.machine.specs.Step.{step, boardAfter, withinLimits, instsGood, entriesBelow, timerRetimed, allRetimed, treeSet, cfgOf, clockOn, written, followed, timerReset, deliveredTo}
 use Rattle.machine.specs.Refusals.{refusals, applies}
@@ -189,7 +189,7 @@ followed-placed b i cycle w h =
     record { timers = z .timers; pins = z .pins; wired = z .wired }
 
 performed-placed : (b : Board) (c : Call) → Placed b → applies (refusals b c) ≡ false → Placed (performed b c .board)
-unfolding performed refusals timerReset deliveredTo settled rebooked lineSettled
+unfolding performed refusals timerReset deliveredTo afterDelivery rebooked lineSettled
 performed-placed b (setUp u) h a =
     fresh-placed (u .hz) (u .vcc) (u .pins) (u .lines) (u .timers) (u .table) (within-pins u (set-up-within b u a))
 performed-placed b (clockTree t cycle) h a = let p = tree-placed b t cycle h in record { timers = p .timers; pins = p .pins; wired = p .wired }

@@ -10,7 +10,7 @@ use lib.Dec.{eqb, ltb, leb}
 use lib.Ieee.{Float}
 use lib.ListN.{getD, set, length, length-set, length-append, length-map, length-replicate, List·getD-map}
 use lib.Seq.{getD-set-same, getD-set-other, map-set-same}
-use borrow.Author.Tests.{eqb-true, eqb-false, leb-true, leb-false, not-true, not-false, ne-eqb}
+use borrow.Author.Tests.{eqb-true, eqb-false, leb-true, not-true, ne-eqb}
 use Rattle.rm0440.specs.Bits.{field, isSet, UDIS, URS, CEN, ARPE}
 use Rattle.rm0440.specs.Output as Out
 use Rattle.tim.specs.declared.Timer.{Timer}
@@ -27,7 +27,6 @@ use Rattle.tim.specs.Change as C
 use Rattle.regs.specs.Regs as R
 use Rattle.clk.specs.declared.ClockTree.{ClockTree}
 use Rattle.clk.specs.Clk.{good, differing}
-use Rattle.real.specs.Real.{positive}
 use Rattle.pins.specs.declared.ExtDrive.{ExtDrive}
 use Rattle.nvic.specs.Nvic.{Nvic}
 use Rattle.words.specs.declared.PinCfg.{PinCfg}
@@ -39,14 +38,14 @@ use Rattle.gpio.specs.Gpio.{drives}
 use Rattle.book.specs.Book.{Entry, entryOf, entriesOf}
 use Rattle.machine.specs.Board.{Board, Pads, Clocks, noInst, noTimer, noPin, blankGpio, timerAt, gpioAt, routeOf, withTimer, withPads, withNvic, withBooking, withClocks, withLast, filled, freshBoard, firstBoard, one}
 use Rattle.machine.specs.Sys as Sys
-use Rattle.machine.specs.Deliver.{Run, Turn, dividerOf, lineSettled, rebooked, applied, countAt, turn, turnOf, stop, dueBy, mostEvents, delivered, settled}
+use Rattle.machine.specs.Deliver.{Run, Turn, dividerOf, lineSettled, rebooked, applied, countAt, turn, turnOf, stop, dueBy, mostEvents, delivered, afterDelivery}
 use Rattle.machine.specs.Deliver as D
 use Rattle.machine.specs.Call.{Setup, pinSetting, outsideDrive, pinReset, writing, resetting, delivery, Call, setUp, clockTree, enable, clearPending, ask, lend, Outcome, isRefusal}
 use Rattle.machine.specs.Step.{fresh, instGood, instsGood, withinLimits, clockOn, register, told, written, followed, timerReset, deliveredTo, timerRetimed, allRetimed, treeSet, cfgOf, moved, step, boardAfter}
 use Rattle.machine.specs.Refusals.{refusals, applies}
 use Rattle.machine.specs.Sound.{SoundPads, Sound, Held, Elsewhere}
 use Rattle.machine.proofs.NumberLaws.{Verdict, refuses, passes, answered, step-given, performed, performed-served, no-both, here, set-up-within}
-use Rattle.machine.proofs.Routing.{either, by-test, unwired, unwired-pins, all-alike, idle-length, sound-outputs, sound-set, sound-drive, SparesAll, held-refl, held-trans, held-set, held-drive, held-outputs}
+use Rattle.machine.proofs.Routing.{either, unwired, unwired-pins, all-alike, idle-length, sound-outputs, sound-set, sound-drive, SparesAll, held-refl, held-trans, held-set, held-drive, held-outputs}
 
 -- ---- a timer keeps its place in the chip
 
@@ -348,16 +347,16 @@ turn-of-good i t p Stopped div h = h
 abbrev Ran : Inst → Run → Type 0
 Ran i r = Turned i (r .timer) (r .pads)
 
-pub run-good : (n now div left : ℕ) (i : Inst) (t : Timer) (p : Pads) → Turned i t p → Turned i (D.run n now div left t p .timer) (D.run n now div left t p .pads)
-unfolding D.run
+pub run-good : (n now div left : ℕ) (i : Inst) (t : Timer) (p : Pads) → Turned i t p → Turned i (D.handled n now div left t p .timer) (D.handled n now div left t p .pads)
+unfolding D.handled
 run-good zero now div left i t p h = h
 run-good (suc n) now div left i t p h =
     let s = turnOf t p (nextEvent t) div in
     let r = run-good n now div (left - length (s .entries)) i (s .timer) (s .pads) (turn-of-good i t p (nextEvent t) div h) in
     either (Ran i) (dueBy (nextEvent t) now) (either (Ran i) (ltb left 4) h (record { inst = r .inst; pads = r .pads })) h
 
-sound-settled : (b : Board) (i now : ℕ) (t : Timer) (p : Pads) → Turned (timerAt b i .inst) t p → Sound b → Sound (settled b i now t p)
-unfolding settled rebooked lineSettled
+sound-settled : (b : Board) (i now : ℕ) (t : Timer) (p : Pads) → Turned (timerAt b i .inst) t p → Sound b → Sound (afterDelivery b i now t p)
+unfolding afterDelivery rebooked lineSettled
 sound-settled b i now t p k h = sound-booking _ _ (sound-nvic _ _ (sound-pads (withTimer b i t) p (sound-timer b i t (k .inst) h) (k .pads)))
 
 sound-delivered : (b : Board) (i cycle places : ℕ) → Sound b → Good (deliveredTo b i cycle places)
@@ -631,8 +630,8 @@ module _ (s p : ℕ) (small : s < 256) (pin : p < 128) where
     turn-of-spares t x (At at e) div h r = turn-spares t x e at div h r
     turn-of-spares t x Stopped div h r = record { held = held-refl s p x; spared = tt }
 
-    run-spares : (n now div left : ℕ) (t : Timer) (x : Pads) → Turned j t x → routeOf x s ≡ p → RunSpares x (D.run n now div left t x)
-    unfolding D.run
+    run-spares : (n now div left : ℕ) (t : Timer) (x : Pads) → Turned j t x → routeOf x s ≡ p → RunSpares x (D.handled n now div left t x)
+    unfolding D.handled
     run-spares zero now div left t x h r = record { held = held-refl s p x; spared = tt }
     run-spares (suc n) now div left t x h r =
         let u = turnOf t x (nextEvent t) div in
@@ -714,8 +713,8 @@ module _ (b : Board) (i ch s p : ℕ) (w : Wired b i ch s p) where
         spared = spared-entries s p cycle (b .pads) d k;
       }
 
-  past-settled : (j now : ℕ) (t : Timer) (x : Pads) → (j ≡ i → ⊥) → Held s p (b .pads) x → Past i s p b (settled b j now t x)
-  unfolding settled rebooked lineSettled
+  past-settled : (j now : ℕ) (t : Timer) (x : Pads) → (j ≡ i → ⊥) → Held s p (b .pads) x → Past i s p b (afterDelivery b j now t x)
+  unfolding afterDelivery rebooked lineSettled
   past-settled j now t x ne h = past-booking i s p b _ _ (past-nvic i s p b (withPads (withTimer b j t) x) _ (past-other i s p b j t x ne h))
 
   delivered-other : (j cycle places : ℕ) → j < b .counts .timers → (j ≡ i → ⊥) → Rest i s p b (deliveredTo b j cycle places)

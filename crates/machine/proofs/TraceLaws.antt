@@ -4,9 +4,7 @@ use mathlib.Core.Bool.{Bool, true, false, cond}
 use mathlib.Core.List.{List, []}
 use Prim.Native.Nat.{ℕ, zero, suc, _+_, _≤_}
 use native.Mathlib.Omega.{arith}
-use lib.Dec.{leb}
 use lib.ListN.{length}
-use borrow.Author.Tests.{leb-false}
 use Rattle.regs.specs.declared.Written.{Written}
 use Rattle.tim.specs.Change.{resetState, retimed}
 use Rattle.clk.specs.declared.ClockTree.{ClockTree}
@@ -14,7 +12,7 @@ use Rattle.clk.specs.Clk.{differing}
 use Rattle.book.specs.Book.{Entry, entriesOf}
 use Rattle.machine.specs.Board.{Board, Pads, timerAt}
 use Rattle.machine.specs.Sys as Sys
-use Rattle.machine.specs.Deliver.{dividerOf, delivered, settled, rebooked, lineSettled}
+use Rattle.machine.specs.Deliver.{dividerOf, delivered, afterDelivery, rebooked, lineSettled}
 use Rattle.machine.specs.Call.{pinSetting, outsideDrive, pinReset, writing, resetting, delivery, Call, setUp, clockTree, enable, clearPending, ask, lend, isSetUp, Outcome}
 use Rattle.machine.specs.Step.{timerRetimed, allRetimed, treeSet, cfgOf, changesOf, clockOn, written, followed, timerReset, deliveredTo}
 use Rattle.machine.specs.Refusals.{refusals, applies}
@@ -70,7 +68,7 @@ followed-traced b i cycle w h =
 pub performed-traced : (b : Board) (c : Call) → Wired (b .pads) → b .counts .pins ≤ length (b .pads .gpio) → applies (refusals b c) ≡ false
     → isSetUp c ≡ false
     → Traced (b .pads) (performed b c .board .pads) (performed b c .entries)
-unfolding performed refusals timerReset deliveredTo settled rebooked lineSettled
+unfolding performed refusals timerReset deliveredTo afterDelivery rebooked lineSettled
 performed-traced b (setUp u) w s a n = absurd (no-both true refl n)
 performed-traced b (clockTree t cycle) w s a n = traced-none (b .pads) (treeSet b t cycle .pads) (λ i. ap (λ (q : Pads). pinLevel q i) (tree-pads b t cycle))
 performed-traced b (enable word value) w s a n = traced-none (b .pads) (b .pads) (λ i. refl)

@@ -1,6 +1,6 @@
 -- Events due (document 01): what an event does, and a delivery with its stops.
-use mathlib.Core.Bool.{Bool, true, false, cond, not}
-use mathlib.Core.List.{List, [], _∷_, _++_}
+use mathlib.Core.Bool.{Bool, false, cond, not}
+use mathlib.Core.List.{List, [], _++_}
 use Prim.Native.Nat.{ℕ, zero, suc, _+_, _-_, _%_, max}
 use lib.Bits.{bitAnd}
 use lib.Dec.{eqb, ltb, leb}
@@ -18,7 +18,7 @@ use Rattle.nvic.specs.Nvic.{setLine}
 use Rattle.scheduler.specs.Booking as S
 use Rattle.book.specs.Book.{Entry, entriesOf}
 use Rattle.machine.specs.Board.{Board, Pads, timerAt, withTimer, withPads, withNvic, withBooking}
-use Rattle.machine.specs.Sys.{Drive, driveOutputs}
+use Rattle.machine.specs.Sys.{driveOutputs}
 
 -- ---- what follows from a timer's state
 
@@ -91,13 +91,13 @@ turnOf t p Stopped div = record { timer = t; pads = p; entries = [] }
 
 -- "A delivery stops when nothing is due (0), or with more due after 100,001 events or with under 4 places left (8)":
 -- so many events more, with so many places left
-unfoldable pub run : ℕ → ℕ → ℕ → ℕ → Timer → Pads → Run
-run zero now div left t p = stop t p (cond (dueBy (nextEvent t) now) 8 0)
-run (suc events) now div left t p =
+unfoldable pub handled : ℕ → ℕ → ℕ → ℕ → Timer → Pads → Run
+handled zero now div left t p = stop t p (cond (dueBy (nextEvent t) now) 8 0)
+handled (suc events) now div left t p =
     cond (dueBy (nextEvent t) now)
     (cond (ltb left 4) (stop t p 8)
     (let s = turnOf t p (nextEvent t) div in
-    after (s .entries) (run events now div (left - length (s .entries)) (s .timer) (s .pads))))
+    after (s .entries) (handled events now div (left - length (s .entries)) (s .timer) (s .pads))))
     (stop t p 0)
 
 abbrev pub mostEvents : ℕ
@@ -105,7 +105,7 @@ mostEvents = 100001
 
 -- timer i's events up to now, with so many places; "Then the interrupt line follows .., and the next event is booked"
 unfoldable pub delivered : Board → ℕ → ℕ → ℕ → Run
-delivered b i now places = run mostEvents now (dividerOf b (timerAt b i)) places (timerAt b i) (b .pads)
+delivered b i now places = handled mostEvents now (dividerOf b (timerAt b i)) places (timerAt b i) (b .pads)
 
-unfoldable pub settled : Board → ℕ → ℕ → Timer → Pads → Board
-settled b i now t p = rebooked i t now (lineSettled t (withPads (withTimer b i t) p))
+unfoldable pub afterDelivery : Board → ℕ → ℕ → Timer → Pads → Board
+afterDelivery b i now t p = rebooked i t now (lineSettled t (withPads (withTimer b i t) p))

@@ -1,7 +1,7 @@
 -- Demand 1, as statements about `step`: which number a call is given and what it leaves, the entries, the last changing call, a delivery's work.
 -- Proved in proofs/Numbers.antt (`demand1 : Demand1`).
 use mathlib.Core.Path.{_≡_}
-use mathlib.Core.Bool.{Bool, true, false, cond}
+use mathlib.Core.Bool.{true, false, cond}
 use mathlib.Core.List.{List, [], _∷_, _++_, map}
 use mathlib.Core.Logic.{_⊎_}
 use Prim.Native.Nat.{ℕ, zero, suc, _/_, _≤_, min}
@@ -17,7 +17,7 @@ use Rattle.machine.specs.Board.{Board, Pads, timerAt, gpioAt, firstBoard
 use Rattle.machine.specs.Deliver.{Turn, turnOf, dividerOf, dueBy}
 use Rattle.machine.specs.Call.{Setup, Call, setUp, setPin, drivePin, deliver, isDelivery, isSetUp, lent, bookCycle, Outcome, isRefusal}
 use Rattle.machine.specs.Step.{step, boardAfter}
-use Rattle.machine.specs.Refusals.{refusals, order, inOrder, placeIn, applies, first, holds, ending, most, lastAfter}
+use Rattle.machine.specs.Refusals.{refusals, order, inOrder, among, rank, applies, first, holds, ending, most, lastAfter}
 
 -- ---- the number
 
@@ -29,12 +29,14 @@ pub record Unchanged (b : Board) (o : Outcome) : Type 0 where
 
 -- "given exactly when": of every board and every call
 pub record Numbered (b : Board) (c : Call) : Type 0 where
+  -- the number is one of the table's
+  pub listed : (step b c .number ≡ 0) ⊎ ((step b c .number ≡ 8) ⊎ (among (step b c .number) order ≡ true))
   -- the table lists a call's numbers in the table's order; the first that applies is given, and it is a refusal
   pub ordered : inOrder order (refusals b c) ≡ true
   pub first-given : applies (refusals b c) ≡ true → step b c .number ≡ first (refusals b c)
   pub first-refuses : applies (refusals b c) ≡ true → isRefusal (step b c .number) ≡ true
   -- "The lowest number that applies is given": none that applies stands before it
-  pub lowest : (n : ℕ) → holds n (refusals b c) ≡ true → placeIn order (step b c .number) ≤ placeIn order n
+  pub lowest : (n : ℕ) → holds n (refusals b c) ≡ true → rank order (step b c .number) ≤ rank order n
   -- a refusal is given only where it applies, and changes nothing
   pub given-applies : isRefusal (step b c .number) ≡ true → holds (step b c .number) (refusals b c) ≡ true
   pub unchanged : isRefusal (step b c .number) ≡ true → Unchanged b (step b c)

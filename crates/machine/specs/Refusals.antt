@@ -1,25 +1,72 @@
 -- The table of document 01, call by call: the numbers that a call can be refused with, in order, and when each applies.
 use mathlib.Core.Bool.{Bool, true, false, cond, not, _&&_, _||_}
-use mathlib.Core.List.{List, [], _∷_}
-use Prim.Native.Nat.{ℕ, suc, _*_, _/_}
+use mathlib.Core.List.{List, [], _∷_, map}
+use Prim.Native.Nat.{ℕ, suc, _+_, _*_, _/_}
 use lib.Dec.{eqb, ltb, leb}
-use Rattle.regs.specs.Regs as R
+use lib.ListN.{length}
+use lib.Ieee as Ieee
+use lib.Ieee.{Float, nan, inf, fin}
+use Rattle.rm0440.specs.Bits.{DIR}
+use Rattle.tim.specs.declared.Timer.{Timer}
+use Rattle.tim.specs.declared.Inst.{Inst}
 use Rattle.tim.specs.Next.{nextEvent}
-use Rattle.real.specs.Real.{positive}
-use Rattle.clk.specs.Clk.{good}
+use Rattle.real.specs.Real.{zeroFloat}
+use Rattle.clk.specs.declared.ClockTree.{ClockTree}
+use Rattle.clk.specs.Clk.{timerDiv}
 use Rattle.machine.specs.Board.{Board, timerAt}
 use Rattle.machine.specs.Deliver.{delivered, dueBy}
 use Rattle.machine.specs.Call.{Setup, Question, reading, peeking, booked, next, level, volts, line, time, BookCall, pinSetting, outsideDrive, pinReset, writing, resetting, delivery, Call, setUp, clockTree, enable, clearPending, ask, lend, ifLent, ifDelivery}
-use Rattle.machine.specs.Step.{withinLimits, clockOn, written}
+use Rattle.machine.specs.Step.{clockOn, written}
 
 infixl 20 _when_
 -- a number, and whether it applies
 pub data Refusal : Type 0 where
   _when_ : (number : ℕ) (applies : Bool) → Refusal
 
--- 1, wrong board: "set-up outside the sizes above or limits below"
+-- ---- numbers low to high, lists, and floats, as the table speaks of them
+
+abbrev pub between : ℕ → ℕ → ℕ → Bool
+between low high n = leb low n && leb n high
+
+-- each of a list passes
+unfoldable pub all : {A : Type 0} → (A → Bool) → List A → Bool
+all f [] = true
+all f (x ∷ xs) = f x && all f xs
+
+-- "all different"
+unfoldable pub different : List ℕ → Bool
+different [] = true
+different (n ∷ ns) = all (λ m. not (eqb m n)) ns && different ns
+
+-- "finite and above 0"
+abbrev pub finite : Float → Bool
+finite nan = false
+finite (inf s) = false
+finite (fin s m e) = true
+
+unfoldable pub finiteAboveZero : Float → Bool
+finiteAboveZero f = finite f && Ieee.lt zeroFloat f
+
+-- ---- the numbers
+
+-- 1, wrong board: "set-up outside the sizes above or limits below".
+-- "1 to 8 timers, 1 to 128 pins, .. 0 to 256 lines"
+abbrev pub boardSizes : Setup → Bool
+boardSizes s = between 1 8 (length (s .timers)) && between 1 128 (s .pins) && leb (s .lines) 256
+
+-- "timer numbers 1 to 24 ..; width 16 or 32; 0 to 4 channels; enable word 0 to 8, bit 0 to 31"
+abbrev pub timerLimits : Inst → Bool
+timerLimits i =
+    between 1 24 (i .n) && (eqb (i .width) 16 || eqb (i .width) 32) && leb (i .channels) 4 && leb (i .«en_reg») 8 && leb (i .«en_bit») 31
+
+-- ".., all different; ..; supply volts finite and above 0; signal table of exactly pins × 16 entries below 256"
+unfoldable pub limits : Setup → Bool
+limits s =
+    boardSizes s && all timerLimits (s .timers) && different (map (λ (i : Inst). i .n) (s .timers)) && finiteAboveZero (s .vcc)
+    && eqb (length (s .table)) (s .pins * 16) && all (λ (e : ℕ). ltb e 256) (s .table)
+
 abbrev pub wrongBoard : Setup → Refusal
-wrongBoard s = 1 when not (withinLimits s)
+wrongBoard s = 1 when not (limits s)
 
 -- 2, no such post: "no timer, pin or enable word of that index"
 abbrev pub noSuchIndex : ℕ → ℕ → Refusal
@@ -30,8 +77,22 @@ abbrev pub badSize : ℕ → Refusal
 badSize size = 3 when not (eqb size 1 || (eqb size 2 || eqb size 4))
 
 -- 4, bad clock: "a tree divider, or a divider that `timer_div` makes of the tree, outside 1 to 8,192, or a frequency not finite and above 0"
-abbrev pub badClock : Bool → Refusal
-badClock fine = 4 when not fine
+abbrev pub treeDividers : ClockTree → List ℕ
+treeDividers t = t .ppre1 ∷ t .ppre2 ∷ t .ppre3 ∷ t .ppre4 ∷ t .tim1 ∷ t .tim2 ∷ []
+
+-- buses 1, 2 and 3, and 4 for every other: `timer_div` gives them all the same
+abbrev pub madeDividers : ClockTree → List ℕ
+madeDividers t = map (λ (bus : ℕ). timerDiv t bus) (1 ∷ 2 ∷ 3 ∷ 4 ∷ [])
+
+unfoldable pub goodTree : ClockTree → Bool
+goodTree t =
+    (all (between 1 8192) (treeDividers t) && all (between 1 8192) (madeDividers t)) && (finiteAboveZero (t .«sysclk_hz») && finiteAboveZero (t .«hclk_hz»))
+
+abbrev pub badTree : ClockTree → Refusal
+badTree t = 4 when not (goodTree t)
+
+abbrev pub badFrequency : Float → Refusal
+badFrequency hz = 4 when not (finiteAboveZero hz)
 
 -- 5, clock astray: "the cycle is above 2^62, or below the cycle of the last changing call"
 abbrev pub clockAstray : Board → ℕ → Refusal
@@ -45,9 +106,16 @@ bookFull need places = 6 when ltb places need
 abbrev pub toCounter : ℕ → Bool
 toCounter register = eqb register 0x00 || (eqb register 0x24 || eqb register 0x2c)
 
+-- a timer without channels lacks DIR
+abbrev pub runsUpward : Timer → Bool
+runsUpward t = t .count .running && (eqb (t .inst .channels) 0 || not (DIR (t .regs .cr1)))
+
+unfoldable pub runsAway : Timer → Bool
+runsAway t = runsUpward t && ltb (t .count .«arr_act» + 1) (t .count .cnt0)
+
 abbrev pub counterAstray : Board → ℕ → ℕ → ℕ → ℕ → ℕ → Refusal
 counterAstray b timer offset size value cycle =
-    7 when (clockOn b (timerAt b timer) && (toCounter (offset / 4 * 4) && R.astray (written b (timerAt b timer) offset size value cycle .timer)))
+    7 when (clockOn b (timerAt b timer) && (toCounter (offset / 4 * 4) && runsAway (written b (timerAt b timer) offset size value cycle .timer)))
 
 -- of a call that asks
 abbrev pub ofQuestion : Board → Question → List Refusal
@@ -72,8 +140,8 @@ ofBookCall b (resetting timer) cycle places = noSuchIndex timer (b .counts .time
 ofBookCall b (delivery timer) cycle places = noSuchIndex timer (b .counts .timers) ∷ clockAstray b cycle ∷ bookFull 4 places ∷ []
 
 unfoldable pub refusals : Board → Call → List Refusal
-refusals b (setUp s) = wrongBoard s ∷ badClock (positive (s .hz)) ∷ []
-refusals b (clockTree t cycle) = badClock (good t) ∷ clockAstray b cycle ∷ []
+refusals b (setUp s) = wrongBoard s ∷ badFrequency (s .hz) ∷ []
+refusals b (clockTree t cycle) = badTree t ∷ clockAstray b cycle ∷ []
 refusals b (enable word value) = noSuchIndex word 9 ∷ []
 refusals b (clearPending irq) = []
 refusals b (ask q) = ofQuestion b q
@@ -92,10 +160,15 @@ inOrder os [] = true
 inOrder [] (r ∷ rs) = false
 inOrder (o ∷ os) ((n when t) ∷ rs) = cond (eqb o n) (inOrder os rs) (inOrder os ((n when t) ∷ rs))
 
+-- a number is one of a list
+unfoldable pub among : ℕ → List ℕ → Bool
+among n [] = false
+among n (o ∷ os) = eqb o n || among n os
+
 -- the place of a number in an order
-unfoldable pub placeIn : List ℕ → ℕ → ℕ
-placeIn [] n = 0
-placeIn (o ∷ os) n = cond (eqb o n) 0 (suc (placeIn os n))
+unfoldable pub rank : List ℕ → ℕ → ℕ
+rank [] n = 0
+rank (o ∷ os) n = cond (eqb o n) 0 (suc (rank os n))
 
 -- ---- the answer of a list
 

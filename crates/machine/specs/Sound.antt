@@ -1,7 +1,6 @@
 -- What holds of every board that calls lead to: sizes, different timers, consistent routing, and a routed pin that shows its signal.
 use mathlib.Core.Path.{_≡_}
-use mathlib.Core.Bool.{Bool, true, false}
-use mathlib.Core.List.{List}
+use mathlib.Core.Bool.{true, false}
 use Prim.Native.Nat.{ℕ, _≤_, _<_}
 use lib.ListN.{length}
 use Rattle.gpio.specs.declared.Change.{Change}

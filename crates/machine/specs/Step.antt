@@ -1,7 +1,7 @@
 -- What each call does (document 01): the refusals, lowest number first, then the call.
-use mathlib.Core.Bool.{Bool, true, false, cond, not, _&&_, _||_}
+use mathlib.Core.Bool.{Bool, true, cond, not, _&&_, _||_}
 use mathlib.Core.List.{List, [], _∷_, _++_}
-use Prim.Native.Nat.{ℕ, zero, suc, _+_, _-_, _*_, _/_, _%_}
+use Prim.Native.Nat.{ℕ, zero, suc, _+_, _*_, _/_}
 use lib.Dec.{eqb, ltb, leb}
 use lib.ListN.{getD, set, length}
 use Rattle.tim.specs.declared.Timer.{Timer}
@@ -13,17 +13,16 @@ use Rattle.rm0440.specs.Bits.{isSet}
 use Rattle.periph.specs.Lane.{laneRead, laneWrite}
 use Rattle.real.specs.Real.{positive, bitsOf}
 use Rattle.clk.specs.declared.ClockTree.{ClockTree}
-use Rattle.clk.specs.Clk.{good, differing, timerDiv}
+use Rattle.clk.specs.Clk.{good, differing}
 use Rattle.pins.specs.Clock as Clock
 use Rattle.words.specs.declared.PinCfg.{PinCfg}
-use Rattle.pins.specs.declared.ExtDrive.{ExtDrive}
 use Rattle.nvic.specs.Nvic as N
 use Rattle.scheduler.specs.Booking as S
 use Rattle.gpio.specs.declared.Change.{Change}
 use Rattle.book.specs.Book.{Entry, entryOf, entriesOf}
-use Rattle.machine.specs.Board.{Board, Pads, Clocks, timerAt, gpioAt, withTimer, withPads, withNvic, withBooking, withClocks, withLast, freshBoard, firstBoard}
+use Rattle.machine.specs.Board.{Board, timerAt, gpioAt, withTimer, withPads, withNvic, withBooking, withClocks, withLast, freshBoard}
 use Rattle.machine.specs.Sys as Sys
-use Rattle.machine.specs.Deliver.{dividerOf, lineSettled, rebooked, delivered, settled}
+use Rattle.machine.specs.Deliver.{dividerOf, lineSettled, rebooked, delivered, afterDelivery}
 use Rattle.machine.specs.Call.{Setup, Question, reading, peeking, booked, next, level, volts, line, time, BookCall, pinSetting, outsideDrive, pinReset, writing, resetting, delivery, Call, setUp, clockTree, enable, clearPending, ask, lend, Outcome, refused, served}
 
 -- ---- refusals: "The lowest number that applies is given."
@@ -41,8 +40,8 @@ abbrev pub oddSize : ℕ → Bool
 oddSize size = not (eqb size 1 || (eqb size 2 || eqb size 4))
 
 -- 5: "the cycle is above 2^62, or below the cycle of the last changing call"
-abbrev pub astray : Board → ℕ → Bool
-astray b cycle = ltb 4611686018427387904 cycle || ltb cycle (b .counts .last)
+abbrev pub cycleAstray : Board → ℕ → Bool
+cycleAstray b cycle = ltb 4611686018427387904 cycle || ltb cycle (b .counts .last)
 
 -- 6: fewer places than the call needs
 abbrev pub bookFull : ℕ → ℕ → Bool
@@ -121,7 +120,7 @@ timerReset b i cycle =
 unfoldable pub deliveredTo : Board → ℕ → ℕ → ℕ → Outcome
 deliveredTo b i cycle places =
     let r = delivered b i cycle places in
-    record { number = r .number; value = r .events; entries = r .entries; board = withLast (settled b i cycle (r .timer) (r .pads)) cycle }
+    record { number = r .number; value = r .events; entries = r .entries; board = withLast (afterDelivery b i cycle (r .timer) (r .pads)) cycle }
 
 -- ---- the clock tree: "`set_clock_tree`, then if it changed `on_clock_change` for each timer in index order"
 
@@ -174,14 +173,14 @@ pinsReset b cycle =
 -- the numbers 2, 3 and 5 of a question, then what follows
 abbrev pub asking : Board → Question → Outcome → Outcome
 asking b (reading timer offset size cycle) o =
-    refuseIf (absent timer (b .counts .timers)) 2 b (refuseIf (oddSize size) 3 b (refuseIf (astray b cycle) 5 b o))
-asking b (peeking timer offset cycle) o = refuseIf (absent timer (b .counts .timers)) 2 b (refuseIf (astray b cycle) 5 b o)
+    refuseIf (absent timer (b .counts .timers)) 2 b (refuseIf (oddSize size) 3 b (refuseIf (cycleAstray b cycle) 5 b o))
+asking b (peeking timer offset cycle) o = refuseIf (absent timer (b .counts .timers)) 2 b (refuseIf (cycleAstray b cycle) 5 b o)
 asking b (booked timer) o = refuseIf (absent timer (b .counts .timers)) 2 b o
 asking b next o = o
 asking b (level pin) o = refuseIf (absent pin (b .counts .pins)) 2 b o
 asking b (volts pin) o = refuseIf (absent pin (b .counts .pins)) 2 b o
 asking b (line irq) o = o
-asking b (time cycle) o = refuseIf (astray b cycle) 5 b o
+asking b (time cycle) o = refuseIf (cycleAstray b cycle) 5 b o
 
 -- the value: "the register for a read or peek, .. what a query asks"
 abbrev pub told : Board → Question → ℕ
@@ -239,7 +238,7 @@ step b (setUp s) =
     (served 0 (freshBoard (s .hz) (s .vcc) (s .pins) (s .lines) (s .timers) (s .table))))
 step b (clockTree t cycle) =
     refuseIf (not (good t)) 4 b
-    (refuseIf (astray b cycle) 5 b
+    (refuseIf (cycleAstray b cycle) 5 b
     (served 0 (withLast (treeSet b t cycle) cycle)))
 step b (enable word value) =
     refuseIf (absent word 9) 2 b
@@ -248,7 +247,7 @@ step b (clearPending irq) = served 0 (withNvic b (N.clearPending (b .nvic) irq))
 step b (ask q) = asking b q (served (told b q) b)
 step b (lend k cycle places) =
     fitting b k
-    (refuseIf (astray b cycle) 5 b
+    (refuseIf (cycleAstray b cycle) 5 b
     (refuseIf (bookFull (needed b k) places) 6 b
     (doing b k cycle places)))
 

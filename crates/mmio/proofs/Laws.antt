@@ -25,7 +25,7 @@ use Rattle.machine.specs.Board.{Board, noTimer, timerAt, withTimer, withPads, w
 use Rattle.machine.specs.Sys.{driveOutputs}
 use Rattle.machine.specs.Deliver.{dividerOf, lineSettled, rebooked, delivered}
 use Rattle.machine.specs.Call.{Outcome, read, peek, resetTimer, deliver, clockTree, served}
-use Rattle.machine.specs.Step.{step, astray, clockOn, register, followed, timerReset, deliveredTo, treeSet}
+use Rattle.machine.specs.Step.{step, cycleAstray, clockOn, register, followed, timerReset, deliveredTo, treeSet}
 use Rattle.machine.specs.Refusals.{refusals, first, noSuchIndex, badSize, clockAstray, bookFull}
 use Rattle.machine.proofs.NumberLaws.{performed}
 use Rattle.state.specs.View.{view}
@@ -237,19 +237,19 @@ unfolding step
 tree-bad w x t cycle g e o r a = away w x (step (view w x) (clockTree t cycle)) 4 (rw (sym e ∙ not-true g o) refl) r a
 
 pub tree-astray : (w : List ℕ) (x : List Float) (t : ClockTree) (cycle : ℕ) (g : Bool) → g ≡ good t → not g ≡ false
-    → (b : Bool) → b ≡ astray (view w x) cycle → b ≡ true → (r : Answer) → r ≡ answer 5 0 0 → Answers (step (view w x) (clockTree t cycle)) r w w x x
+    → (b : Bool) → b ≡ cycleAstray (view w x) cycle → b ≡ true → (r : Answer) → r ≡ answer 5 0 0 → Answers (step (view w x) (clockTree t cycle)) r w w x x
 unfolding step
 tree-astray w x t cycle g e o b f p r a = away w x (step (view w x) (clockTree t cycle)) 5 (rw (sym e ∙ not-false g o, sym f ∙ p) refl) r a
 
 pub tree-gives : (w w₁ w₂ : List ℕ) (x x₁ : List Float) (t : ClockTree) (cycle : ℕ) (g : Bool) → g ≡ good t → not g ≡ false
-    → (b : Bool) → b ≡ astray (view w x) cycle → b ≡ false → view w₁ x₁ ≡ treeSet (view w x) t cycle → view w₂ x₁ ≡ withLast (view w₁ x₁) cycle
+    → (b : Bool) → b ≡ cycleAstray (view w x) cycle → b ≡ false → view w₁ x₁ ≡ treeSet (view w x) t cycle → view w₂ x₁ ≡ withLast (view w₁ x₁) cycle
     → (r : Answer) → r ≡ answer 0 0 0 → Answers (step (view w x) (clockTree t cycle)) r w w₂ x x₁
 unfolding step
 tree-gives w w₁ w₂ x x₁ t cycle g e o b f p q s r a =
     rw (a, sym e ∙ not-false g o, sym f ∙ p) (gives (served 0 (withLast (treeSet (view w x) t cycle) cycle)) (answer 0 0 0) w w₂ x x₁ refl refl refl
     (s ∙ ap (λ (y : Board). withLast y cycle) q) refl)
 
-pub tree-cycle : (b : Board) (cycle : ℕ) (a : Bool) → a ≡ astray b cycle → a ≡ false → cycle < 9223372036854775808
+pub tree-cycle : (b : Board) (cycle : ℕ) (a : Bool) → a ≡ cycleAstray b cycle → a ≡ false → cycle < 9223372036854775808
 tree-cycle b cycle a e o = go (ltb 4611686018427387904 cycle) refl (sym e ∙ o)
   where
     go : (t : Bool) → ltb 4611686018427387904 cycle ≡ t → (t || ltb cycle (b .counts .last)) ≡ false → cycle < 9223372036854775808

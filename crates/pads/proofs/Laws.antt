@@ -15,7 +15,7 @@ use Rattle.book.proofs.Laws.{holds}
 use Rattle.machine.specs.Board.{Board, withPads, withLast}
 use Rattle.machine.specs.Sys as S
 use Rattle.machine.specs.Call.{Call, Outcome, setPin, drivePin, resetPins}
-use Rattle.machine.specs.Step.{step, cfgOf, moved, changesOf, astray}
+use Rattle.machine.specs.Step.{step, cfgOf, moved, changesOf, cycleAstray}
 use Rattle.machine.specs.Refusals.{refusals, first, noSuchIndex, badSize, clockAstray, bookFull}
 use Rattle.machine.proofs.NumberLaws.{performed}
 use Rattle.state.specs.View.{view}
@@ -32,8 +32,8 @@ pub pin-number : (b : Board) (pin cycle count room pl n : ℕ)
     → n ≡ first (noSuchIndex pin (b .counts .pins) ∷ clockAstray b cycle ∷ bookFull 4 pl ∷ [])
 unfolding first
 pin-number b pin cycle count room pl n h e f =
-    h ∙ ap (λ (k : ℕ). cond (leb k pin) 2 (cond (astray b cycle) 5 (cond (ltb room 4) 6 0))) e
-    ∙ ap (λ (k : ℕ). cond (leb (b .counts .pins) pin) 2 (cond (astray b cycle) 5 (cond (ltb k 4) 6 0))) f
+    h ∙ ap (λ (k : ℕ). cond (leb k pin) 2 (cond (cycleAstray b cycle) 5 (cond (ltb room 4) 6 0))) e
+    ∙ ap (λ (k : ℕ). cond (leb (b .counts .pins) pin) 2 (cond (cycleAstray b cycle) 5 (cond (ltb k 4) 6 0))) f
 
 -- those of a pin reset
 pub reset-number : (b : Board) (cycle need room pl n : ℕ)
@@ -41,7 +41,7 @@ pub reset-number : (b : Board) (cycle need room pl n : ℕ)
     → n ≡ first (refusals b (resetPins cycle pl))
 unfolding first refusals
 reset-number b cycle need room pl n h e f =
-    h ∙ ap (λ (k : ℕ). cond (astray b cycle) 5 (cond (ltb room k) 6 0)) e ∙ ap (λ (k : ℕ). cond (astray b cycle) 5 (cond (ltb k (b .counts .pins)) 6 0)) f
+    h ∙ ap (λ (k : ℕ). cond (cycleAstray b cycle) 5 (cond (ltb room k) 6 0)) e ∙ ap (λ (k : ℕ). cond (cycleAstray b cycle) 5 (cond (ltb k (b .counts .pins)) 6 0)) f
 
 three : (t u v : Bool) → _≡_ {A = ℕ} (cond t 2 (cond u 5 (cond v 6 0))) 0 → (t ≡ false) × (v ≡ false)
 three true u v h = absurd (omega (arith, h))
@@ -64,11 +64,11 @@ pub pin-there : (b : Board) (pin cycle pl n : ℕ) → n ≡ first (noSuchIndex 
     → (pin < b .counts .pins) × (4 ≤ pl)
 unfolding first
 pin-there b pin cycle pl n h z =
-    let q = three (leb (b .counts .pins) pin) (astray b cycle) (ltb pl 4) (sym h ∙ z) in (leb-false _ _ (q .0), ltb-false _ _ (q .1))
+    let q = three (leb (b .counts .pins) pin) (cycleAstray b cycle) (ltb pl 4) (sym h ∙ z) in (leb-false _ _ (q .0), ltb-false _ _ (q .1))
 
 pub reset-room : (b : Board) (cycle pl n : ℕ) → n ≡ first (refusals b (resetPins cycle pl)) → n ≡ 0 → b .counts .pins ≤ pl
 unfolding first refusals
-reset-room b cycle pl n h z = ltb-false _ _ (two (astray b cycle) (ltb pl (b .counts .pins)) (sym h ∙ z))
+reset-room b cycle pl n h z = ltb-false _ _ (two (cycleAstray b cycle) (ltb pl (b .counts .pins)) (sym h ∙ z))
 
 -- ---- a refused call
 pub refuses : (w : List ℕ) (x : List Float) (u : Lent) (call : Call) (n : ℕ) (r : Answer) → n ≡ first (refusals (view w x) call) → (n ≡ 0 → ⊥)

@@ -7,5 +7,5 @@ use Rattle.pins.specs.declared.ExtDrive.{ExtDrive}
 use Rattle.pins.specs.declared.ExtDrive.the-variants.{Float, Low, High, Analog}
 
 -- "nothing, low, high, or an analogue drive that carries its volts": 1 is low, 2 high, 3 analogue, every other number nothing
-abbrev pub extOf : ℕ → Ieee.Float → ExtDrive
-extOf kind volts = cond (eqb kind 1) Low (cond (eqb kind 2) High (cond (eqb kind 3) (Analog volts) Float))
+abbrev pub driveOf : ℕ → Ieee.Float → ExtDrive
+driveOf kind volts = cond (eqb kind 1) Low (cond (eqb kind 2) High (cond (eqb kind 3) (Analog volts) Float))

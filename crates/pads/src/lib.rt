@@ -19,7 +19,7 @@ ghost use Rattle.machine.specs.Call as C;
 ghost use Rattle.machine.specs.Refusals.{first, noSuchIndex, clockAstray, bookFull};
 ghost use Rattle.machine.specs.Step.{step, cfgOf, yes};
 ghost use Rattle.state.specs.View.{view};
-ghost use Rattle.pads.specs.Ext.{extOf};
+ghost use Rattle.pads.specs.Ext.{driveOf};
 
 // A mode above 3 acts as input.
 fn mode_of(mode: u32) -> u8
@@ -52,7 +52,7 @@ fn cfg_of(mode: u32, open_drain: u32, out: u32, pullup: u32, pulldown: u32) -> P
 
 // The outside drive of a number: 1 low, 2 high, 3 analogue, every other nothing.
 fn ext_of(kind: u32, volts: f64) -> ExtDrive
-    ensures { λ r. ⌜ r ≡ extOf kind volts ⌝ }
+    ensures { λ r. ⌜ r ≡ driveOf kind volts ⌝ }
 {
     match kind {
         1 => ExtDrive::Low,
@@ -142,8 +142,8 @@ pub fn drive_pin(
     volts: f64,
     cycle: u64,
 ) -> Answer
-    ensures { λ r. ⌜ Answers (step (view (now (words .entry)) (now (reals .entry))) (C.drivePin pin (extOf kind volts) cycle (places (slices (now (pins .entry)) (now (levels .entry)) (now (cycles .entry)))))) r (now (words .entry)) (now (words .exit)) (now (reals .entry)) (now (reals .exit)) ⌝ }
-    ensures { λ r. ⌜ Holds (step (view (now (words .entry)) (now (reals .entry))) (C.drivePin pin (extOf kind volts) cycle (places (slices (now (pins .entry)) (now (levels .entry)) (now (cycles .entry))))) .entries) (slices (now (pins .entry)) (now (levels .entry)) (now (cycles .entry))) (slices (now (pins .exit)) (now (levels .exit)) (now (cycles .exit))) (r .count) ⌝ }
+    ensures { λ r. ⌜ Answers (step (view (now (words .entry)) (now (reals .entry))) (C.drivePin pin (driveOf kind volts) cycle (places (slices (now (pins .entry)) (now (levels .entry)) (now (cycles .entry)))))) r (now (words .entry)) (now (words .exit)) (now (reals .entry)) (now (reals .exit)) ⌝ }
+    ensures { λ r. ⌜ Holds (step (view (now (words .entry)) (now (reals .entry))) (C.drivePin pin (driveOf kind volts) cycle (places (slices (now (pins .entry)) (now (levels .entry)) (now (cycles .entry))))) .entries) (slices (now (pins .entry)) (now (levels .entry)) (now (cycles .entry))) (slices (now (pins .exit)) (now (levels .exit)) (now (cycles .exit))) (r .count) ⌝ }
 {
     let number = refusal(words, pins, levels, cycles, pin, cycle);
     if number != 0 {

@@ -15,7 +15,7 @@ use Rattle.real.specs.Real.{bitsOf}
 use Rattle.words.specs.declared.Gpio.{Gpio}
 use Rattle.machine.specs.Board.{Board, gpioAt, withNvic}
 use Rattle.machine.specs.Call.{Outcome, served, enable, queryBooked, queryNext, queryLevel, queryVolts, queryLine, queryTime, clearPending}
-use Rattle.machine.specs.Step.{step, refuseIf, astray}
+use Rattle.machine.specs.Step.{step, refuseIf, cycleAstray}
 use Rattle.state.specs.Board.{bookedAt, withEnr}
 use Rattle.state.specs.View.{view}
 use Rattle.answer.specs.declared.Answer.{Answer}
@@ -77,12 +77,12 @@ module _ (w : List ℕ) (x : List Float) (r : Answer) where
   unfolding step
   line-told i v l e = told v _ l e
 
-  pub time-astray : (cycle : ℕ) (t : Bool) → t ≡ astray (view w x) cycle → t ≡ true → r ≡ answer 5 0 0
+  pub time-astray : (cycle : ℕ) (t : Bool) → t ≡ cycleAstray (view w x) cycle → t ≡ true → r ≡ answer 5 0 0
       → Answers (step (view w x) (queryTime cycle)) r w w x x
   unfolding step
   time-astray cycle t a h e = turned _ 5 _ (sym a ∙ h) e
 
-  pub time-told : (cycle v : ℕ) (t : Bool) (k : ClockModel) (f : Float) → t ≡ astray (view w x) cycle → t ≡ false → k ≡ view w x .clocks .clock
+  pub time-told : (cycle v : ℕ) (t : Bool) (k : ClockModel) (f : Float) → t ≡ cycleAstray (view w x) cycle → t ≡ false → k ≡ view w x .clocks .clock
       → f ≡ timeAt k cycle → v ≡ bitsOf f → r ≡ answer 0 v 0 → Answers (step (view w x) (queryTime cycle)) r w w x x
   unfolding step
   time-told cycle v t k f a h c d b e = passed _ 5 v _ (sym a ∙ h) (b ∙ ap bitsOf (d ∙ ap (λ (y : ClockModel). timeAt y cycle) c)) e

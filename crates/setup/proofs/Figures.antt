@@ -4,7 +4,7 @@ use mathlib.Core.List.{List, [], _∷_, map}
 use Prim.Native.Nat.{ℕ}
 use Rattle.tim.specs.declared.Inst.{Inst}
 use Rattle.machine.specs.Board.{noInst}
-use Rattle.setup.specs.Setup.{instsOf, instsFrom, instAt}
+use Rattle.setup.specs.Setup.{instsOf, instsFrom, instGiven}
 
 pub record Figure : Type 0 where
   pub numbers : List ℕ
@@ -21,5 +21,5 @@ figures =
     ∷ []
 
 pub figures-hold : map (λ (f : Figure). instsOf (f .numbers)) figures ≡ map (λ (f : Figure). f .timers) figures
-unfolding instsFrom instAt
+unfolding instsFrom instGiven
 figures-hold = refl

@@ -22,7 +22,7 @@ use Rattle.machine.specs.Step.{step, withinLimits}
 use Rattle.state.specs.Board.{withTimer, withAfAt, withSizes}
 use Rattle.state.proofs.InRange.{bounded}
 use Rattle.state.specs.View.{view}
-use Rattle.setup.specs.Setup.{countOf, instAt, instsFrom, instsOf, timersOf, withTimers, withTable, Answered}
+use Rattle.setup.specs.Setup.{countOf, instGiven, instsFrom, instsOf, timersOf, withTimers, withTable, Answered}
 use Rattle.setup.proofs.Limits.{length-insts}
 
 -- ---- a list filled from its front
@@ -43,17 +43,17 @@ module _ {A : Type 0} where
       ∙ rw (zero-add (length s), take-all (length s) s (omega arith), drop-replicate (length s) n x)
 
 -- ---- the timers
-insts-at : (ns : List ℕ) (k i j : ℕ) → j < k → getD (instsFrom ns k i) j noInst ≡ instAt ns (i + j)
+insts-at : (ns : List ℕ) (k i j : ℕ) → j < k → getD (instsFrom ns k i) j noInst ≡ instGiven ns (i + j)
 unfolding instsFrom
 insts-at ns zero i j h = absurd (omega arith)
-insts-at ns (suc k) i zero h = ap (instAt ns) (omega arith)
-insts-at ns (suc k) i (suc j) h = insts-at ns k (i + 1) j (omega arith) ∙ ap (instAt ns) (omega arith)
+insts-at ns (suc k) i zero h = ap (instGiven ns) (omega arith)
+insts-at ns (suc k) i (suc j) h = insts-at ns k (i + 1) j (omega arith) ∙ ap (instGiven ns) (omega arith)
 
 module _ (ns : List ℕ) where
-  timer-at : (j : ℕ) → j < countOf ns → getD (timersOf ns) j (resetState noInst 1) ≡ resetState (instAt ns j) 1
+  timer-at : (j : ℕ) → j < countOf ns → getD (timersOf ns) j (resetState noInst 1) ≡ resetState (instGiven ns j) 1
   timer-at j h =
       List·getD-map (λ (i : Inst). resetState i 1) (instsOf ns) j noInst
-      ∙ ap (λ (i : Inst). resetState i 1) (insts-at ns (countOf ns) 0 j h ∙ ap (instAt ns) (zero-add j))
+      ∙ ap (λ (i : Inst). resetState i 1) (insts-at ns (countOf ns) 0 j h ∙ ap (instGiven ns) (zero-add j))
 
   length-timers : length (timersOf ns) ≡ countOf ns
   length-timers = length-map (instsOf ns) (λ (i : Inst). resetState i 1) ∙ length-insts ns (countOf ns) 0
@@ -74,7 +74,7 @@ pub store-begins : (ns w : List ℕ) → Storing ns 0 w w
 store-begins ns w = record { within = omega arith; board = λ x. ap (timed (view w x)) (paste-zero (view w x .timers) 0 (timersOf ns)) }
 
 module _ (ns : List ℕ) (i : ℕ) (w₀ w : List ℕ) (s : Storing ns i w₀ w) where
-  pub store-goes : i < countOf ns → countOf ns ≤ 8 → (j : Inst) (t : Timer) (w₁ : List ℕ) → j ≡ instAt ns i → t ≡ resetState j 1
+  pub store-goes : i < countOf ns → countOf ns ≤ 8 → (j : Inst) (t : Timer) (w₁ : List ℕ) → j ≡ instGiven ns i → t ≡ resetState j 1
       → ((x : List Float) → view w₁ x ≡ withTimer (view w x) i t) → Storing ns (i + 1) w₀ w₁
   store-goes h g j t w₁ p q e = record {
     within = omega arith;

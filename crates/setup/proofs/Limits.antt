@@ -14,7 +14,7 @@ use Rattle.real.specs.Real.{positive}
 use Rattle.tim.specs.declared.Inst.{Inst}
 use Rattle.machine.specs.Board.{noInst}
 use Rattle.machine.specs.Step.{fresh, instGood, instsGood, entriesBelow, withinLimits}
-use Rattle.setup.specs.Setup.{countOf, instAt, instsFrom, instsOf, setupOf, sizesGood}
+use Rattle.setup.specs.Setup.{countOf, instGiven, instsFrom, instsOf, setupOf, sizesGood}
 
 first : (a b : Bool) → (a && b) ≡ true → a ≡ true
 first true b h = refl
@@ -34,8 +34,8 @@ pub record Within (p l : ℕ) (ns ts : List ℕ) : Type 0 where
 
 -- ---- a timer's numbers
 module _ (ns : List ℕ) (i : ℕ) where
-  pub inst-lacking : length ns < i * 7 + 7 → noInst ≡ instAt ns i
-  unfolding instAt
+  pub inst-lacking : length ns < i * 7 + 7 → noInst ≡ instGiven ns i
+  unfolding instGiven
   inst-lacking h = rw (lt-leb (i * 7 + 7) (length ns) h)
 
   pub inst-whole : i * 7 + 7 ≤ length ns
@@ -47,13 +47,13 @@ module _ (ns : List ℕ) (i : ℕ) where
         «en_reg» = getD ns (i * 7 + 4) 0;
         «en_bit» = getD ns (i * 7 + 5) 0;
         irq = getD ns (i * 7 + 6) 0;
-      } ≡ instAt ns i
-  unfolding instAt
+      } ≡ instGiven ns i
+  unfolding instGiven
   inst-whole h = rw (le-leb (i * 7 + 7) (length ns) h)
 
 -- ---- the timers that are left
 module _ (ns : List ℕ) (count i : ℕ) where
-  from-next : i < count → instsFrom ns (count - i) i ≡ instAt ns i ∷ instsFrom ns (count - (i + 1)) (i + 1)
+  from-next : i < count → instsFrom ns (count - i) i ≡ instGiven ns i ∷ instsFrom ns (count - (i + 1)) (i + 1)
   unfolding instsFrom
   from-next h = let e : count - i ≡ suc (count - (i + 1)) = omega arith in ap (λ (m : ℕ). instsFrom ns m i) e
 
@@ -61,15 +61,15 @@ module _ (ns : List ℕ) (count i : ℕ) where
   unfolding instsFrom
   from-none h = let e : count - i ≡ 0 = omega arith in ap (λ (m : ℕ). instsFrom ns m i) e
 
-  module _ (t : Inst) (q : Bool) (load : t ≡ instAt ns i) (h : i < count) where
+  module _ (t : Inst) (q : Bool) (load : t ≡ instGiven ns i) (h : i < count) where
     module _ (n : ℕ) (inv : fresh n (instsFrom ns (count - i) i) ≡ q) where
       pub fresh-taken : t .n ≡ n → false ≡ q
       unfolding fresh
-      fresh-taken e = sym (ap (fresh n) (from-next h) ∙ rw (eq-eqb (instAt ns i .n) n (sym (ap (λ (x : Inst). x .n) load) ∙ e))) ∙ inv
+      fresh-taken e = sym (ap (fresh n) (from-next h) ∙ rw (eq-eqb (instGiven ns i .n) n (sym (ap (λ (x : Inst). x .n) load) ∙ e))) ∙ inv
 
       pub fresh-next : (t .n ≡ n → ⊥) → fresh n (instsFrom ns (count - (i + 1)) (i + 1)) ≡ q
       unfolding fresh
-      fresh-next e = sym (ap (fresh n) (from-next h) ∙ rw (ne-eqb (instAt ns i .n) n (λ z. e (ap (λ (x : Inst). x .n) load ∙ z)))) ∙ inv
+      fresh-next e = sym (ap (fresh n) (from-next h) ∙ rw (ne-eqb (instGiven ns i .n) n (λ z. e (ap (λ (x : Inst). x .n) load ∙ z)))) ∙ inv
 
     module _ (inv : instsGood (instsFrom ns (count - i) i) ≡ q) where
       pub good-bad : instGood t ≡ false → false ≡ q

@@ -21,8 +21,8 @@ abbrev pub countOf : List ℕ → ℕ
 countOf ns = (length ns + 6) / 7
 
 -- timer i. One that lacks numbers is none at all, and its number 0 is refused: "timer numbers 1 to 24"
-unfoldable pub instAt : List ℕ → ℕ → Inst
-instAt ns i = cond (leb (i * 7 + 7) (length ns))
+unfoldable pub instGiven : List ℕ → ℕ → Inst
+instGiven ns i = cond (leb (i * 7 + 7) (length ns))
     (record {
       n = getD ns (i * 7) 0;
       width = getD ns (i * 7 + 1) 0;
@@ -37,7 +37,7 @@ instAt ns i = cond (leb (i * 7 + 7) (length ns))
 -- k timers from i on
 unfoldable pub instsFrom : List ℕ → ℕ → ℕ → List Inst
 instsFrom ns zero i = []
-instsFrom ns (suc k) i = instAt ns i ∷ instsFrom ns k (i + 1)
+instsFrom ns (suc k) i = instGiven ns i ∷ instsFrom ns k (i + 1)
 
 abbrev pub instsOf : List ℕ → List Inst
 instsOf ns = instsFrom ns (countOf ns) 0

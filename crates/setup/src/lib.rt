@@ -12,7 +12,7 @@ ghost use lib.ListN.{length};
 ghost use Rattle.machine.specs.Board.{noInst, freshBoard};
 ghost use Rattle.machine.specs.Step as S;
 ghost use Rattle.state.specs.View.{view};
-ghost use Rattle.setup.specs.Setup.{countOf, instAt, instsFrom, instsOf, setupOf, sizesGood, timersOf, withTimers, withTable, Answered};
+ghost use Rattle.setup.specs.Setup.{countOf, instGiven, instsFrom, instsOf, setupOf, sizesGood, timersOf, withTimers, withTable, Answered};
 
 // ---- the limits
 
@@ -40,7 +40,7 @@ fn no_inst() -> Inst
 // Timer i. One that lacks numbers has the number 0, which no limit allows.
 fn inst_at(timers: &[u32], i: usize) -> Inst
     requires { ⌜ i < 8 ⌝ }
-    ensures { λ r. ⌜ r ≡ instAt (now (timers .entry)) i ⌝ }
+    ensures { λ r. ⌜ r ≡ instGiven (now (timers .entry)) i ⌝ }
 {
     let at = i * 7;
     if at + 7 > timers.len() {

@@ -22,7 +22,7 @@ use Rattle.state.proofs.Cut.{getD-any, map-at, front-at, length-front, 
 use Rattle.state.proofs.InRange.{bounded}
 use Rattle.gpio.specs.Gpio.{isPushPull}
 use Rattle.machine.specs.Board.{noTimer, noGpio}
-use Rattle.state.specs.View.{sizes, realSizes, view, gpiosOf, pinOf, levelOf, signalOf, enableOf, dividerOf}
+use Rattle.state.specs.View.{sizes, realSizes, view, gpiosOf, pinOf, levelOf, signalOf, enableOf, dividerHeld}
 
 pub gpios-at : (bs : List (List ℕ)) (rs : List (List Float)) (p : ℕ) (d : Gpio) → p < length bs
     → getD (gpiosOf bs rs) p d ≡ decodeGpio (getD bs p []) (getD (getD rs p []) 0 nan) (getD (getD rs p []) 1 nan)
@@ -100,19 +100,19 @@ module _ (w : List ℕ) (x : List Float) where
   unfolding view start
   vcc-read = part-at nan realSizes 1 0 x (lit≤ tt)
 
-  divider : (k : ℕ) → k < 6 → dividerOf (getD (getD (parts 0 sizes w) 2 []) k 0) ≡ dividerOf (getD w (324 + k) 0)
+  divider : (k : ℕ) → k < 6 → dividerHeld (getD (getD (parts 0 sizes w) 2 []) k 0) ≡ dividerHeld (getD w (324 + k) 0)
   unfolding start
-  divider k h = ap dividerOf (part-at 0 sizes 2 k w h)
+  divider k h = ap dividerHeld (part-at 0 sizes 2 k w h)
 
   pub tree-read : view w x .clocks .tree ≡ record {
     «sysclk_hz» = getD x 257 nan;
     «hclk_hz» = getD x 258 nan;
-    ppre1 = dividerOf (getD w 324 0);
-    ppre2 = dividerOf (getD w 325 0);
-    ppre3 = dividerOf (getD w 326 0);
-    ppre4 = dividerOf (getD w 327 0);
-    tim1 = dividerOf (getD w 328 0);
-    tim2 = dividerOf (getD w 329 0);
+    ppre1 = dividerHeld (getD w 324 0);
+    ppre2 = dividerHeld (getD w 325 0);
+    ppre3 = dividerHeld (getD w 326 0);
+    ppre4 = dividerHeld (getD w 327 0);
+    tim1 = dividerHeld (getD w 328 0);
+    tim2 = dividerHeld (getD w 329 0);
   }
   unfolding view start
   tree-read =

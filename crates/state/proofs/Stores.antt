@@ -21,7 +21,7 @@ use Rattle.state.specs.Board.{Divider, Divided, withTimer, withRoute, wi
 use Rattle.state.specs.Parts.{start, parts, blocks}
 use Rattle.state.proofs.Cut.{set-pair, map-set, parts-set, parts-pair, parts-paste, paste-all, block-paste, block-pair, length-part, length-blocks, part-at}
 use Rattle.state.proofs.InRange.{bounded}
-use Rattle.state.specs.View.{sizes, realSizes, view, boardOf, gpiosOf, treeOf, dividerOf}
+use Rattle.state.specs.View.{sizes, realSizes, view, boardOf, gpiosOf, treeOf, dividerHeld}
 
 pub gpios-set : (bs : List (List ℕ)) (rs : List (List Float)) (p : ℕ) (b : List ℕ) (r : List Float) → p < length bs → p < length rs
     → gpiosOf (set bs p b) (set rs p r) ≡ set (gpiosOf bs rs) p (decodeGpio b (getD r 0 nan) (getD r 1 nan))
@@ -45,7 +45,7 @@ module _ (l : List ℕ) (h : length l ≡ 4) where
       go (p ∷ q ∷ r ∷ s ∷ t ∷ l) h = absurd (omega arith)
 
 -- a divider comes back from its word
-divider-back : (d : ℕ) → Divider d → dividerOf (d - 1) ≡ d
+divider-back : (d : ℕ) → Divider d → dividerHeld (d - 1) ≡ d
 divider-back d h = omega arith
 
 pub dividers : (t : ClockTree) → Divided t

@@ -23,19 +23,19 @@ abbrev pub realSizes : List ℕ
 realSizes = 256 ∷ 1 ∷ 2 ∷ 2 ∷ []
 
 -- a divider's word holds one less
-abbrev pub dividerOf : ℕ → ℕ
-dividerOf w = w % 8192 + 1
+abbrev pub dividerHeld : ℕ → ℕ
+dividerHeld w = w % 8192 + 1
 
 abbrev pub treeOf : List ℕ → List Float → ClockTree
 treeOf ds fs = record {
   «sysclk_hz» = getD fs 0 nan;
   «hclk_hz» = getD fs 1 nan;
-  ppre1 = dividerOf (getD ds 0 0);
-  ppre2 = dividerOf (getD ds 1 0);
-  ppre3 = dividerOf (getD ds 2 0);
-  ppre4 = dividerOf (getD ds 3 0);
-  tim1 = dividerOf (getD ds 4 0);
-  tim2 = dividerOf (getD ds 5 0);
+  ppre1 = dividerHeld (getD ds 0 0);
+  ppre2 = dividerHeld (getD ds 1 0);
+  ppre3 = dividerHeld (getD ds 2 0);
+  ppre4 = dividerHeld (getD ds 3 0);
+  tim1 = dividerHeld (getD ds 4 0);
+  tim2 = dividerHeld (getD ds 5 0);
 }
 
 abbrev pub clockOf : List ℕ → List Float → ClockModel

@@ -12,7 +12,7 @@ ghost use Rattle.nvic.specs.Nvic.{setLine, clearPending, lineAt, stateOf};
 ghost use Rattle.scheduler.specs.Booking.{least};
 ghost use Rattle.state.specs.Board.{Divided, timerAt, gpioAt, routeAt, sigLevelAt, afAt, enrAt, bookedAt, withTimer, withInst, withGpio, withAfAt, withRoute, withSigLevel, withBooking, withNvic, withTree, withClock, withEnr, withLast, withSizes};
 ghost use Rattle.state.specs.Parts.{front};
-ghost use Rattle.state.specs.View.{view, dividerOf, treeOf};
+ghost use Rattle.state.specs.View.{view, dividerHeld, treeOf};
 use clk::ClockTree;
 use pins::ClockModel;
 use tim::Timer;
@@ -247,7 +247,7 @@ pub fn set_sig_level(words: &mut [u64; WORDS], s: usize, level: u8)
 // ---- clocks
 
 fn divider_of(w: u64) -> u32
-    ensures { λ r. ⌜ r ≡ dividerOf w ⌝ }
+    ensures { λ r. ⌜ r ≡ dividerHeld w ⌝ }
 {
     (w % 8192 + 1) as u32
 }

@@ -25,8 +25,8 @@ use Rattle.book.proofs.Laws.{holds}
 use Rattle.machine.specs.Board.{Board, timerAt, withTimer, withLast}
 use Rattle.machine.specs.Deliver.{dividerOf, lineSettled, rebooked}
 use Rattle.machine.specs.Call.{Call, Outcome, write, served}
-use Rattle.machine.specs.Step.{step, refuseIf, astray, clockOn, register, present, written, counterAstray, followed}
-use Rattle.machine.specs.Refusals.{Refusal, refusals, first, rises}
+use Rattle.machine.specs.Step.{step, refuseIf, clockOn, register, present, written, counterAstray, followed}
+use Rattle.machine.specs.Refusals.{Refusal, refusals, inOrder, first}
 use Rattle.machine.specs.Refusals as Refusals
 use Rattle.state.specs.Board.{withInst}
 use Rattle.state.specs.View.{view}
@@ -331,7 +331,7 @@ module _ (w : List ℕ) (x : List Float) (timer offset size value cycle room num
   module _ (z : num ≡ 0) (on : Bool) (gate : on ≡ clockOn (view w x) (timerAt (view w x) timer)) where
     -- the four tests pass: the gate, and what is below it
     pub write-gated : step (view w x) writing ≡ cond on (writtenOn (view w x) timer offset size value cycle) (served 0 (withLast (view w x) cycle))
-    unfolding step given rises written writtenBy
+    unfolding step given inOrder written writtenBy
     write-gated = rw gate (go _ (verdict 0 tests (view w x) _ refl))
       where
         go : (o : Outcome) → Verdict tests (view w x) o → given tests (view w x) o ≡ o

@@ -2,7 +2,7 @@
 use Prim.Native.Nat.{_-_}
 use Rattle.book.specs.Book.{book, slices}
 use Rattle.delivery.proofs.Laws.{Going, begins, of-four, goes, going-on, ends-none, ends-stop, room-ends}
-use Rattle.machine.specs.Deliver.{run, mostEvents}
+use Rattle.machine.specs.Deliver.{handled, mostEvents}
 use Rattle.state.specs.View.{view}
 use borrow.Author.Needs.{needs}
 use lib.ListN.{length}
@@ -13,7 +13,7 @@ use Rattle.delivery.proofs.run.Tie as tie
 
 abbrev Inv-loop : tie.InvT-loop
 Inv-loop words₀ reals₀ pins₀ levels₀ cycles₀ div cycle room t₀ events₀ count₀ words reals pins levels cycles t events count =
-    Going cycle div room (run mostEvents cycle div room t₀ (view words₀ reals₀ .pads)) (view words₀ reals₀) (book (slices pins₀ levels₀ cycles₀) 0) t (view words reals) (book (slices pins levels cycles) count) events
+    Going cycle div room (handled mostEvents cycle div room t₀ (view words₀ reals₀ .pads)) (view words₀ reals₀) (book (slices pins₀ levels₀ cycles₀) 0) t (view words reals) (book (slices pins levels cycles) count) events
     × (length pins ≡ length pins₀) × (length levels ≡ length levels₀) × (length cycles ≡ length cycles₀)
 
 abbrev μ-loop : tie.MeasureT-loop
