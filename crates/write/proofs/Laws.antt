@@ -34,7 +34,7 @@ use Rattle.state.proofs.InRange.{bounded}
 use Rattle.rcc.proofs.Laws.{stored-there}
 use Rattle.answer.specs.declared.Answer.{Answer}
 use Rattle.answer.specs.Promise.{answer, Answers}
-use Rattle.machine.proofs.NumberLaws.{Verdict, refuses, passes, given, verdict}
+use Rattle.machine.proofs.NumberLaws.{given, passing}
 use Rattle.answer.proofs.Given.{first-front, away, gives, turns-away, turns-away-book, unbooked}
 use Rattle.mmio.specs.Leaves.{Leaves, after}
 use Rattle.mmio.proofs.Laws.{asked, after-stored}
@@ -332,11 +332,7 @@ module _ (w : List ℕ) (x : List Float) (timer offset size value cycle room num
     -- the four tests pass: the gate, and what is below it
     pub write-gated : step (view w x) writing ≡ cond on (writtenOn (view w x) timer offset size value cycle) (served 0 (withLast (view w x) cycle))
     unfolding step given inOrder written writtenBy
-    write-gated = rw gate (go _ (verdict 0 tests (view w x) _ refl))
-      where
-        go : (o : Outcome) → Verdict tests (view w x) o → given tests (view w x) o ≡ o
-        go o (refuses n l u f a g) = absurd (omega (arith, sym f ∙ sym h ∙ z))
-        go o (passes f a g) = g
+    write-gated = rw gate (passing tests (view w x) _ refl (sym h ∙ z))
 
     pub write-below : on ≡ true → (r : Answer) (w₁ : List ℕ) (x₁ : List Float) → Answers (writtenOn (view w x) timer offset size value cycle) r w w₁ x x₁
         → Answers (step (view w x) writing) r w w₁ x x₁
