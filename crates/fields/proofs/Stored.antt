@@ -16,11 +16,10 @@ use Rattle.tim.specs.Count.{atCount}
 use Rattle.tim.specs.Change.{withDone}
 use Rattle.regs.specs.Regs.{withPsc, withCcr, withCcrAct}
 use Rattle.codec.specs.Codec.{CountFit, u32At, decodeTimer}
-use Rattle.state.specs.Board.{timerAt, withTimer}
 use Rattle.state.proofs.Cut.{front-at}
 use Rattle.state.specs.View.{view}
 use Rattle.state.proofs.InRange.{bounded}
-use Rattle.machine.specs.Board.{Board}
+use Rattle.machine.specs.Board.{Board, timerAt, withTimer}
 use Rattle.fields.specs.Field.{withReg, withRun}
 use Rattle.fields.proofs.Words.{changed-twice, block, held, unchanged, changed, fields-set, field-set}
 use Rattle.fields.proofs.Decoded as D

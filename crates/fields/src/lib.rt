@@ -16,7 +16,7 @@ ghost use Rattle.tim.specs.Change.{withDone};
 ghost use Rattle.regs.specs.Regs as R;
 ghost use Rattle.codec.specs.Codec.{CountFit};
 ghost use Rattle.state.specs.View.{view};
-ghost use Rattle.state.specs.Board.{timerAt, withTimer};
+ghost use Rattle.machine.specs.Board.{timerAt, withTimer};
 ghost use Rattle.fields.specs.Field.{withReg, withRun};
 
 fn seen(s: &[u64]) {}

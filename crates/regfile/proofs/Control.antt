@@ -14,9 +14,8 @@ use Rattle.tim.specs.Change.{withDone, recomputed, started, stopped}
 use Rattle.tim.proofs.Fit.{either}
 use Rattle.regs.specs.Regs.{keptCr1, withCr1, turned, cr1Written, astray}
 use Rattle.regs.proofs.Fit.{fit-cr1}
-use Rattle.machine.specs.Board.{Board}
+use Rattle.machine.specs.Board.{Board, timerAt, withTimer}
 use Rattle.machine.specs.Deliver.{dividerOf}
-use Rattle.state.specs.Board.{timerAt, withTimer}
 use Rattle.fields.specs.Field.{withRun}
 
 -- ---- what keeps the rest of t

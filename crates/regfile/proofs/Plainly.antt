@@ -10,8 +10,7 @@ use Rattle.rm0440.specs.Registers.{keptMask, mask, bits}
 use Rattle.tim.specs.declared.Timer.{Timer}
 use Rattle.tim.specs.Timer.{withRegs}
 use Rattle.regs.specs.Regs.{withPsc}
-use Rattle.machine.specs.Board.{Board}
-use Rattle.state.specs.Board.{timerAt, withTimer}
+use Rattle.machine.specs.Board.{Board, timerAt, withTimer}
 use Rattle.fields.specs.Field.{withReg}
 use Rattle.regfile.specs.Plain.{plain, lines, plainRegs}
 
