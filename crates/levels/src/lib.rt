@@ -8,29 +8,11 @@ use words::GPIO_WORDS;
 ghost use mathlib.Core.Path.{_≡_};
 ghost use mathlib.Core.List.{List};
 ghost use Prim.Native.Nat.{ℕ, _<_, _≤_};
-ghost use lib.ListN.{length};
 ghost use lib.Ieee.{Float};
 ghost use Rattle.pins.specs.Pins.{supplyAt};
 ghost use Rattle.gpio.specs.Gpio.{isPushPull, pushPull};
 ghost use Rattle.state.specs.Board.{pinAt, pinSet};
 ghost use Rattle.state.specs.View.{view};
-
-fn seen(s: &[u64]) {}
-
-fn seen_reals(s: &[f64]) {}
-
-// The words are as many as their type says. Nothing is done.
-fn sized(words: &[u64; WORDS])
-    ensures { λ _. ⌜ length (now (words .entry)) ≡ 5276 ⌝ }
-{
-    seen(words);
-}
-
-fn sized_reals(reals: &[f64; REALS])
-    ensures { λ _. ⌜ length (now (reals .entry)) ≡ 264 ⌝ }
-{
-    seen_reals(reals);
-}
 
 pub fn level(words: &[u64; WORDS], p: usize) -> u8
     requires { ⌜ p < 128 ⌝ }
@@ -74,8 +56,8 @@ pub fn drive_level(words: &mut [u64; WORDS], reals: &mut [f64; REALS], p: usize,
     requires { ⌜ (p < 128) × (level ≤ 1) ⌝ }
     ensures { λ _. ⌜ view (now (words .exit)) (now (reals .exit)) ≡ pinSet (view (now (words .entry)) (now (reals .entry))) p (pushPull (pinAt (view (now (words .entry)) (now (reals .entry))) p) level (view (now (words .entry)) (now (reals .entry)) .pads .vcc)) ⌝ }
 {
-    sized(words);
-    sized_reals(reals);
+    state::sized(words);
+    state::sized_reals(reals);
     let v = volts(reals, level);
     let at = GPIO + p * GPIO_WORDS;
     let up = words[at + 3] % 2;

@@ -87,13 +87,14 @@ fn seen(s: &[u64]) {}
 fn seen_reals(s: &[f64]) {}
 
 // The words are as many as their type says. Nothing is done.
-fn sized(words: &[u64; WORDS])
+pub fn sized(words: &[u64; WORDS])
     ensures { λ _. ⌜ length (now (words .entry)) ≡ 5276 ⌝ }
 {
     seen(words);
 }
 
-fn sized_reals(reals: &[f64; REALS])
+// The reals the same.
+pub fn sized_reals(reals: &[f64; REALS])
     ensures { λ _. ⌜ length (now (reals .entry)) ≡ 264 ⌝ }
 {
     seen_reals(reals);
