@@ -13,16 +13,17 @@ use lib.Ieee.{Float, nan}
 use Rattle.real.specs.Real.{zeroFloat}
 use Rattle.clk.specs.Clk.{flatTree}
 use Rattle.pins.specs.Clock.{started}
-use Rattle.nvic.specs.Nvic.{lineOf}
+use Rattle.nvic.specs.Nvic.{lineOf, idle}
 use Rattle.scheduler.specs.Booking.{never}
 use Rattle.sig.specs.Signal.{isUart, idleLevel}
 use Rattle.codec.specs.Codec.{decodeTimer}
+use Rattle.machine.specs.Board.{Board, blankGpio}
 use Rattle.words.specs.Codec.{decodeGpio, extOf}
 use Rattle.state.specs.Board.{Divided, withVcc, withTree, withClock}
 use Rattle.state.specs.Parts.{start, parts, blocks, listed, repeated}
 use Rattle.state.proofs.Cut.{length-listed, listed-at, repeated-at, listed-ext, all-one, map-listed, map-at, front-at, front-filler, parts-whole, parts-filler, paste-all, block-front, length-blocks, part-at, length-part}
-use Rattle.state.specs.View.{sizes, realSizes, view, gpiosOf, signalOf, pinOf, levelOf, enableOf}
-use Rattle.blank.specs.Fresh.{blankGpio, freshBoard, blankParts}
+use Rattle.state.specs.View.{sizes, realSizes, view, gpiosOf, heldSignal, heldPin, heldLevel, heldEnable}
+use Rattle.blank.specs.Fresh.{blankParts}
 use Rattle.state.proofs.InRange.{length-gpios}
 use Rattle.state.proofs.Places.{gpios-at}
 
@@ -116,15 +117,15 @@ blank-gpios n m q le =
         ∙ listed-at (λ j. zeroFloat) 0 q (i * 2 + k) nan (omega arith)
 
 -- a signal's idle level is a level
-idle-level : (s : ℕ) → levelOf (idleLevel s) ≡ idleLevel s
+idle-level : (s : ℕ) → heldLevel (idleLevel s) ≡ idleLevel s
 idle-level s = go (isUart s 0)
   where
     go : (b : Bool) → cond b 1 0 % 2 ≡ cond b 1 0
     go true = refl
     go false = refl
 
-idle-levels : (n : ℕ) → map levelOf (listed idleLevel 0 n) ≡ listed idleLevel 0 n
-idle-levels n = map-listed levelOf idleLevel 0 n ∙ listed-ext (λ s. levelOf (idleLevel s)) idleLevel idle-level 0 n
+idle-levels : (n : ℕ) → map heldLevel (listed idleLevel 0 n) ≡ listed idleLevel 0 n
+idle-levels n = map-listed heldLevel idleLevel 0 n ∙ listed-ext (λ s. heldLevel (idleLevel s)) idleLevel idle-level 0 n
 
 pub flat-divided : (hz : Float) → Divided (flatTree hz)
 flat-divided hz = record {
@@ -134,6 +135,17 @@ flat-divided hz = record {
   ppre4 = record { pos = lit≤ tt; le = lit≤ tt };
   tim1 = record { pos = lit≤ tt; le = lit≤ tt };
   tim2 = record { pos = lit≤ tt; le = lit≤ tt };
+}
+
+-- the board that they hold, its lists as the words' parts make them; the places of timers hold zeros, with a step of 1 cycle
+unfoldable pub blankBoard : Float → Float → Board
+blankBoard hz vcc = record {
+  timers = repeated 8 (decodeTimer []);
+  booking = repeated 8 never;
+  nvic = record { nirq = 0; lines = repeated 256 idle };
+  pads = record { gpio = repeated 128 blankGpio; af = repeated 2048 0; route = repeated 256 128; sigLevel = listed idleLevel 0 256; vcc = vcc };
+  clocks = record { tree = flatTree hz; clock = started hz; enr = repeated 9 0 };
+  counts = record { timers = 0; pins = 0; last = 0 };
 }
 
 module _ (w : List ℕ) (x₀ x : List Float) (hz vcc : Float) (size : length x₀ ≡ 264)
@@ -146,9 +158,9 @@ module _ (w : List ℕ) (x₀ x : List Float) (hz vcc : Float) (size : length x�
       all-one zeroFloat nan 256 (getD (parts nan realSizes x) 0 []) (length-part nan realSizes 0 x)
       (λ i h. part-at nan realSizes 0 i x h ∙ ap (λ (l : List Float). getD l (0 + i) nan) e ∙ listed-at (λ k. zeroFloat) 0 264 (0 + i) nan (omega arith))
 
-  pub fresh : withClock (withTree (withVcc (view w x) vcc) (flatTree hz)) (started hz) ≡ freshBoard hz vcc
-  unfolding view freshBoard
+  pub fresh : withClock (withTree (withVcc (view w x) vcc) (flatTree hz)) (started hz) ≡ blankBoard hz vcc
+  unfolding view blankBoard
   fresh =
       let zero : (i : ℕ) → getD (zeros 4) i 0 ≡ 0 = repeated-at 0 4 in
       rw
-      (words, zero-reals, blank-timers 8 320, blank-gpios 128 2048 256 (lit≤ tt), idle-levels 256, map-listed lineOf (λ k. 0) 0 256, map-listed signalOf (λ k. 0) 0 2048, map-listed pinOf (λ k. 128) 0 256, map-listed enableOf (λ k. 0) 0 9, zero 0, zero 1, zero 2, zero 3)
+      (words, zero-reals, blank-timers 8 320, blank-gpios 128 2048 256 (lit≤ tt), idle-levels 256, map-listed lineOf (λ k. 0) 0 256, map-listed heldSignal (λ k. 0) 0 2048, map-listed heldPin (λ k. 128) 0 256, map-listed heldEnable (λ k. 0) 0 9, zero 0, zero 1, zero 2, zero 3)

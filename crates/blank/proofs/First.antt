@@ -9,17 +9,16 @@ use Rattle.nvic.specs.declared.Line.{Line}
 use Rattle.nvic.specs.Nvic.{idle}
 use Rattle.scheduler.specs.Booking.{never}
 use Rattle.codec.specs.Codec.{decodeTimer}
-use Rattle.machine.specs.Board as M
-use Rattle.machine.specs.Board.{Board, noTimer, blankGpio}
-use Rattle.blank.specs.Fresh.{freshBoard}
+use Rattle.machine.specs.Board.{Board, noTimer, blankGpio, freshBoard}
+use Rattle.blank.proofs.Blank.{blankBoard}
 use Rattle.blank.proofs.Unrouted.{alike, idle-list}
 
 empty-timer : decodeTimer [] ≡ noTimer
 unfolding decodeTimer
 empty-timer = refl
 
-pub first : (hz vcc : Float) → freshBoard hz vcc ≡ M.freshBoard hz vcc 0 0 [] []
-unfolding freshBoard M.freshBoard
+pub first : (hz vcc : Float) → blankBoard hz vcc ≡ freshBoard hz vcc 0 0 [] []
+unfolding blankBoard freshBoard
 first hz vcc =
     rw (
       empty-timer,

@@ -14,7 +14,7 @@ use Rattle.machine.specs.Board.{withPads, idleLevels}
 use Rattle.machine.specs.Sys.{unrouted}
 use Rattle.state.specs.Parts.{start, parts, listed, repeated}
 use Rattle.state.proofs.Cut.{length-listed, map-listed, parts-whole}
-use Rattle.state.specs.View.{sizes, realSizes, view, boardOf, pinOf, levelOf}
+use Rattle.state.specs.View.{sizes, realSizes, view, boardOf, heldPin, heldLevel}
 
 pub alike : {A : Type 0} (a : A) (k n : ℕ) → listed (λ j. a) k n ≡ replicate n a
 unfolding listed
@@ -30,7 +30,7 @@ bit-level : (b : Bool) → cond b 1 0 % 2 ≡ cond b 1 0
 bit-level true = refl
 bit-level false = refl
 
-idle : (k n : ℕ) → listed (λ j. levelOf (idleLevel j)) k n ≡ idleLevels k n
+idle : (k n : ℕ) → listed (λ j. heldLevel (idleLevel j)) k n ≡ idleLevels k n
 unfolding listed idleLevels
 idle k zero = refl
 idle k (suc n) = rw (bit-level (isUart k 0), add-one k, idle (suc k) n)
@@ -53,4 +53,4 @@ module _ (w₀ w₁ w₂ : List ℕ) (x : List Float) (size : length w₀ ≡ 52
   unfolding view parts start unrouted
   unrouted-view =
       ap (λ (ws : List (List ℕ)). boardOf ws (parts nan realSizes x)) both
-      ∙ rw (map-listed pinOf (λ k. 128) 0 256, alike {A = ℕ} 128 0 256, map-listed levelOf idleLevel 0 256, idle 0 256)
+      ∙ rw (map-listed heldPin (λ k. 128) 0 256, alike {A = ℕ} 128 0 256, map-listed heldLevel idleLevel 0 256, idle 0 256)

@@ -10,41 +10,23 @@ use state::WORDS;
 ghost use mathlib.Core.Path.{_≡_};
 ghost use mathlib.Core.List.{List, []};
 ghost use Prim.Native.Nat.{ℕ, _+_, _≤_};
-ghost use lib.ListN.{length};
 ghost use lib.Seq.{paste};
 ghost use lib.Ieee.{Float};
 ghost use Rattle.real.specs.Real.{zeroFloat};
 ghost use Rattle.sig.specs.Signal.{idleLevel};
-ghost use Rattle.machine.specs.Board.{freshBoard};
+ghost use Rattle.machine.specs.Board.{freshBoard, withPads};
 ghost use Rattle.machine.specs.Sys.{unrouted};
-ghost use Rattle.state.specs.Board.{withPads, withVcc};
+ghost use Rattle.state.specs.Board.{withVcc};
 ghost use Rattle.state.specs.Parts.{parts, listed, repeated};
 ghost use Rattle.state.specs.View.{sizes, view};
 ghost use Rattle.blank.specs.Fresh.{blankParts};
-
-fn seen(s: &[u64]) {}
-
-fn seen_reals(s: &[f64]) {}
-
-// The words are as many as their type says. Nothing is done.
-fn sized(words: &[u64; WORDS])
-    ensures { λ _. ⌜ length (now (words .entry)) ≡ 5276 ⌝ }
-{
-    seen(words);
-}
-
-fn sized_reals(reals: &[f64; REALS])
-    ensures { λ _. ⌜ length (now (reals .entry)) ≡ 264 ⌝ }
-{
-    seen_reals(reals);
-}
 
 // n words from `at` on take the value v.
 fn fill(words: &mut [u64; WORDS], at: usize, n: usize, v: u64)
     requires { ⌜ at + n ≤ 5276 ⌝ }
     ensures { λ _. ⌜ now (words .exit) ≡ paste (now (words .entry)) at (repeated n v) n ⌝ }
 {
-    sized(words);
+    state::sized(words);
     let mut j = 0;
     while j < n {
         words[at + j] = v;
@@ -56,7 +38,7 @@ fn fill(words: &mut [u64; WORDS], at: usize, n: usize, v: u64)
 fn idle_levels(words: &mut [u64; WORDS])
     ensures { λ _. ⌜ now (words .exit) ≡ paste (now (words .entry)) 604 (listed idleLevel 0 256) 256 ⌝ }
 {
-    sized(words);
+    state::sized(words);
     let mut s = 0;
     while s < 256 {
         words[SIG_LEVEL + s] = sig::idle_level(s as u16) as u64;
@@ -68,7 +50,7 @@ fn idle_levels(words: &mut [u64; WORDS])
 pub fn unroute(words: &mut [u64; WORDS])
     ensures { λ _. ⌜ ((x : List Float) → view (now (words .exit)) x ≡ withPads (view (now (words .entry)) x) (unrouted (view (now (words .entry)) x .pads))) ⌝ }
 {
-    sized(words);
+    state::sized(words);
     fill(words, ROUTE, 256, 128);
     idle_levels(words);
 }
@@ -76,7 +58,7 @@ pub fn unroute(words: &mut [u64; WORDS])
 fn zero_reals(reals: &mut [f64; REALS])
     ensures { λ _. ⌜ now (reals .exit) ≡ paste (now (reals .entry)) 0 (repeated 264 zeroFloat) 264 ⌝ }
 {
-    sized_reals(reals);
+    state::sized_reals(reals);
     let mut j = 0;
     while j < REALS {
         reals[j] = 0.0;
@@ -87,14 +69,14 @@ fn zero_reals(reals: &mut [f64; REALS])
 fn set_vcc(reals: &mut [f64; REALS], v: f64)
     ensures { λ _. ⌜ ((w : List ℕ) → view w (now (reals .exit)) ≡ withVcc (view w (now (reals .entry))) v) ⌝ }
 {
-    sized_reals(reals);
+    state::sized_reals(reals);
     reals[VCC] = v;
 }
 
 fn clear_words(words: &mut [u64; WORDS])
     ensures { λ _. ⌜ parts 0 sizes (now (words .exit)) ≡ blankParts ⌝ }
 {
-    sized(words);
+    state::sized(words);
     fill(words, 0, WORDS, 0);
     fill(words, BOOKING, 8, scheduler::NEVER);
     fill(words, ROUTE, 256, 128);
@@ -105,7 +87,7 @@ fn clear_words(words: &mut [u64; WORDS])
 pub fn clear(words: &mut [u64; WORDS], reals: &mut [f64; REALS], hz: f64, vcc: f64)
     ensures { λ _. ⌜ view (now (words .exit)) (now (reals .exit)) ≡ freshBoard hz vcc 0 0 [] [] ⌝ }
 {
-    sized_reals(reals);
+    state::sized_reals(reals);
     clear_words(words);
     zero_reals(reals);
     set_vcc(reals, vcc);

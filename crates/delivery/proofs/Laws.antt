@@ -25,7 +25,7 @@ use Rattle.book.specs.Book.{Entry, Book, book, put, puts, entriesOf, Lent, Room
 use Rattle.book.proofs.Laws.{puts-append, holds}
 use Rattle.state.specs.View.{view}
 use Rattle.state.proofs.InRange.{bounded}
-use Rattle.state.specs.Board.{withBooking, withInst}
+use Rattle.state.specs.Board.{bookingSet, withInst}
 use Rattle.machine.specs.Board.{Board, Pads, noTimer, timerAt, withPads, withTimer}
 use Rattle.machine.specs.Sys.{driveOutputs}
 use Rattle.machine.specs.Deliver.{applied, countAt, Turn, turn, turnOf, dueBy, Run, stop, after, handled as run, mostEvents, dividerOf, bookingOf, lineSettled, rebooked, delivered, afterDelivery}
@@ -266,9 +266,9 @@ room-ends cycle div room places t b b₁ k k₁ r h e = subst (λ (n : ℕ). End
 pub loaded-fit : (w : List ℕ) (x : List Float) (i : ℕ) (t : Timer) → t ≡ timerAt (view w x) i → Fit t
 loaded-fit w x i t h = rw h (bounded w x .timer-fit i)
 
-pub due-booked : (b b₁ : Board) (i cycle : ℕ) (t : Timer) (d : Due) → d ≡ nextEvent t → b₁ ≡ withBooking b i (bookingOf d cycle) → b₁ ≡ rebooked i t cycle b
+pub due-booked : (b b₁ : Board) (i cycle : ℕ) (t : Timer) (d : Due) → d ≡ nextEvent t → b₁ ≡ bookingSet b i (bookingOf d cycle) → b₁ ≡ rebooked i t cycle b
 unfolding rebooked
-due-booked b b₁ i cycle t d h e = e ∙ ap (λ (x : Due). withBooking b i (bookingOf x cycle)) h
+due-booked b b₁ i cycle t d h e = e ∙ ap (λ (x : Due). bookingSet b i (bookingOf x cycle)) h
 
 -- the timer stored where there was an event: the board with what the run leaves
 stored : (b b₁ b₂ : Board) (p : Pads) (i events : ℕ) (t s : Timer) → t ≡ timerAt b i → b₁ ≡ withPads b p → s .inst ≡ t .inst → (events ≡ 0 → s ≡ t)

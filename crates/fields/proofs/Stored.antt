@@ -15,7 +15,7 @@ use Rattle.tim.specs.Count.{atCount}
 use Rattle.tim.specs.Change.{withDone}
 use Rattle.regs.specs.Regs.{withCcr, withCcrAct}
 use Rattle.codec.specs.Codec.{u32At, decodeTimer}
-use Rattle.state.specs.Board.{timerAt, withTimer}
+use Rattle.machine.specs.Board.{timerAt, withTimer}
 use Rattle.state.proofs.Cut.{front-at}
 use Rattle.state.specs.View.{view}
 use Rattle.fields.specs.Field.{withReg}

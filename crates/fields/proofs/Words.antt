@@ -9,8 +9,7 @@ use lib.Seq.{getD-set-same, drop-set-add, set-set, set-getD}
 use lib.Ieee.{Float, nan}
 use Rattle.tim.specs.declared.Timer.{Timer}
 use Rattle.codec.specs.Codec.{decodeTimer}
-use Rattle.machine.specs.Board.{Board, noTimer}
-use Rattle.state.specs.Board.{timerAt, withTimer}
+use Rattle.machine.specs.Board.{Board, noTimer, timerAt, withTimer}
 use Rattle.state.specs.Parts.{start, front, parts, blocks}
 use Rattle.state.proofs.Cut.{map-set, parts-set, block-set, part-block, length-part}
 use Rattle.state.specs.View.{sizes, realSizes, view, boardOf}

@@ -13,7 +13,7 @@ ghost use Rattle.tim.specs.Count.{atCount};
 ghost use Rattle.tim.specs.Change.{withDone};
 ghost use Rattle.regs.specs.Regs as R;
 ghost use Rattle.state.specs.View.{view};
-ghost use Rattle.state.specs.Board.{timerAt, withTimer};
+ghost use Rattle.machine.specs.Board.{timerAt, withTimer};
 ghost use Rattle.fields.specs.Field.{withReg};
 
 fn seen(s: &[u64]) {}

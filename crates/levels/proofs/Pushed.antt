@@ -15,7 +15,7 @@ use Rattle.words.specs.Codec.{decodeGpio, extOf}
 use Rattle.pins.specs.Pins.{supplyAt}
 use Rattle.gpio.specs.Gpio.{bit, pushPull}
 use Rattle.machine.specs.Board.{noGpio}
-use Rattle.state.specs.Board.{gpioAt, withGpios, withGpio}
+use Rattle.state.specs.Board.{pinAt, withGpios, pinSet}
 use Rattle.state.specs.Parts.{start, front, parts, blocks}
 use Rattle.state.proofs.Cut.{front-at, parts-set, block-set, part-block, length-parts, length-part, length-blocks, length-block}
 use Rattle.state.specs.View.{sizes, realSizes, view, boardOf, gpiosOf}
@@ -69,7 +69,7 @@ module _ (p : ℕ) (h : p < 128) where
     abbrev pair : List Float
     pair = getD (blocks nan 128 2 (getD (parts nan realSizes x) 0 [])) p []
 
-    held : gpioAt (view w x) p ≡ decodeGpio words (getD pair 0 nan) (getD pair 1 nan)
+    held : pinAt (view w x) p ≡ decodeGpio words (getD pair 0 nan) (getD pair 1 nan)
     unfolding view start
     held =
         let bs : List (List ℕ) = blocks 0 128 16 (getD (parts 0 sizes w) 9 []) in
@@ -77,7 +77,7 @@ module _ (p : ℕ) (h : p < 128) where
         ∙ ap (λ (b : List ℕ). decodeGpio b (getD pair 0 nan) (getD pair 1 nan)) (part-block 0 sizes 9 128 16 p w (lit≤ tt) h (lit≤ tt))
 
     pin-stored : (ss : List Store) → Within 16 ss → (v : Float)
-        → view (stored w (1116 + p * 16) ss) (set x (0 + p * 2) v) ≡ withGpio (view w x) p (decodeGpio (stored words 0 ss) v (getD pair 1 nan))
+        → view (stored w (1116 + p * 16) ss) (set x (0 + p * 2) v) ≡ pinSet (view w x) p (decodeGpio (stored words 0 ss) v (getD pair 1 nan))
     unfolding view parts start
     pin-stored ss g v =
         let bs : List ℕ = getD (parts 0 sizes w) 9 [] in
@@ -129,7 +129,7 @@ decode-driven l v u vcc level h =
 module _ (w : List ℕ) (x : List Float) (size : length w ≡ 5276) (reals : length x ≡ 264) (p : ℕ) (h : p < 128) where
   pub driven-set : (level : ℕ) → level ≤ 1 → (v : Float) → v ≡ supplyAt (view w x .pads .vcc) level
       → view (stored w (1116 + p * 16) (driven (getD w (1116 + p * 16 + 3) 0 % 2) (getD w (1116 + p * 16 + 4) 0 % 2) level)) (set x (0 + p * 2) v)
-      ≡ withGpio (view w x) p (pushPull (gpioAt (view w x) p) level (view w x .pads .vcc))
+      ≡ pinSet (view w x) p (pushPull (pinAt (view w x) p) level (view w x .pads .vcc))
   driven-set level k v e =
       let at : ℕ = 1116 + p * 16 in
       let l : List ℕ = drop at w in
@@ -140,7 +140,7 @@ module _ (w : List ℕ) (x : List Float) (size : length w ≡ 5276) (reals : len
       ap (λ (f : Float). view (stored w at (driven (getD w (at + 3) 0 % 2) (getD w (at + 4) 0 % 2) level)) (set x (0 + p * 2) f)) e
       ∙ pin-stored p h w x size reals (driven (getD w (at + 3) 0 % 2) (getD w (at + 4) 0 % 2) level)
       (lit≤ tt, (lit≤ tt, (lit≤ tt, (lit≤ tt, (lit≤ tt, (lit≤ tt, (lit≤ tt, (lit≤ tt, tt)))))))) (supplyAt vcc level)
-      ∙ ap (withGpio (view w x) p)
+      ∙ ap (pinSet (view w x) p)
       (ap (λ (n : ℕ). decodeGpio (stored b 0 (driven (n % 2) (getD w (at + 4) 0 % 2) level)) (supplyAt vcc level) u) (word 3 (lit≤ tt))
       ∙ ap (λ (n : ℕ). decodeGpio (stored b 0 (driven (getD b 3 0 % 2) (n % 2) level)) (supplyAt vcc level) u) (word 4 (lit≤ tt))
       ∙ decode-driven l (getD (pair p h w x size reals) 0 nan) u vcc level k

@@ -8,33 +8,15 @@ use words::GPIO_WORDS;
 ghost use mathlib.Core.Path.{_≡_};
 ghost use mathlib.Core.List.{List};
 ghost use Prim.Native.Nat.{ℕ, _<_, _≤_};
-ghost use lib.ListN.{length};
 ghost use lib.Ieee.{Float};
 ghost use Rattle.pins.specs.Pins.{supplyAt};
 ghost use Rattle.gpio.specs.Gpio.{isPushPull, pushPull};
-ghost use Rattle.state.specs.Board.{gpioAt, withGpio};
+ghost use Rattle.state.specs.Board.{pinAt, pinSet};
 ghost use Rattle.state.specs.View.{view};
-
-fn seen(s: &[u64]) {}
-
-fn seen_reals(s: &[f64]) {}
-
-// The words are as many as their type says. Nothing is done.
-fn sized(words: &[u64; WORDS])
-    ensures { λ _. ⌜ length (now (words .entry)) ≡ 5276 ⌝ }
-{
-    seen(words);
-}
-
-fn sized_reals(reals: &[f64; REALS])
-    ensures { λ _. ⌜ length (now (reals .entry)) ≡ 264 ⌝ }
-{
-    seen_reals(reals);
-}
 
 pub fn level(words: &[u64; WORDS], p: usize) -> u8
     requires { ⌜ p < 128 ⌝ }
-    ensures { λ r. ⌜ ((x : List Float) → r ≡ gpioAt (view (now (words .entry)) x) p .pin .level) ⌝ }
+    ensures { λ r. ⌜ ((x : List Float) → r ≡ pinAt (view (now (words .entry)) x) p .pin .level) ⌝ }
 {
     (words[GPIO + (p * GPIO_WORDS + 14)] % 2) as u8
 }
@@ -42,7 +24,7 @@ pub fn level(words: &[u64; WORDS], p: usize) -> u8
 // The selected signal.
 pub fn signal(words: &[u64; WORDS], p: usize) -> u32
     requires { ⌜ p < 128 ⌝ }
-    ensures { λ r. ⌜ ((x : List Float) → r ≡ gpioAt (view (now (words .entry)) x) p .sig) ⌝ }
+    ensures { λ r. ⌜ ((x : List Float) → r ≡ pinAt (view (now (words .entry)) x) p .sig) ⌝ }
     ensures { λ r. ⌜ r < 256 ⌝ }
 {
     (words[GPIO + (p * GPIO_WORDS + 15)] % 256) as u32
@@ -51,7 +33,7 @@ pub fn signal(words: &[u64; WORDS], p: usize) -> u32
 // In alternate mode, and not open drain.
 pub fn is_push_pull(words: &[u64; WORDS], p: usize) -> bool
     requires { ⌜ p < 128 ⌝ }
-    ensures { λ r. ⌜ ((x : List Float) → r ≡ isPushPull (gpioAt (view (now (words .entry)) x) p .cfg)) ⌝ }
+    ensures { λ r. ⌜ ((x : List Float) → r ≡ isPushPull (pinAt (view (now (words .entry)) x) p .cfg)) ⌝ }
 {
     if words[GPIO + p * GPIO_WORDS] % 256 == 2 {
         return words[GPIO + (p * GPIO_WORDS + 1)] % 2 == 0;
@@ -72,10 +54,10 @@ fn volts(reals: &[f64; REALS], level: u8) -> f64
 // Push-pull pin p at the level of a signal that drives it. What that leaves as it is is not stored.
 pub fn drive_level(words: &mut [u64; WORDS], reals: &mut [f64; REALS], p: usize, level: u8)
     requires { ⌜ (p < 128) × (level ≤ 1) ⌝ }
-    ensures { λ _. ⌜ view (now (words .exit)) (now (reals .exit)) ≡ withGpio (view (now (words .entry)) (now (reals .entry))) p (pushPull (gpioAt (view (now (words .entry)) (now (reals .entry))) p) level (view (now (words .entry)) (now (reals .entry)) .pads .vcc)) ⌝ }
+    ensures { λ _. ⌜ view (now (words .exit)) (now (reals .exit)) ≡ pinSet (view (now (words .entry)) (now (reals .entry))) p (pushPull (pinAt (view (now (words .entry)) (now (reals .entry))) p) level (view (now (words .entry)) (now (reals .entry)) .pads .vcc)) ⌝ }
 {
-    sized(words);
-    sized_reals(reals);
+    state::sized(words);
+    state::sized_reals(reals);
     let v = volts(reals, level);
     let at = GPIO + p * GPIO_WORDS;
     let up = words[at + 3] % 2;

@@ -15,7 +15,7 @@ use Rattle.clk.specs.declared.ClockTree.{ClockTree}
 use Rattle.clk.specs.Clk.{differing}
 use Rattle.pins.specs.declared.ClockModel.{ClockModel}
 use Rattle.pins.specs.Clock.{hzSet}
-use Rattle.state.specs.Board.{withBooking, withTree, withClock}
+use Rattle.state.specs.Board.{bookingSet, withTree, withClock}
 use Rattle.machine.specs.Board.{Board, noTimer, timerAt, withTimer, withClocks}
 use Rattle.machine.specs.Deliver.{dividerOf, bookingOf, rebooked}
 use Rattle.machine.specs.Step.{timerRetimed, allRetimed, treeSet}
@@ -33,10 +33,10 @@ cond-false false x y h = refl
 pub at-booking : (d : Due) (at : ℕ) (e : Next) (cycle : ℕ) → d ≡ At at e → max at cycle ≡ bookingOf d cycle
 at-booking d at e cycle h = sym (ap (λ (x : Due). bookingOf x cycle) h)
 
-pub booked-anew : (b b₁ : Board) (i cycle : ℕ) (t : Timer) (d : Due) → t ≡ timerAt b i → d ≡ nextEvent t → b₁ ≡ withBooking b i (bookingOf d cycle)
+pub booked-anew : (b b₁ : Board) (i cycle : ℕ) (t : Timer) (d : Due) → t ≡ timerAt b i → d ≡ nextEvent t → b₁ ≡ bookingSet b i (bookingOf d cycle)
     → b₁ ≡ rebooked i (timerAt b i) cycle b
 unfolding rebooked
-booked-anew b b₁ i cycle t d load due e = e ∙ ap (λ (x : Due). withBooking b i (bookingOf x cycle)) (due ∙ ap nextEvent load)
+booked-anew b b₁ i cycle t d load due e = e ∙ ap (λ (x : Due). bookingSet b i (bookingOf x cycle)) (due ∙ ap nextEvent load)
 
 -- ---- a timer that was stored is there
 pub stored-there : (b b₁ : Board) (i : ℕ) (t : Timer) → i < length (b .timers) → b₁ ≡ withTimer b i t → timerAt b₁ i ≡ t

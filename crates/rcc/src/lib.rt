@@ -11,7 +11,7 @@ ghost use Prim.Native.Nat.{_<_, _≤_, max};
 ghost use lib.Ieee.{Float};
 ghost use Rattle.clk.specs.Clk.{good};
 ghost use Rattle.state.specs.View.{view};
-ghost use Rattle.state.specs.Board.{withBooking};
+ghost use Rattle.state.specs.Board.{bookingSet};
 ghost use Rattle.machine.specs.Board.{timerAt};
 ghost use Rattle.machine.specs.Deliver.{dividerOf, lineSettled, bookingOf, rebooked};
 ghost use Rattle.machine.specs.Step.{clockOn, timerRetimed, allRetimed, treeSet};
@@ -79,7 +79,7 @@ fn booking_of(due: Due, cycle: u64) -> u64
 // Books timer i at what is due next.
 pub fn book_due(words: &mut [u64; WORDS], i: usize, due: Due, cycle: u64)
     requires { ⌜ i < 8 ⌝ }
-    ensures { λ _. ⌜ ((x : List Float) → view (now (words .exit)) x ≡ withBooking (view (now (words .entry)) x) i (bookingOf due cycle)) ⌝ }
+    ensures { λ _. ⌜ ((x : List Float) → view (now (words .exit)) x ≡ bookingSet (view (now (words .entry)) x) i (bookingOf due cycle)) ⌝ }
 {
     let at = booking_of(due, cycle);
     state::book(words, i, at);

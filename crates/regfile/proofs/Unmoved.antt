@@ -12,8 +12,7 @@ use Rattle.tim.specs.declared.Timer.{Timer}
 use Rattle.tim.specs.Timer.{down}
 use Rattle.tim.specs.Count.{upFrom, cntAt, synced}
 use Rattle.regs.specs.Regs.{keptCr1, withCr1, turned, cr1Written, astray}
-use Rattle.machine.specs.Board.{Board}
-use Rattle.state.specs.Board.{timerAt, withTimer}
+use Rattle.machine.specs.Board.{Board, timerAt, withTimer}
 use Rattle.fields.proofs.Words.{changed-twice}
 use Rattle.regfile.specs.Steady.{steady}
 

@@ -19,8 +19,7 @@ use Rattle.tim.specs.Change.{behind, behindOf, withDone}
 use Rattle.tim.proofs.Fit.{either}
 use Rattle.regs.specs.Regs.{keptWidth, withCcr, withCcrAct, settled, ccrWritten}
 use Rattle.codec.specs.Codec.{decodeTimer}
-use Rattle.machine.specs.Board.{Board}
-use Rattle.state.specs.Board.{timerAt, withTimer}
+use Rattle.machine.specs.Board.{Board, timerAt, withTimer}
 use Rattle.state.specs.View.{view}
 use Rattle.state.proofs.InRange.{bounded}
 use Rattle.fields.proofs.Words.{same-timer, changed-twice, held}

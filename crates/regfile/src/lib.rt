@@ -10,7 +10,7 @@ ghost use Rattle.tim.specs.Count.{synced};
 ghost use Rattle.tim.specs.Change.{withDone, behindOf};
 ghost use Rattle.regs.specs.Regs as R;
 ghost use Rattle.state.specs.View.{view};
-ghost use Rattle.state.specs.Board.{timerAt, withTimer};
+ghost use Rattle.machine.specs.Board.{timerAt, withTimer};
 ghost use Rattle.regfile.specs.Steady.{steady};
 
 // ---- compares

@@ -16,10 +16,10 @@ use Rattle.tim.specs.declared.Timer.{Timer}
 use Rattle.tim.specs.Change.{resetState}
 use Rattle.tim.specs.Timer.{Fit}
 use Rattle.tim.proofs.Fit.{fit-reset}
-use Rattle.machine.specs.Board.{Board, noInst, noTimer, filled, freshBoard}
+use Rattle.machine.specs.Board.{Board, noInst, noTimer, filled, freshBoard, withTimer}
 use Rattle.machine.specs.Call.{Setup}
 use Rattle.machine.specs.Step.{step, withinLimits}
-use Rattle.state.specs.Board.{withTimer, withAfAt, withSizes}
+use Rattle.state.specs.Board.{withAfAt, withSizes}
 use Rattle.state.proofs.InRange.{bounded}
 use Rattle.state.specs.View.{view}
 use Rattle.setup.specs.Setup.{countOf, instGiven, instsFrom, instsOf, timersOf, withTimers, withTable, Answered}

@@ -10,10 +10,9 @@ use lib.Seq.{paste}
 use Rattle.tim.specs.declared.Inst.{Inst}
 use Rattle.tim.specs.declared.Timer.{Timer}
 use Rattle.tim.specs.Change.{resetState}
-use Rattle.machine.specs.Board.{Board, noInst}
+use Rattle.machine.specs.Board.{Board, noInst, withPads}
 use Rattle.machine.specs.Call.{Setup, setUp}
 use Rattle.machine.specs.Step.{step}
-use Rattle.state.specs.Board.{withPads}
 use Rattle.state.specs.View.{view}
 
 -- how many timers the numbers make; the last one may lack some of its seven

@@ -11,11 +11,11 @@ use Rattle.codec.specs.Codec.{decodeTimer}
 use Rattle.words.specs.Codec.{GpioFit}
 use Rattle.codec.proofs.Bounds.{timer-fit}
 use Rattle.words.proofs.Bounds.{gpio-fit}
-use Rattle.machine.specs.Board.{Board, noTimer, noGpio}
-use Rattle.state.specs.Board.{Divided, timerAt, gpioAt, routeAt, sigLevelAt, enrAt}
+use Rattle.machine.specs.Board.{Board, noTimer, noGpio, timerAt}
+use Rattle.state.specs.Board.{Divided, pinAt, routeAt, sigLevelAt, enrAt}
 use Rattle.state.specs.Parts.{parts, blocks}
 use Rattle.state.proofs.Cut.{map-all, length-part, length-blocks}
-use Rattle.state.specs.View.{sizes, realSizes, view, gpiosOf, signalOf, pinOf, levelOf, enableOf}
+use Rattle.state.specs.View.{sizes, realSizes, view, gpiosOf, heldSignal, heldPin, heldLevel, heldEnable}
 use Rattle.state.specs.Bounded.{Bounded}
 
 pub length-gpios : (bs : List (List ℕ)) (rs : List (List Float)) → length (gpiosOf bs rs) ≡ length bs
@@ -36,10 +36,10 @@ bounded w x =
     record {
       timer-fit = map-all decodeTimer Fit noTimer (omega arith) timer-fit (blocks 0 8 40 (part 0));
       gpio-fit = gpios-fit (blocks 0 128 16 (part 9)) (blocks nan 128 2 (getD (parts nan realSizes x) 0 []));
-      af-lt = map-all signalOf (λ n. n < 256) 0 (omega arith) (λ n. omega arith) (part 10);
-      route-le = map-all pinOf (λ n. n ≤ 128) 128 (omega arith) (λ n. omega arith) (part 6);
-      level-le = map-all levelOf (λ n. n ≤ 1) 0 (omega arith) (λ n. omega arith) (part 7);
-      enr-lt = map-all enableOf (λ n. n < 4294967296) 0 (omega arith) (λ n. omega arith) (part 4);
+      af-lt = map-all heldSignal (λ n. n < 256) 0 (omega arith) (λ n. omega arith) (part 10);
+      route-le = map-all heldPin (λ n. n ≤ 128) 128 (omega arith) (λ n. omega arith) (part 6);
+      level-le = map-all heldLevel (λ n. n ≤ 1) 0 (omega arith) (λ n. omega arith) (part 7);
+      enr-lt = map-all heldEnable (λ n. n < 4294967296) 0 (omega arith) (λ n. omega arith) (part 4);
       divided = record {
         ppre1 = record { pos = omega arith; le = omega arith };
         ppre2 = record { pos = omega arith; le = omega arith };
@@ -55,8 +55,8 @@ bounded w x =
       booking-length = length-part 0 sizes 5 w;
       lines-length = length-map (part 8) lineOf ∙ length-part 0 sizes 8 w;
       gpio-length = length-gpios (blocks 0 128 16 (part 9)) (blocks nan 128 2 (getD (parts nan realSizes x) 0 [])) ∙ length-blocks 0 128 16 (part 9);
-      af-length = length-map (part 10) signalOf ∙ length-part 0 sizes 10 w;
-      route-length = length-map (part 6) pinOf ∙ length-part 0 sizes 6 w;
-      level-length = length-map (part 7) levelOf ∙ length-part 0 sizes 7 w;
-      enr-length = length-map (part 4) enableOf ∙ length-part 0 sizes 4 w;
+      af-length = length-map (part 10) heldSignal ∙ length-part 0 sizes 10 w;
+      route-length = length-map (part 6) heldPin ∙ length-part 0 sizes 6 w;
+      level-length = length-map (part 7) heldLevel ∙ length-part 0 sizes 7 w;
+      enr-length = length-map (part 4) heldEnable ∙ length-part 0 sizes 4 w;
     }

@@ -12,8 +12,8 @@ use lib.Seq.{getD-set-same, getD-set-other, length-take-le, getD-take, getD-drop
 use lib.Ieee.{Float, nan}
 use Rattle.tim.specs.declared.Timer.{Timer}
 use Rattle.codec.specs.Codec.{instAt, regsAt, chanAt, countAt, decodeTimer}
-use Rattle.machine.specs.Board.{noTimer}
-use Rattle.state.specs.Board.{timerAt, withTimer, withInst}
+use Rattle.machine.specs.Board.{noTimer, timerAt, withTimer}
+use Rattle.state.specs.Board.{withInst}
 use Rattle.state.specs.Parts.{start, parts, blocks}
 use Rattle.state.proofs.Cut.{map-set, map-at, parts-paste, piece-paste, length-part, length-blocks, length-block}
 use Rattle.state.specs.View.{sizes, realSizes, view, boardOf}

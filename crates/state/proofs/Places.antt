@@ -16,13 +16,13 @@ use Rattle.scheduler.specs.Booking.{book}
 use Rattle.words.specs.declared.Gpio.{Gpio}
 use Rattle.codec.specs.Codec.{decodeTimer}
 use Rattle.words.specs.Codec.{decodeGpio}
-use Rattle.state.specs.Board.{timerAt, gpioAt, routeAt, sigLevelAt, enrAt, bookedAt}
+use Rattle.state.specs.Board.{pinAt, routeAt, sigLevelAt, enrAt, bookedAt}
 use Rattle.state.specs.Parts.{start, front, parts, blocks}
 use Rattle.state.proofs.Cut.{getD-any, map-at, front-at, length-front, part-at, part-front, part-block, length-part, length-blocks}
 use Rattle.state.proofs.InRange.{bounded}
 use Rattle.gpio.specs.Gpio.{isPushPull}
-use Rattle.machine.specs.Board.{noTimer, noGpio}
-use Rattle.state.specs.View.{sizes, realSizes, view, gpiosOf, pinOf, levelOf, signalOf, enableOf, dividerHeld}
+use Rattle.machine.specs.Board.{noTimer, noGpio, timerAt}
+use Rattle.state.specs.View.{sizes, realSizes, view, gpiosOf, heldPin, heldLevel, heldSignal, heldEnable, dividerHeld}
 
 pub gpios-at : (bs : List (List ℕ)) (rs : List (List Float)) (p : ℕ) (d : Gpio) → p < length bs
     → getD (gpiosOf bs rs) p d ≡ decodeGpio (getD bs p []) (getD (getD rs p []) 0 nan) (getD (getD rs p []) 1 nan)
@@ -52,19 +52,19 @@ module _ (w : List ℕ) (x : List Float) where
 
   pub route-read : (s : ℕ) → s < 256 → routeAt (view w x) s ≡ min (getD w (348 + s) 0) 128
   unfolding view start
-  route-read s h = mapped pinOf 6 s 128 h
+  route-read s h = mapped heldPin 6 s 128 h
 
   pub level-read : (s : ℕ) → s < 256 → sigLevelAt (view w x) s ≡ getD w (604 + s) 0 % 2
   unfolding view start
-  level-read s h = mapped levelOf 7 s 0 h
+  level-read s h = mapped heldLevel 7 s 0 h
 
   pub af-read : (k : ℕ) → k < 2048 → getD (view w x .pads .af) k 0 ≡ getD w (3164 + k) 0 % 256
   unfolding view start
-  af-read k h = mapped signalOf 10 k 0 h
+  af-read k h = mapped heldSignal 10 k 0 h
 
   pub enr-read : (i : ℕ) → i < 9 → enrAt (view w x) i ≡ getD w (331 + i) 0 % 4294967296
   unfolding view start
-  enr-read i h = mapped enableOf 4 i 0 h
+  enr-read i h = mapped heldEnable 4 i 0 h
 
   pub booking-read : (owner : ℕ) → owner < 8 → bookedAt (view w x) owner ≡ getD w (340 + owner) 0
   unfolding view start
@@ -132,7 +132,7 @@ module _ (w : List ℕ) (x : List Float) where
   clock-read = rw (part-at nan realSizes 3 0 x (lit≤ tt), part-at 0 sizes 3 0 w (lit≤ tt), part-at nan realSizes 3 1 x (lit≤ tt))
 
   pub gpio-read : (p : ℕ) → p < 128
-      → gpioAt (view w x) p ≡ decodeGpio (front 0 16 (drop (1116 + p * 16) w)) (getD x (0 + p * 2) nan) (getD x (0 + (p * 2 + 1)) nan)
+      → pinAt (view w x) p ≡ decodeGpio (front 0 16 (drop (1116 + p * 16) w)) (getD x (0 + p * 2) nan) (getD x (0 + (p * 2 + 1)) nan)
   unfolding view start
   gpio-read p h =
       let bs : List (List ℕ) = blocks 0 128 16 (getD (parts 0 sizes w) 9 []) in
@@ -150,27 +150,27 @@ module _ (w : List ℕ) (x : List Float) where
   gpio-word p k h = front-at 0 16 (drop (1116 + p * 16) w) k h ∙ getD-drop (1116 + p * 16) w k 0 ∙ ap (λ (n : ℕ). getD w n 0) (add-assoc 1116 (p * 16) k)
 
   module _ (p : ℕ) (h : p < 128) where
-    pub pin-level : gpioAt (view w x) p .pin .level ≡ getD w (1116 + (p * 16 + 14)) 0 % 2
+    pub pin-level : pinAt (view w x) p .pin .level ≡ getD w (1116 + (p * 16 + 14)) 0 % 2
     unfolding decodeGpio
     pin-level = ap (λ (g : Gpio). g .pin .level) (gpio-read p h) ∙ ap (λ (n : ℕ). n % 2) (gpio-word p 14 (lit≤ tt))
 
-    pub pin-signal : gpioAt (view w x) p .sig ≡ getD w (1116 + (p * 16 + 15)) 0 % 256
+    pub pin-signal : pinAt (view w x) p .sig ≡ getD w (1116 + (p * 16 + 15)) 0 % 256
     unfolding decodeGpio
     pin-signal = ap (λ (g : Gpio). g .sig) (gpio-read p h) ∙ ap (λ (n : ℕ). n % 256) (gpio-word p 15 (lit≤ tt))
 
-    pin-mode : gpioAt (view w x) p .cfg .mode ≡ getD w (1116 + p * 16) 0 % 256
+    pin-mode : pinAt (view w x) p .cfg .mode ≡ getD w (1116 + p * 16) 0 % 256
     unfolding decodeGpio
     pin-mode = ap (λ (g : Gpio). g .cfg .mode) (gpio-read p h) ∙ ap (λ (n : ℕ). n % 256) (gpio-word p 0 (lit≤ tt)) ∙ ap (λ (n : ℕ). getD w (1116 + n) 0 % 256) (add-zero (p * 16))
 
-    pin-drain : gpioAt (view w x) p .cfg .«open_drain» ≡ eqb (getD w (1116 + (p * 16 + 1)) 0 % 2) 1
+    pin-drain : pinAt (view w x) p .cfg .«open_drain» ≡ eqb (getD w (1116 + (p * 16 + 1)) 0 % 2) 1
     unfolding decodeGpio
     pin-drain = ap (λ (g : Gpio). g .cfg .«open_drain») (gpio-read p h) ∙ ap (λ (n : ℕ). eqb (n % 2) 1) (gpio-word p 1 (lit≤ tt))
 
     -- the two tests of a push-pull pin
-    pub push-pull : getD w (1116 + p * 16) 0 % 256 ≡ 2 → isPushPull (gpioAt (view w x) p .cfg) ≡ eqb (getD w (1116 + (p * 16 + 1)) 0 % 2) 0
+    pub push-pull : getD w (1116 + p * 16) 0 % 256 ≡ 2 → isPushPull (pinAt (view w x) p .cfg) ≡ eqb (getD w (1116 + (p * 16 + 1)) 0 % 2) 0
     push-pull e = rw (pin-mode ∙ e, pin-drain) (no-flag (getD w (1116 + (p * 16 + 1)) 0))
 
-    pub not-push-pull : (getD w (1116 + p * 16) 0 % 256 ≡ 2 → ⊥) → isPushPull (gpioAt (view w x) p .cfg) ≡ false
+    pub not-push-pull : (getD w (1116 + p * 16) 0 % 256 ≡ 2 → ⊥) → isPushPull (pinAt (view w x) p .cfg) ≡ false
     not-push-pull n = rw (pin-mode, ne-eqb (getD w (1116 + p * 16) 0 % 256) 2 n)
 
   -- a line that there is

@@ -17,7 +17,8 @@ use Rattle.nvic.proofs.Laws.{stored, no-line}
 use Rattle.words.specs.declared.Gpio.{Gpio}
 use Rattle.codec.specs.Codec.{decodeTimer}
 use Rattle.words.specs.Codec.{decodeGpio}
-use Rattle.state.specs.Board.{Divider, Divided, withTimer, withRoute, withSigLevel, withAfAt, withEnr, withBooking, withNvic, withLast, withSizes, withVcc, withTree, withClock, withGpios, withGpio}
+use Rattle.machine.specs.Board.{withTimer, withNvic, withLast}
+use Rattle.state.specs.Board.{Divider, Divided, routeSet, sigLevelSet, withAfAt, withEnr, bookingSet, withSizes, withVcc, withTree, withClock, withGpios, pinSet}
 use Rattle.state.specs.Parts.{start, parts, blocks}
 use Rattle.state.proofs.Cut.{set-pair, map-set, parts-set, parts-pair, parts-paste, paste-all, block-paste, block-pair, length-part, length-blocks, part-at}
 use Rattle.state.proofs.InRange.{bounded}
@@ -86,11 +87,11 @@ module _ (w : List ℕ) (x : List Float) (size : length w ≡ 5276) where
       ∙ block-set 0 (i * 40) 40 b (omega arith) (omega arith) (omega arith)
       ∙ rw (block-paste 0 8 40 i h b (getD (parts 0 sizes w) 0 []) l (omega (arith, length-part 0 sizes 0 w)), map-set, e)
 
-  pub route-set : (s p : ℕ) → s < 256 → p ≤ 128 → view (set w (348 + s) p) x ≡ withRoute (view w x) s p
+  pub route-set : (s p : ℕ) → s < 256 → p ≤ 128 → view (set w (348 + s) p) x ≡ routeSet (view w x) s p
   unfolding view parts start
   route-set s p h k = word-set 6 s p h (omega arith) ∙ rw (map-set, min-eq-left k)
 
-  pub level-set : (s v : ℕ) → s < 256 → v ≤ 1 → view (set w (604 + s) v) x ≡ withSigLevel (view w x) s v
+  pub level-set : (s v : ℕ) → s < 256 → v ≤ 1 → view (set w (604 + s) v) x ≡ sigLevelSet (view w x) s v
   unfolding view parts start
   level-set s v h k = let e : v % 2 ≡ v = omega arith in word-set 7 s v h (omega arith) ∙ rw (map-set, e)
 
@@ -102,7 +103,7 @@ module _ (w : List ℕ) (x : List Float) (size : length w ≡ 5276) where
   unfolding view parts start
   enr-set i v h g = word-set 4 i v h (omega arith) ∙ rw (map-set, mod-eq-of-lt g)
 
-  pub booking-set : (owner cycle : ℕ) → owner < 8 → view (set w (340 + owner) cycle) x ≡ withBooking (view w x) owner cycle
+  pub booking-set : (owner cycle : ℕ) → owner < 8 → view (set w (340 + owner) cycle) x ≡ bookingSet (view w x) owner cycle
   unfolding view parts start
   booking-set owner cycle h = word-set 5 owner cycle h (omega arith)
 
@@ -155,7 +156,7 @@ module _ (w : List ℕ) (x : List Float) (size : length w ≡ 5276) where
         ∙ rw (getD-set-same (getD (parts 0 sizes w) 3 []) 0 c 0 (omega (arith, length-part 0 sizes 3 w)), set-pair (getD (parts nan realSizes x) 3 []) f t (length-part nan realSizes 3 x))
 
     pub gpio-set : (p : ℕ) (b : List ℕ) (v u : Float) (g : Gpio) → p < 128 → length b ≡ 16 → decodeGpio b v u ≡ g
-        → view (paste w (1116 + p * 16) b (length b)) (set (set x (0 + p * 2) v) (0 + (p * 2 + 1)) u) ≡ withGpio (view w x) p g
+        → view (paste w (1116 + p * 16) b (length b)) (set (set x (0 + p * 2) v) (0 + (p * 2 + 1)) u) ≡ pinSet (view w x) p g
     unfolding view parts start
     gpio-set p b v u g h l e =
         let bs : List ℕ = getD (parts 0 sizes w) 9 [] in

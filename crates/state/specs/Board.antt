@@ -1,4 +1,4 @@
--- The board with one thing another, and what stands at an index.
+-- What stands at an index of the board, and the board with one thing another: what the accessors read and set, over machine's.
 use mathlib.Core.List.{List, []}
 use Prim.Native.Nat.{ℕ, _+_, _*_, _≤_}
 use lib.ListN.{getD, set}
@@ -8,25 +8,20 @@ use Rattle.tim.specs.declared.Inst.{Inst}
 use Rattle.words.specs.declared.Gpio.{Gpio}
 use Rattle.clk.specs.declared.ClockTree.{ClockTree}
 use Rattle.pins.specs.declared.ClockModel.{ClockModel}
-use Rattle.nvic.specs.Nvic.{Nvic}
 use Rattle.scheduler.specs.Booking.{cycleOf, book}
-use Rattle.machine.specs.Board as M
-use Rattle.machine.specs.Board.{Board, Pads, Clocks, Counts}
+use Rattle.machine.specs.Board.{Board, Counts, gpioAt, routeOf, levelOf, withGpio, withRoute, withSigLevel, withBooking, withNvic, withPads, withClocks}
 
--- ---- the timer, the pin and the numbers at a place
+-- ---- the pin and the numbers at a place
 
-abbrev pub timerAt : Board → ℕ → Timer
-timerAt b i = M.timerAt b i
-
-abbrev pub gpioAt : Board → ℕ → Gpio
-gpioAt b p = M.gpioAt (b .pads) p
+abbrev pub pinAt : Board → ℕ → Gpio
+pinAt b p = gpioAt (b .pads) p
 
 -- the pin that routes signal s, 128 if none
 abbrev pub routeAt : Board → ℕ → ℕ
-routeAt b s = getD (b .pads .route) s 128
+routeAt b s = routeOf (b .pads) s
 
 abbrev pub sigLevelAt : Board → ℕ → ℕ
-sigLevelAt b s = getD (b .pads .sigLevel) s 0
+sigLevelAt b s = levelOf (b .pads) s
 
 -- the signal of pin p's alternate function f
 abbrev pub afAt : Board → ℕ → ℕ → ℕ
@@ -40,24 +35,13 @@ bookedAt b owner = cycleOf (b .booking) owner
 
 -- ---- the board with one part another
 
-abbrev pub withTimer : Board → ℕ → Timer → Board
-withTimer b i t = record { timers = set (b .timers) i t; booking = b .booking; nvic = b .nvic; pads = b .pads; clocks = b .clocks; counts = b .counts }
-
 -- the timer with these fixed parts
 abbrev pub withInst : Timer → Inst → Timer
 withInst t k = record { inst = k; regs = t .regs; chan = t .chan; count = t .count }
 
-abbrev pub withBooking : Board → ℕ → ℕ → Board
-withBooking b owner cycle = record { timers = b .timers; booking = book (b .booking) owner cycle; nvic = b .nvic; pads = b .pads; clocks = b .clocks; counts = b .counts }
-
-abbrev pub withNvic : Board → Nvic → Board
-withNvic b n = record { timers = b .timers; booking = b .booking; nvic = n; pads = b .pads; clocks = b .clocks; counts = b .counts }
-
-abbrev pub withPads : Board → Pads → Board
-withPads b p = record { timers = b .timers; booking = b .booking; nvic = b .nvic; pads = p; clocks = b .clocks; counts = b .counts }
-
-abbrev pub withClocks : Board → Clocks → Board
-withClocks b c = record { timers = b .timers; booking = b .booking; nvic = b .nvic; pads = b .pads; clocks = c; counts = b .counts }
+-- owner booked at a cycle
+abbrev pub bookingSet : Board → ℕ → ℕ → Board
+bookingSet b owner cycle = withBooking b (book (b .booking) owner cycle)
 
 abbrev pub withCounts : Board → Counts → Board
 withCounts b c = record { timers = b .timers; booking = b .booking; nvic = b .nvic; pads = b .pads; clocks = b .clocks; counts = c }
@@ -65,8 +49,8 @@ withCounts b c = record { timers = b .timers; booking = b .booking; nvic = b .nv
 abbrev pub withGpios : Board → List Gpio → Board
 withGpios b gs = withPads b (record { gpio = gs; af = b .pads .af; route = b .pads .route; sigLevel = b .pads .sigLevel; vcc = b .pads .vcc })
 
-abbrev pub withGpio : Board → ℕ → Gpio → Board
-withGpio b p g = withGpios b (set (b .pads .gpio) p g)
+abbrev pub pinSet : Board → ℕ → Gpio → Board
+pinSet b p g = withPads b (withGpio (b .pads) p g)
 
 abbrev pub withVcc : Board → Ieee.Float → Board
 withVcc b v = withPads b (record { gpio = b .pads .gpio; af = b .pads .af; route = b .pads .route; sigLevel = b .pads .sigLevel; vcc = v })
@@ -75,11 +59,11 @@ withVcc b v = withPads b (record { gpio = b .pads .gpio; af = b .pads .af; route
 abbrev pub withAfAt : Board → ℕ → ℕ → Board
 withAfAt b k s = withPads b (record { gpio = b .pads .gpio; af = set (b .pads .af) k s; route = b .pads .route; sigLevel = b .pads .sigLevel; vcc = b .pads .vcc })
 
-abbrev pub withRoute : Board → ℕ → ℕ → Board
-withRoute b s p = withPads b (record { gpio = b .pads .gpio; af = b .pads .af; route = set (b .pads .route) s p; sigLevel = b .pads .sigLevel; vcc = b .pads .vcc })
+abbrev pub routeSet : Board → ℕ → ℕ → Board
+routeSet b s p = withPads b (withRoute (b .pads) s p)
 
-abbrev pub withSigLevel : Board → ℕ → ℕ → Board
-withSigLevel b s level = withPads b (record { gpio = b .pads .gpio; af = b .pads .af; route = b .pads .route; sigLevel = set (b .pads .sigLevel) s level; vcc = b .pads .vcc })
+abbrev pub sigLevelSet : Board → ℕ → ℕ → Board
+sigLevelSet b s level = withPads b (withSigLevel (b .pads) s level)
 
 abbrev pub withTree : Board → ClockTree → Board
 withTree b t = withClocks b (record { tree = t; clock = b .clocks .clock; enr = b .clocks .enr })
@@ -89,9 +73,6 @@ withClock b k = withClocks b (record { tree = b .clocks .tree; clock = k; enr = 
 
 abbrev pub withEnr : Board → ℕ → ℕ → Board
 withEnr b i v = withClocks b (record { tree = b .clocks .tree; clock = b .clocks .clock; enr = set (b .clocks .enr) i v })
-
-abbrev pub withLast : Board → ℕ → Board
-withLast b cycle = withCounts b (record { timers = b .counts .timers; pins = b .counts .pins; last = cycle })
 
 -- the numbers of timers, pins and interrupt lines
 abbrev pub withSizes : Board → ℕ → ℕ → ℕ → Board

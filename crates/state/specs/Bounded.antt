@@ -4,12 +4,12 @@ use Prim.Native.Nat.{ℕ, _<_, _≤_}
 use lib.ListN.{length, getD}
 use Rattle.tim.specs.Timer.{Fit}
 use Rattle.words.specs.Codec.{GpioFit}
-use Rattle.machine.specs.Board.{Board}
-use Rattle.state.specs.Board.{Divided, timerAt, gpioAt, routeAt, sigLevelAt, enrAt}
+use Rattle.machine.specs.Board.{Board, timerAt}
+use Rattle.state.specs.Board.{Divided, pinAt, routeAt, sigLevelAt, enrAt}
 
 pub record Bounded (b : Board) : Type 0 where
   pub timer-fit : (i : ℕ) → Fit (timerAt b i)
-  pub gpio-fit : (p : ℕ) → GpioFit (gpioAt b p)
+  pub gpio-fit : (p : ℕ) → GpioFit (pinAt b p)
   pub af-lt : (k : ℕ) → getD (b .pads .af) k 0 < 256
   pub route-le : (s : ℕ) → routeAt b s ≤ 128
   pub level-le : (s : ℕ) → sigLevelAt b s ≤ 1

@@ -45,17 +45,17 @@ abbrev pub countsOf : List ℕ → Counts
 countsOf cs = record { timers = min (getD cs 0 0) 8; pins = min (getD cs 1 0) 128; last = getD cs 3 0 }
 
 -- 128 is no pin
-abbrev pub pinOf : ℕ → ℕ
-pinOf w = min w 128
+abbrev pub heldPin : ℕ → ℕ
+heldPin w = min w 128
 
-abbrev pub levelOf : ℕ → ℕ
-levelOf w = w % 2
+abbrev pub heldLevel : ℕ → ℕ
+heldLevel w = w % 2
 
-abbrev pub signalOf : ℕ → ℕ
-signalOf w = w % 256
+abbrev pub heldSignal : ℕ → ℕ
+heldSignal w = w % 256
 
-abbrev pub enableOf : ℕ → ℕ
-enableOf w = w % 4294967296
+abbrev pub heldEnable : ℕ → ℕ
+heldEnable w = w % 4294967296
 
 -- the pins of blocks of words and of reals
 unfoldable pub gpiosOf : List (List ℕ) → List (List Float) → List Gpio
@@ -70,12 +70,12 @@ boardOf ws rs = record {
   nvic = nvicOf (min (getD (getD ws 1 []) 2 0) 256) (getD ws 8 []);
   pads = record {
     gpio = gpiosOf (blocks 0 128 16 (getD ws 9 [])) (blocks nan 128 2 (getD rs 0 []));
-    af = map signalOf (getD ws 10 []);
-    route = map pinOf (getD ws 6 []);
-    sigLevel = map levelOf (getD ws 7 []);
+    af = map heldSignal (getD ws 10 []);
+    route = map heldPin (getD ws 6 []);
+    sigLevel = map heldLevel (getD ws 7 []);
     vcc = getD (getD rs 1 []) 0 nan;
   };
-  clocks = record { tree = treeOf (getD ws 2 []) (getD rs 2 []); clock = clockOf (getD ws 3 []) (getD rs 3 []); enr = map enableOf (getD ws 4 []) };
+  clocks = record { tree = treeOf (getD ws 2 []) (getD rs 2 []); clock = clockOf (getD ws 3 []) (getD rs 3 []); enr = map heldEnable (getD ws 4 []) };
   counts = countsOf (getD ws 1 []);
 }
 

@@ -10,7 +10,8 @@ ghost use Rattle.tim.specs.Timer.{Fit};
 ghost use Rattle.words.specs.Codec.{GpioFit};
 ghost use Rattle.nvic.specs.Nvic.{setLine, clearPending, lineAt, stateOf};
 ghost use Rattle.scheduler.specs.Booking.{least};
-ghost use Rattle.state.specs.Board.{Divided, timerAt, gpioAt, routeAt, sigLevelAt, afAt, enrAt, bookedAt, withTimer, withInst, withGpio, withAfAt, withRoute, withSigLevel, withBooking, withNvic, withTree, withClock, withEnr, withLast, withSizes};
+ghost use Rattle.machine.specs.Board.{timerAt, withTimer, withNvic, withLast};
+ghost use Rattle.state.specs.Board.{Divided, pinAt, routeAt, sigLevelAt, afAt, enrAt, bookedAt, withInst, pinSet, withAfAt, routeSet, sigLevelSet, bookingSet, withTree, withClock, withEnr, withSizes};
 ghost use Rattle.state.specs.Parts.{front};
 ghost use Rattle.state.specs.View.{view, dividerHeld, treeOf};
 use clk::ClockTree;
@@ -86,13 +87,14 @@ fn seen(s: &[u64]) {}
 fn seen_reals(s: &[f64]) {}
 
 // The words are as many as their type says. Nothing is done.
-fn sized(words: &[u64; WORDS])
+pub fn sized(words: &[u64; WORDS])
     ensures { λ _. ⌜ length (now (words .entry)) ≡ 5276 ⌝ }
 {
     seen(words);
 }
 
-fn sized_reals(reals: &[f64; REALS])
+// The reals the same.
+pub fn sized_reals(reals: &[f64; REALS])
     ensures { λ _. ⌜ length (now (reals .entry)) ≡ 264 ⌝ }
 {
     seen_reals(reals);
@@ -158,7 +160,7 @@ pub fn store_live(words: &mut [u64; WORDS], i: usize, t: Timer)
 
 pub fn load_gpio(words: &[u64; WORDS], reals: &[f64; REALS], p: usize) -> Gpio
     requires { ⌜ p < 128 ⌝ }
-    ensures { λ r. ⌜ r ≡ gpioAt (view (now (words .entry)) (now (reals .entry))) p ⌝ }
+    ensures { λ r. ⌜ r ≡ pinAt (view (now (words .entry)) (now (reals .entry))) p ⌝ }
 {
     let mut b = [0u64; 16];
     get(words, GPIO + p * words::GPIO_WORDS, &mut b);
@@ -171,7 +173,7 @@ pub fn load_gpio(words: &[u64; WORDS], reals: &[f64; REALS], p: usize) -> Gpio
 
 pub fn store_gpio(words: &mut [u64; WORDS], reals: &mut [f64; REALS], p: usize, g: Gpio)
     requires { ⌜ (p < 128) × (GpioFit g) ⌝ }
-    ensures { λ _. ⌜ view (now (words .exit)) (now (reals .exit)) ≡ withGpio (view (now (words .entry)) (now (reals .entry))) p g ⌝ }
+    ensures { λ _. ⌜ view (now (words .exit)) (now (reals .exit)) ≡ pinSet (view (now (words .entry)) (now (reals .entry))) p g ⌝ }
 {
     sized(words);
     sized_reals(reals);
@@ -223,7 +225,7 @@ pub fn is_routed(words: &[u64; WORDS], s: usize) -> bool
 
 pub fn set_route(words: &mut [u64; WORDS], s: usize, p: usize)
     requires { ⌜ (s < 256) × (p ≤ 128) ⌝ }
-    ensures { λ _. ⌜ ((x : List Float) → view (now (words .exit)) x ≡ withRoute (view (now (words .entry)) x) s p) ⌝ }
+    ensures { λ _. ⌜ ((x : List Float) → view (now (words .exit)) x ≡ routeSet (view (now (words .entry)) x) s p) ⌝ }
 {
     sized(words);
     words[ROUTE + s] = p as u64;
@@ -238,7 +240,7 @@ pub fn sig_level(words: &[u64; WORDS], s: usize) -> u8
 
 pub fn set_sig_level(words: &mut [u64; WORDS], s: usize, level: u8)
     requires { ⌜ (s < 256) × (level ≤ 1) ⌝ }
-    ensures { λ _. ⌜ ((x : List Float) → view (now (words .exit)) x ≡ withSigLevel (view (now (words .entry)) x) s level) ⌝ }
+    ensures { λ _. ⌜ ((x : List Float) → view (now (words .exit)) x ≡ sigLevelSet (view (now (words .entry)) x) s level) ⌝ }
 {
     sized(words);
     words[SIG_LEVEL + s] = level as u64;
@@ -352,7 +354,7 @@ pub fn booked(words: &[u64; WORDS], owner: usize) -> u64
 // scheduler, and the one word that changed is stored.
 pub fn book(words: &mut [u64; WORDS], owner: usize, cycle: u64)
     requires { ⌜ owner < 8 ⌝ }
-    ensures { λ _. ⌜ ((x : List Float) → view (now (words .exit)) x ≡ withBooking (view (now (words .entry)) x) owner cycle) ⌝ }
+    ensures { λ _. ⌜ ((x : List Float) → view (now (words .exit)) x ≡ bookingSet (view (now (words .entry)) x) owner cycle) ⌝ }
 {
     sized(words);
     let cycles = bookings(words);

@@ -10,7 +10,7 @@ ghost use mathlib.Core.List.{List};
 ghost use Prim.Native.Nat.{_<_, _≤_};
 ghost use lib.Ieee.{Float};
 ghost use Rattle.gpio.specs.Gpio.{changeOf};
-ghost use Rattle.state.specs.Board.{gpioAt, sigLevelAt};
+ghost use Rattle.state.specs.Board.{pinAt, sigLevelAt};
 ghost use Rattle.state.specs.View.{view};
 ghost use lib.ListN.{length};
 ghost use Rattle.book.specs.Book.{book, slices, Room};
@@ -34,7 +34,7 @@ pub fn update_pin(words: &mut [u64; WORDS], reals: &mut [f64; REALS], i: usize) 
 // Pin i is push-pull, and its signal drives it.
 fn is_driven(words: &[u64; WORDS], i: usize) -> bool
     requires { ⌜ i < 128 ⌝ }
-    ensures { λ r. ⌜ ((x : List Float) → r ≡ signalDriven (gpioAt (view (now (words .entry)) x) i)) ⌝ }
+    ensures { λ r. ⌜ ((x : List Float) → r ≡ signalDriven (pinAt (view (now (words .entry)) x) i)) ⌝ }
 {
     if levels::is_push_pull(words, i) {
         return gpio::drives(levels::signal(words, i));
@@ -44,7 +44,7 @@ fn is_driven(words: &[u64; WORDS], i: usize) -> bool
 
 // Such a pin refreshed: only what changes is stored. The change as a number, which is handed back in a register.
 fn refresh_driven(words: &mut [u64; WORDS], reals: &mut [f64; REALS], i: usize) -> u32
-    requires { ⌜ (i < 128) × (signalDriven (gpioAt (view (now words) (now reals)) i) ≡ true) ⌝ }
+    requires { ⌜ (i < 128) × (signalDriven (pinAt (view (now words) (now reals)) i) ≡ true) ⌝ }
     ensures { λ r. ⌜ Moves (S.refreshPin (view (now (words .entry)) (now (reals .entry)) .pads) i) (view (now (words .entry)) (now (reals .entry))) (view (now (words .exit)) (now (reals .exit))) (changeOf r) ⌝ }
 {
     let was = levels::level(words, i);

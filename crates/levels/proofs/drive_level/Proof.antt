@@ -3,9 +3,6 @@ use Rattle.levels.proofs.Pushed.{stored, driven-set}
 use borrow.Author.Needs.{needs}
 use Rattle.levels.proofs.drive_level.Statement.{statement}
 use Rattle.levels.proofs.drive_level.Tie as tie
-use Rattle.levels.proofs.sized.Reads as sized-reads
-use Rattle.levels.proofs.sized_reals.Reads as sized-reals-reads
-use Rattle.levels.proofs.volts.Reads as volts-reads
 
 returns : tie.Need-returns
 unfolding stored

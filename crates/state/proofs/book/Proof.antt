@@ -1,6 +1,6 @@
 -- The word that the booking changed, stored in the bookings.
 use mathlib.Core.Path.{_∙_, ap}
-use Rattle.state.specs.Board.{withBooking}
+use Rattle.state.specs.Board.{bookingSet}
 use Rattle.state.specs.View.{view}
 use Rattle.state.proofs.Places.{booked-word}
 use Rattle.state.proofs.Stores.{booking-set}
@@ -13,7 +13,7 @@ returns c =
     let s = c .before .before .before .before .before in
     let o = s .args .owner in
     λ x. booking-set _ x (c .before .before .before .sized .ensures) o _ (s .pre)
-    ∙ ap (withBooking (view (s .args .words .now) x) o) (booked-word (s .args .words .now) x _ _ o (s .args .cycle) (s .pre) (c .before .bookings .ensures x) (c .book .ensures))
+    ∙ ap (bookingSet (view (s .args .words .now) x) o) (booked-word (s .args .words .now) x _ _ o (s .args .cycle) (s .pre) (c .before .bookings .ensures x) (c .book .ensures))
 
 pub book-spec : {M : Type 1} → statement M
 book-spec =
