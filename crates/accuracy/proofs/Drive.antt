@@ -10,7 +10,7 @@ use Rattle.sig.specs.Signal.{timSignal}
 use Rattle.sig.proofs.Laws.{tim-no-input}
 use Rattle.tim.specs.declared.Timer.{Timer}
 use Rattle.tim.specs.Change.{output}
-use Rattle.words.specs.declared.PinCfg.{PinCfg}
+use Rattle.gpio.specs.declared.PinCfg.{PinCfg}
 use Rattle.gpio.specs.Gpio.{bit, drives}
 use Rattle.book.specs.Book.{Entry, entryOf, entriesOf}
 use Rattle.machine.specs.Board.{Pads, gpioAt, routeOf}

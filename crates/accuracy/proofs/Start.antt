@@ -12,7 +12,7 @@ use Rattle.rm0440.specs.Bits.{DIR}
 use Rattle.rm0440.specs.Counter.{stepCycles}
 use Rattle.tim.specs.Next.{nextSteps}
 use Rattle.machine.specs.Board.{Board, Pads, timerAt, gpioAt, noGpio}
-use Rattle.words.specs.declared.Gpio.{Gpio}
+use Rattle.gpio.specs.declared.Gpio.{Gpio}
 use Rattle.gpio.specs.Gpio.{alternateMode}
 use Rattle.machine.specs.Deliver.{dividerOf}
 use Rattle.machine.specs.Sound.{Sound}

@@ -18,7 +18,7 @@ use Rattle.scheduler.specs.Booking.{never}
 use Rattle.sig.specs.Signal.{isUart, idleLevel}
 use Rattle.codec.specs.Codec.{decodeTimer}
 use Rattle.machine.specs.Board.{Board, blankGpio}
-use Rattle.words.specs.Codec.{decodeGpio, extOf}
+use Rattle.codec.specs.Pin.{decodeGpio, extOf}
 use Rattle.state.specs.Board.{Divided, withVcc, withTree, withClock}
 use Rattle.state.specs.Parts.{start, parts, blocks, listed, repeated}
 use Rattle.state.proofs.Cut.{length-listed, listed-at, repeated-at, listed-ext, all-one, map-listed, map-at, front-at, front-filler, parts-whole, parts-filler, paste-all, block-front, length-blocks, part-at, length-part}

@@ -4,7 +4,7 @@ use mathlib.Core.List.{List, []}
 use Prim.Native.Nat.{ℕ}
 use lib.Ieee.{Float}
 use Rattle.tim.specs.declared.Timer.{Timer}
-use Rattle.words.specs.declared.Gpio.{Gpio}
+use Rattle.gpio.specs.declared.Gpio.{Gpio}
 use Rattle.nvic.specs.declared.Line.{Line}
 use Rattle.nvic.specs.Nvic.{idle}
 use Rattle.scheduler.specs.Booking.{never}

@@ -11,7 +11,7 @@ use Rattle.tim.specs.declared.Inst.{Inst}
 use Rattle.tim.specs.declared.Regs.{Regs}
 use Rattle.tim.specs.declared.Chan.{Chan}
 use Rattle.tim.specs.declared.Count.{Count}
-use Rattle.words.proofs.Laws.{flag}
+use Rattle.codec.proofs.PinLaws.{flag}
 use Rattle.codec.specs.Codec.{CountFit, instAt, regsAt, chanAt, countAt}
 
 word : {x : ℕ} → Fits w32 x → x % 4294967296 ≡ x

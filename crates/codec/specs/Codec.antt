@@ -8,7 +8,7 @@ use Rattle.tim.specs.declared.Inst.{Inst}
 use Rattle.tim.specs.declared.Regs.{Regs}
 use Rattle.tim.specs.declared.Chan.{Chan}
 use Rattle.tim.specs.declared.Count.{Count}
-use Rattle.words.specs.Codec.{flagAt}
+use Rattle.codec.specs.Pin.{flagAt}
 
 -- word k of b as a number of 16 or 32 bits
 abbrev pub u16At : List ℕ → ℕ → ℕ

@@ -9,10 +9,9 @@ use Rattle.pins.specs.declared.Mcu.{Mcu}
 use Rattle.pins.specs.declared.ExtDrive.{ExtDrive}
 use Rattle.pins.specs.declared.ExtDrive.the-variants as ext
 use Rattle.pins.specs.Pins.{drivenLevel, effectiveDir, supplyAt, clamped, vil, vih, triggered, withLevel, sensedFrom, resolved}
-use Rattle.words.specs.declared.Gpio.{Gpio}
-use Rattle.words.specs.declared.PinCfg.{PinCfg}
-use Rattle.words.specs.Codec.{GpioFit}
-use Rattle.gpio.specs.Gpio.{signalOf, drives, sideOf, outputSide, signalSide, inputSide, withPin, withMcu, configured, connected, updated, refreshed}
+use Rattle.gpio.specs.declared.Gpio.{Gpio}
+use Rattle.gpio.specs.declared.PinCfg.{PinCfg}
+use Rattle.gpio.specs.Gpio.{GpioFit, signalOf, drives, sideOf, outputSide, signalSide, inputSide, withPin, withMcu, configured, connected, updated, refreshed}
 
 -- what holds of both holds of either
 either : {A : Type 0} (P : A → Type 0) (b : Bool) {x y : A} → P x → P y → P (cond b x y)

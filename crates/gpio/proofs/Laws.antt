@@ -7,8 +7,8 @@ use lib.Dec.{eqb}
 use lib.Ieee.{Float}
 use borrow.Author.Tests.{eqb-true, ne-eqb}
 use Rattle.pins.specs.Pins.{resolved}
-use Rattle.words.specs.declared.Gpio.{Gpio}
-use Rattle.words.specs.declared.PinCfg.{PinCfg}
+use Rattle.gpio.specs.declared.Gpio.{Gpio}
+use Rattle.gpio.specs.declared.PinCfg.{PinCfg}
 use Rattle.gpio.specs.declared.Change.the-variants.{Level}
 use Rattle.gpio.specs.declared.Moved.{Moved}
 use Rattle.gpio.specs.Gpio.{signalOf, drives, sideOf, changed, updated, refreshed, isPushPull, pushPull, changeOf}

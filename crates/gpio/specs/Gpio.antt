@@ -1,18 +1,26 @@
 -- A pin by value: what its configuration and its signal make it drive, and whether its level changed (sys.rs, refresh_pin and update_pin).
 use mathlib.Core.Bool.{Bool, true, false, cond, not, _&&_}
-use Prim.Native.Nat.{ℕ, _-_, _/_, _%_}
+use Prim.Native.Nat.{ℕ, _-_, _/_, _%_, _≤_, _<_}
 use lib.Dec.{eqb}
 use lib.Ieee as Ieee
 use Rattle.pins.specs.declared.Pin.{Pin}
 use Rattle.pins.specs.declared.Mcu.{Mcu}
 use Rattle.pins.specs.declared.ExtDrive.{ExtDrive}
 use Rattle.pins.specs.Pins.{resolved, supplyAt}
-use Rattle.words.specs.declared.Gpio.{Gpio}
-use Rattle.words.specs.declared.PinCfg.{PinCfg}
+use Rattle.gpio.specs.declared.Gpio.{Gpio}
+use Rattle.gpio.specs.declared.PinCfg.{PinCfg}
 use Rattle.sig.specs.Signal.{isInput}
 use Rattle.gpio.specs.declared.Change.{Change}
 use Rattle.gpio.specs.declared.Change.the-variants.{Same, Level}
 use Rattle.gpio.specs.declared.Moved.{Moved}
+
+-- the range of a pin: each level is 0 or 1, the signal one of the 256
+pub record GpioFit (g : Gpio) : Type 0 where
+  pub odr : g .cfg .odr ≤ 1
+  pub out : g .pin .mcu .out ≤ 1
+  pub value : g .pin .mcu .«ov_value» ≤ 1
+  pub level : g .pin .level ≤ 1
+  pub sig : g .sig < 256
 
 -- the modes: "A mode above 3 acts as input"
 abbrev pub outputMode : ℕ

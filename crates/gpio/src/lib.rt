@@ -2,11 +2,27 @@
 use pins::ExtDrive;
 use pins::Mcu;
 use pins::Pin;
-use words::Gpio;
-use words::PinCfg;
 ghost use mathlib.Core.Path.{_≡_};
 ghost use Prim.Native.Nat.{_<_};
 ghost use Rattle.gpio.specs.Gpio as G;
+
+// Electrical configuration of one pin as written by the port registers.
+pub struct PinCfg {
+    // MODER: 0 input, 1 output, 2 alternate function, 3 analog.
+    pub mode: u8,
+    pub open_drain: bool,
+    pub odr: u8,
+    pub pullup: bool,
+    pub pulldown: bool,
+}
+
+// All that the board holds of a pin: configuration, electrical state, and the selected signal (0 = none or not in
+// alternate-function mode).
+pub struct Gpio {
+    pub cfg: PinCfg,
+    pub pin: Pin,
+    pub sig: u32,
+}
 
 // A pin's level change, or none.
 pub enum Change {

@@ -10,8 +10,8 @@ use lib.Dec.{eqb, lit≤}
 use lib.ListN.{length, getD, set, drop, length-set}
 use lib.Seq.{getD-set-same, getD-set-other, set-getD, set-set, getD-drop}
 use lib.Ieee.{Float, nan}
-use Rattle.words.specs.declared.Gpio.{Gpio}
-use Rattle.words.specs.Codec.{decodeGpio, extOf}
+use Rattle.gpio.specs.declared.Gpio.{Gpio}
+use Rattle.codec.specs.Pin.{decodeGpio, extOf}
 use Rattle.pins.specs.Pins.{supplyAt}
 use Rattle.gpio.specs.Gpio.{bit, pushPull}
 use Rattle.machine.specs.Board.{noGpio}

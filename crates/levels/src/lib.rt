@@ -1,10 +1,10 @@
 // A pin's level, selected signal and push-pull drive in the lent words: what a driven pin shows is read and stored word by word.
+use codec::GPIO_WORDS;
 use state::GPIO;
 use state::GPIO_REALS;
 use state::REALS;
 use state::VCC;
 use state::WORDS;
-use words::GPIO_WORDS;
 ghost use mathlib.Core.Path.{_≡_};
 ghost use mathlib.Core.List.{List};
 ghost use Prim.Native.Nat.{ℕ, _<_, _≤_};

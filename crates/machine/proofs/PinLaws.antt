@@ -7,8 +7,8 @@ use native.Mathlib.Omega.{arith}
 use lib.Dec.{eqb}
 use lib.ListN.{length, set, getD, length-set}
 use lib.Seq.{getD-set-same}
-use Rattle.words.specs.declared.Gpio.{Gpio}
-use Rattle.words.specs.declared.PinCfg.{PinCfg}
+use Rattle.gpio.specs.declared.Gpio.{Gpio}
+use Rattle.gpio.specs.declared.PinCfg.{PinCfg}
 use Rattle.pins.specs.declared.ExtDrive.{ExtDrive}
 use Rattle.gpio.specs.declared.Change.the-variants.{Same, Level}
 use Rattle.gpio.specs.Gpio.{updated, refreshed, configured, connected, signalOf, withMcu, sideOf}

@@ -18,8 +18,8 @@ use Rattle.clk.specs.declared.ClockTree.{ClockTree}
 use Rattle.real.specs.Real.{positive}
 use Rattle.clk.specs.Clk.{differing}
 use Rattle.pins.specs.Clock as Clock
-use Rattle.words.specs.declared.Gpio.{Gpio}
-use Rattle.words.specs.declared.PinCfg.{PinCfg}
+use Rattle.gpio.specs.declared.Gpio.{Gpio}
+use Rattle.gpio.specs.declared.PinCfg.{PinCfg}
 use Rattle.pins.specs.declared.ExtDrive.{ExtDrive}
 use Rattle.gpio.specs.Gpio.{updated, configured, connected}
 use Rattle.machine.specs.Board.{Board, Pads, timerAt, gpioAt, routeOf, withGpio, withRoute, withPads, withTimer, withClocks, withLast, noPin, plainCfg, freshBoard, firstBoard, one}

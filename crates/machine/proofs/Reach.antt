@@ -29,7 +29,7 @@ use Rattle.clk.specs.declared.ClockTree.{ClockTree}
 use Rattle.clk.specs.Clk.{good, differing}
 use Rattle.pins.specs.declared.ExtDrive.{ExtDrive}
 use Rattle.nvic.specs.Nvic.{Nvic}
-use Rattle.words.specs.declared.PinCfg.{PinCfg}
+use Rattle.gpio.specs.declared.PinCfg.{PinCfg}
 use Rattle.sig.specs.Signal.{timSignal}
 use Rattle.sig.proofs.Laws.{tim-injective, tim-no-input}
 use Rattle.gpio.specs.declared.Change.{Change}

@@ -14,8 +14,8 @@ use Rattle.pins.specs.declared.ExtDrive.{ExtDrive}
 use Rattle.pins.specs.declared.ExtDrive.the-variants as ext
 use Rattle.pins.specs.Pins.{effectiveDir, drivenLevel, sensedFrom, resolved}
 use Rattle.pins.proofs.Resolved.{output}
-use Rattle.words.specs.declared.Gpio.{Gpio}
-use Rattle.words.specs.declared.PinCfg.{PinCfg}
+use Rattle.gpio.specs.declared.Gpio.{Gpio}
+use Rattle.gpio.specs.declared.PinCfg.{PinCfg}
 use Rattle.tim.specs.declared.Timer.{Timer}
 use Rattle.sig.specs.Signal.{timSignal}
 use Rattle.gpio.specs.declared.Change.{Change}

@@ -17,8 +17,8 @@ use Rattle.tim.specs.declared.Due.the-variants.{At, Stopped}
 use Rattle.tim.specs.Next.{nextEvent}
 use Rattle.tim.specs.Change.{output}
 use Rattle.sig.specs.Signal.{timSignal}
-use Rattle.words.specs.declared.Gpio.{Gpio}
-use Rattle.words.specs.declared.PinCfg.{PinCfg}
+use Rattle.gpio.specs.declared.Gpio.{Gpio}
+use Rattle.gpio.specs.declared.PinCfg.{PinCfg}
 use Rattle.pins.specs.declared.ExtDrive.{ExtDrive}
 use Rattle.gpio.specs.Gpio.{updated, refreshed, configured, connected, signalOf, bit}
 use Rattle.book.specs.Book.{Entry, entryOf, entriesOf}

@@ -13,8 +13,8 @@ use Rattle.nvic.specs.Nvic.{idle}
 use Rattle.scheduler.specs.Booking.{empty}
 use Rattle.sig.specs.Signal.{idleLevel}
 use Rattle.tim.specs.declared.Timer.{Timer}
-use Rattle.words.specs.declared.Gpio.{Gpio}
-use Rattle.words.specs.declared.PinCfg.{PinCfg}
+use Rattle.gpio.specs.declared.Gpio.{Gpio}
+use Rattle.gpio.specs.declared.PinCfg.{PinCfg}
 use Rattle.clk.specs.declared.ClockTree.{ClockTree}
 use Rattle.pins.specs.declared.ClockModel.{ClockModel}
 use Rattle.nvic.specs.Nvic.{Nvic}

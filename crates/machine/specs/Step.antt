@@ -15,7 +15,7 @@ use Rattle.real.specs.Real.{positive, bitsOf}
 use Rattle.clk.specs.declared.ClockTree.{ClockTree}
 use Rattle.clk.specs.Clk.{good, differing}
 use Rattle.pins.specs.Clock as Clock
-use Rattle.words.specs.declared.PinCfg.{PinCfg}
+use Rattle.gpio.specs.declared.PinCfg.{PinCfg}
 use Rattle.nvic.specs.Nvic as N
 use Rattle.scheduler.specs.Booking as S
 use Rattle.gpio.specs.declared.Change.{Change}

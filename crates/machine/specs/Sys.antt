@@ -6,7 +6,7 @@ use lib.Dec.{eqb, ltb, leb}
 use lib.ListN.{replicate}
 use Rattle.tim.specs.declared.Timer.{Timer}
 use Rattle.tim.specs.Change.{output}
-use Rattle.words.specs.declared.PinCfg.{PinCfg}
+use Rattle.gpio.specs.declared.PinCfg.{PinCfg}
 use Rattle.sig.specs.Signal.{timSignal}
 use Rattle.pins.specs.declared.ExtDrive.{ExtDrive}
 use Rattle.gpio.specs.declared.Change.{Change}

@@ -1,10 +1,10 @@
 // The calls of pins, with the lent book: set a pin, drive it from outside, reset them all. Each answers and leaves what `step` does.
 use answer::Answer;
 use gpio::Change;
+use gpio::PinCfg;
 use pins::ExtDrive;
 use state::REALS;
 use state::WORDS;
-use words::PinCfg;
 ghost use mathlib.Core.Path.{_≡_};
 ghost use mathlib.Core.Bool.{cond};
 ghost use mathlib.Core.List.{List, [], _∷_};

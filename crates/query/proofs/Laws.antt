@@ -12,7 +12,7 @@ use Rattle.pins.specs.Clock.{timeAt}
 use Rattle.nvic.specs.Nvic as N
 use Rattle.scheduler.specs.Booking.{least}
 use Rattle.real.specs.Real.{bitsOf}
-use Rattle.words.specs.declared.Gpio.{Gpio}
+use Rattle.gpio.specs.declared.Gpio.{Gpio}
 use Rattle.machine.specs.Board.{Board, gpioAt, withNvic}
 use Rattle.machine.specs.Call.{Outcome, served, enable, queryBooked, queryNext, queryLevel, queryVolts, queryLine, queryTime, clearPending}
 use Rattle.machine.specs.Step.{step, refuseIf, cycleAstray}

@@ -8,9 +8,9 @@ use lib.Ieee.{Float, nan}
 use Rattle.tim.specs.Timer.{Fit}
 use Rattle.nvic.specs.Nvic.{lineOf}
 use Rattle.codec.specs.Codec.{decodeTimer}
-use Rattle.words.specs.Codec.{GpioFit}
+use Rattle.gpio.specs.Gpio.{GpioFit}
 use Rattle.codec.proofs.Bounds.{timer-fit}
-use Rattle.words.proofs.Bounds.{gpio-fit}
+use Rattle.codec.proofs.Bounds.{gpio-fit}
 use Rattle.machine.specs.Board.{Board, noTimer, noGpio, timerAt}
 use Rattle.state.specs.Board.{Divided, pinAt, routeAt, sigLevelAt, enrAt}
 use Rattle.state.specs.Parts.{parts, blocks}

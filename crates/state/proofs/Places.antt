@@ -13,9 +13,9 @@ use lib.Ieee.{Float, nan}
 use Rattle.nvic.specs.Nvic.{lineOf, lineAt}
 use Rattle.nvic.proofs.Laws.{word-at}
 use Rattle.scheduler.specs.Booking.{book}
-use Rattle.words.specs.declared.Gpio.{Gpio}
+use Rattle.gpio.specs.declared.Gpio.{Gpio}
 use Rattle.codec.specs.Codec.{decodeTimer}
-use Rattle.words.specs.Codec.{decodeGpio}
+use Rattle.codec.specs.Pin.{decodeGpio}
 use Rattle.state.specs.Board.{pinAt, routeAt, sigLevelAt, enrAt, bookedAt}
 use Rattle.state.specs.Parts.{start, front, parts, blocks}
 use Rattle.state.proofs.Cut.{getD-any, map-at, front-at, length-front, part-at, part-front, part-block, length-part, length-blocks}

@@ -14,9 +14,9 @@ use Rattle.clk.specs.declared.ClockTree.{ClockTree}
 use Rattle.nvic.specs.declared.Line.{Line}
 use Rattle.nvic.specs.Nvic.{lineOf, onLine}
 use Rattle.nvic.proofs.Laws.{stored, no-line}
-use Rattle.words.specs.declared.Gpio.{Gpio}
+use Rattle.gpio.specs.declared.Gpio.{Gpio}
 use Rattle.codec.specs.Codec.{decodeTimer}
-use Rattle.words.specs.Codec.{decodeGpio}
+use Rattle.codec.specs.Pin.{decodeGpio}
 use Rattle.machine.specs.Board.{withTimer, withNvic, withLast}
 use Rattle.state.specs.Board.{Divider, Divided, routeSet, sigLevelSet, withAfAt, withEnr, bookingSet, withSizes, withVcc, withTree, withClock, withGpios, pinSet}
 use Rattle.state.specs.Parts.{start, parts, blocks}

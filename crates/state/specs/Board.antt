@@ -5,7 +5,7 @@ use lib.ListN.{getD, set}
 use lib.Ieee as Ieee
 use Rattle.tim.specs.declared.Timer.{Timer}
 use Rattle.tim.specs.declared.Inst.{Inst}
-use Rattle.words.specs.declared.Gpio.{Gpio}
+use Rattle.gpio.specs.declared.Gpio.{Gpio}
 use Rattle.clk.specs.declared.ClockTree.{ClockTree}
 use Rattle.pins.specs.declared.ClockModel.{ClockModel}
 use Rattle.scheduler.specs.Booking.{cycleOf, book}

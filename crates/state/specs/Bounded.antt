@@ -3,7 +3,7 @@ use mathlib.Core.Path.{_≡_}
 use Prim.Native.Nat.{ℕ, _<_, _≤_}
 use lib.ListN.{length, getD}
 use Rattle.tim.specs.Timer.{Fit}
-use Rattle.words.specs.Codec.{GpioFit}
+use Rattle.gpio.specs.Gpio.{GpioFit}
 use Rattle.machine.specs.Board.{Board, timerAt}
 use Rattle.state.specs.Board.{Divided, pinAt, routeAt, sigLevelAt, enrAt}
 

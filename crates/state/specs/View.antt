@@ -7,9 +7,9 @@ use lib.Ieee.{Float, nan}
 use Rattle.clk.specs.declared.ClockTree.{ClockTree}
 use Rattle.pins.specs.declared.ClockModel.{ClockModel}
 use Rattle.nvic.specs.Nvic.{nvicOf}
-use Rattle.words.specs.declared.Gpio.{Gpio}
+use Rattle.gpio.specs.declared.Gpio.{Gpio}
 use Rattle.codec.specs.Codec.{decodeTimer}
-use Rattle.words.specs.Codec.{decodeGpio}
+use Rattle.codec.specs.Pin.{decodeGpio}
 use Rattle.machine.specs.Board.{Board, Counts}
 use Rattle.state.specs.Parts.{parts, blocks}
 

@@ -7,7 +7,7 @@ ghost use lib.ListN.{length, drop};
 ghost use lib.Seq.{paste};
 ghost use lib.Ieee.{Float};
 ghost use Rattle.tim.specs.Timer.{Fit};
-ghost use Rattle.words.specs.Codec.{GpioFit};
+ghost use Rattle.gpio.specs.Gpio.{GpioFit};
 ghost use Rattle.nvic.specs.Nvic.{setLine, clearPending, lineAt, stateOf};
 ghost use Rattle.scheduler.specs.Booking.{least};
 ghost use Rattle.machine.specs.Board.{timerAt, withTimer, withNvic, withLast};
@@ -15,9 +15,9 @@ ghost use Rattle.state.specs.Board.{Divided, pinAt, routeAt, sigLevelAt,
 ghost use Rattle.state.specs.Parts.{front};
 ghost use Rattle.state.specs.View.{view, dividerHeld, treeOf};
 use clk::ClockTree;
+use gpio::Gpio;
 use pins::ClockModel;
 use tim::Timer;
-use words::Gpio;
 
 // ---- the layout: this crate's, and of fields, levels and blank, which store words of it
 
@@ -163,8 +163,8 @@ pub fn load_gpio(words: &[u64; WORDS], reals: &[f64; REALS], p: usize) -> Gpio
     ensures { λ r. ⌜ r ≡ pinAt (view (now (words .entry)) (now (reals .entry))) p ⌝ }
 {
     let mut b = [0u64; 16];
-    get(words, GPIO + p * words::GPIO_WORDS, &mut b);
-    words::unpack_gpio(
+    get(words, GPIO + p * codec::GPIO_WORDS, &mut b);
+    codec::unpack_gpio(
         b,
         reals[GPIO_REALS + p * 2],
         reals[GPIO_REALS + (p * 2 + 1)],
@@ -177,10 +177,10 @@ pub fn store_gpio(words: &mut [u64; WORDS], reals: &mut [f64; REALS], p: usize, 
 {
     sized(words);
     sized_reals(reals);
-    let b = words::pack_gpio(g);
-    put(words, GPIO + p * words::GPIO_WORDS, &b);
+    let b = codec::pack_gpio(g);
+    put(words, GPIO + p * codec::GPIO_WORDS, &b);
     reals[GPIO_REALS + p * 2] = g.pin.volts;
-    reals[GPIO_REALS + (p * 2 + 1)] = words::ext_volts(g);
+    reals[GPIO_REALS + (p * 2 + 1)] = codec::ext_volts(g);
 }
 
 // The signal of function f of pin p.

@@ -9,8 +9,8 @@ use lib.Ieee.{Float}
 use lib.ListN.{length}
 use lib.Seq.{getD-set-same}
 use borrow.Author.Tests.{eq-eqb, ne-eqb}
-use Rattle.words.specs.declared.Gpio.{Gpio}
-use Rattle.words.specs.declared.PinCfg.{PinCfg}
+use Rattle.gpio.specs.declared.Gpio.{Gpio}
+use Rattle.gpio.specs.declared.PinCfg.{PinCfg}
 use Rattle.gpio.specs.declared.Change.{Change}
 use Rattle.gpio.specs.declared.Change.the-variants.{Same}
 use Rattle.gpio.specs.declared.Moved.{Moved}

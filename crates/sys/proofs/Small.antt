@@ -8,7 +8,7 @@ use lib.Dec.{eqb, ltb, lit<}
 use borrow.Author.Tests.{ltb-true, ltb-false}
 use lib.Ieee.{Float}
 use lib.ListN.{length}
-use Rattle.words.specs.declared.Gpio.{Gpio}
+use Rattle.gpio.specs.declared.Gpio.{Gpio}
 use Rattle.gpio.specs.Gpio.{signalOf}
 use Rattle.machine.specs.Board.{gpioAt, routeOf, levelOf}
 use Rattle.state.specs.View.{view}

@@ -1,7 +1,7 @@
 -- What a function over the lent state leaves: the board that a definition gives, and its level changes.
 use mathlib.Core.Path.{_≡_}
 use mathlib.Core.Bool.{Bool, _&&_}
-use Rattle.words.specs.declared.Gpio.{Gpio}
+use Rattle.gpio.specs.declared.Gpio.{Gpio}
 use Rattle.gpio.specs.Gpio.{isPushPull, drives}
 use Rattle.gpio.specs.declared.Change.{Change}
 use Rattle.machine.specs.Board.{Board, withPads}

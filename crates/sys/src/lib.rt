@@ -1,9 +1,9 @@
 // Pins and routing over the lent state (sys.rs). A level change is a value here; the call that asked writes it to its book.
 use gpio::Change;
+use gpio::PinCfg;
 use pins::ExtDrive;
 use state::REALS;
 use state::WORDS;
-use words::PinCfg;
 ghost use mathlib.Core.Path.{_≡_};
 ghost use mathlib.Core.Bool.{true};
 ghost use mathlib.Core.List.{List};

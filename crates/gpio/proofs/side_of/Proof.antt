@@ -1,7 +1,7 @@
 -- By the mode and the signal.
 use Prim.Native.Nat.{_<_}
 use Rattle.gpio.specs.Gpio.{drives, sideOf, signalOf}
-use Rattle.words.specs.declared.Gpio.{Gpio}
+use Rattle.gpio.specs.declared.Gpio.{Gpio}
 use borrow.Author.Needs.{needs}
 use borrow.Author.Tests.{eq-eqb, ne-eqb}
 use lib.Dec.{eqb}

@@ -1,6 +1,6 @@
 -- A block of words and two reals that decode to the pin.
 use Rattle.state.proofs.Stores.{gpio-set}
-use Rattle.words.specs.Codec.{extVolts}
+use Rattle.codec.specs.Pin.{extVolts}
 use borrow.Author.Needs.{needs}
 use Rattle.state.proofs.store_gpio.Statement.{statement}
 use Rattle.state.proofs.store_gpio.Tie as tie

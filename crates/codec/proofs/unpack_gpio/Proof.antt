@@ -1,8 +1,8 @@
 -- Part by part.
-use Rattle.words.specs.Codec.{decodeGpio}
+use Rattle.codec.specs.Pin.{decodeGpio}
 use borrow.Author.Needs.{needs}
-use Rattle.words.proofs.unpack_gpio.Statement.{statement}
-use Rattle.words.proofs.unpack_gpio.Tie as tie
+use Rattle.codec.proofs.unpack_gpio.Statement.{statement}
+use Rattle.codec.proofs.unpack_gpio.Tie as tie
 
 returns : tie.Need-returns
 unfolding decodeGpio

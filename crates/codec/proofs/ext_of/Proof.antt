@@ -1,8 +1,8 @@
 -- By the tests on the way.
-use Rattle.words.specs.Codec.{extOf}
+use Rattle.codec.specs.Pin.{extOf}
 use borrow.Author.Tests.{eq-eqb, ne-eqb}
-use Rattle.words.proofs.ext_of.Statement.{statement}
-use Rattle.words.proofs.ext_of.Tie as tie
+use Rattle.codec.proofs.ext_of.Statement.{statement}
+use Rattle.codec.proofs.ext_of.Tie as tie
 
 returns : tie.Need-returns
 unfolding extOf

@@ -10,8 +10,8 @@ use mir.Val.{Fits, boolByte}
 use Rattle.pins.specs.declared.Mcu.{Mcu}
 use Rattle.pins.specs.declared.ExtDrive.{ExtDrive}
 use Rattle.pins.specs.declared.ExtDrive.the-variants as ext
-use Rattle.words.specs.declared.PinCfg.{PinCfg}
-use Rattle.words.specs.Codec.{cfgAt, mcuAt, extOf, extCode, extVolts}
+use Rattle.gpio.specs.declared.PinCfg.{PinCfg}
+use Rattle.codec.specs.Pin.{cfgAt, mcuAt, extOf, extCode, extVolts}
 
 byte : {x : ℕ} → Fits w8 x → x % 256 ≡ x
 byte h = omega arith

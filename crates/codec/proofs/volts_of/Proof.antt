@@ -1,9 +1,9 @@
 -- By the variant.
-use Rattle.words.specs.Codec.{extVolts}
+use Rattle.codec.specs.Pin.{extVolts}
 use borrow.Author.Needs.{needs}
 use mathlib.Core.Path.{ap, sym}
-use Rattle.words.proofs.volts_of.Statement.{statement}
-use Rattle.words.proofs.volts_of.Tie as tie
+use Rattle.codec.proofs.volts_of.Statement.{statement}
+use Rattle.codec.proofs.volts_of.Tie as tie
 
 returns : tie.Need-returns
 unfolding extVolts

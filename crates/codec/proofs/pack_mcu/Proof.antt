@@ -1,8 +1,8 @@
 -- Each number is its own remainder.
-use Rattle.words.proofs.Laws.{mcu}
+use Rattle.codec.proofs.PinLaws.{mcu}
 use borrow.Author.Needs.{needs}
-use Rattle.words.proofs.pack_mcu.Statement.{statement}
-use Rattle.words.proofs.pack_mcu.Tie as tie
+use Rattle.codec.proofs.pack_mcu.Statement.{statement}
+use Rattle.codec.proofs.pack_mcu.Tie as tie
 
 returns : tie.Need-returns
 returns c = mcu _ (search needs) (search needs) (search needs) (search needs) (search needs) (search needs) (search needs) (search needs)

@@ -1,12 +1,12 @@
 -- Part by part; the drive comes back from its number and its volts.
 use Prim.Native.Nat.{_%_}
-use Rattle.words.proofs.Laws.{drive}
-use Rattle.words.specs.Codec.{decodeGpio}
+use Rattle.codec.proofs.PinLaws.{drive}
+use Rattle.codec.specs.Pin.{decodeGpio}
 use borrow.Author.Needs.{needs}
 use mathlib.Core.Path.{_≡_}
 use native.Mathlib.Omega.{arith}
-use Rattle.words.proofs.pack_gpio.Statement.{statement}
-use Rattle.words.proofs.pack_gpio.Tie as tie
+use Rattle.codec.proofs.pack_gpio.Statement.{statement}
+use Rattle.codec.proofs.pack_gpio.Tie as tie
 
 returns : tie.Need-returns
 unfolding decodeGpio

@@ -2,7 +2,7 @@
 -- in range: a word counts by its remainder. No word is spare.
 use mathlib.Core.Bool.{Bool, cond}
 use mathlib.Core.List.{List, [], _∷_}
-use Prim.Native.Nat.{ℕ, _+_, _%_, _≤_, _<_}
+use Prim.Native.Nat.{ℕ, _+_, _%_}
 use lib.Dec.{eqb}
 use lib.ListN.{getD}
 use lib.Ieee.{Float}
@@ -10,8 +10,8 @@ use Rattle.real.specs.Real.{zeroFloat}
 use Rattle.pins.specs.declared.Mcu.{Mcu}
 use Rattle.pins.specs.declared.ExtDrive.{ExtDrive}
 use Rattle.pins.specs.declared.ExtDrive.the-variants as ext
-use Rattle.words.specs.declared.PinCfg.{PinCfg}
-use Rattle.words.specs.declared.Gpio.{Gpio}
+use Rattle.gpio.specs.declared.PinCfg.{PinCfg}
+use Rattle.gpio.specs.declared.Gpio.{Gpio}
 
 -- word k of b as a number of 8 bits, as a level and as a flag
 abbrev pub u8At : List ℕ → ℕ → ℕ
@@ -53,14 +53,6 @@ extVolts ext.Float = zeroFloat
 extVolts ext.Low = zeroFloat
 extVolts ext.High = zeroFloat
 extVolts (ext.Analog x) = x
-
--- a pin that words can hold: each level is 0 or 1, the signal one of the 256
-pub record GpioFit (g : Gpio) : Type 0 where
-  pub odr : g .cfg .odr ≤ 1
-  pub out : g .pin .mcu .out ≤ 1
-  pub value : g .pin .mcu .«ov_value» ≤ 1
-  pub level : g .pin .level ≤ 1
-  pub sig : g .sig < 256
 
 -- volts is the pin's, x the analogue drive's
 unfoldable pub decodeGpio : List ℕ → Float → Float → Gpio

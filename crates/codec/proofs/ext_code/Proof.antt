@@ -1,9 +1,9 @@
 -- By the variant.
-use Rattle.words.specs.Codec.{extCode}
+use Rattle.codec.specs.Pin.{extCode}
 use borrow.Author.Needs.{needs}
 use mathlib.Core.Path.{ap, sym}
-use Rattle.words.proofs.ext_code.Statement.{statement}
-use Rattle.words.proofs.ext_code.Tie as tie
+use Rattle.codec.proofs.ext_code.Statement.{statement}
+use Rattle.codec.proofs.ext_code.Tie as tie
 
 returns : tie.Need-returns
 unfolding extCode

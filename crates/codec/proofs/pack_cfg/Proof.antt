@@ -1,8 +1,8 @@
 -- Each number is its own remainder.
-use Rattle.words.proofs.Laws.{cfg}
+use Rattle.codec.proofs.PinLaws.{cfg}
 use borrow.Author.Needs.{needs}
-use Rattle.words.proofs.pack_cfg.Statement.{statement}
-use Rattle.words.proofs.pack_cfg.Tie as tie
+use Rattle.codec.proofs.pack_cfg.Statement.{statement}
+use Rattle.codec.proofs.pack_cfg.Tie as tie
 
 returns : tie.Need-returns
 returns c = cfg _ (search needs) (search needs)
