@@ -2,7 +2,7 @@
 use mathlib.Core.Path.{_≡_, refl, ap, sym, subst, _∙_}
 use mathlib.Core.Bool.{Bool, true, false, cond, _&&_, false≢true}
 use mathlib.Core.List.{List, [], _∷_}
-use Prim.Native.Nat.{ℕ, _*_, _/_, _%_, _≤_, _<_}
+use Prim.Native.Nat.{ℕ, zero, suc, _+_, _*_, _/_, _%_, _≤_, _<_}
 use native.Mathlib.Omega.{arith}
 use lib.Bits.{bitAnd}
 use lib.Dec.{leb, eqb}
@@ -15,7 +15,7 @@ use Rattle.tim.specs.declared.Inst.{Inst}
 use Rattle.tim.specs.Timer.{Ready, ccmrByte}
 use Rattle.tim.specs.Count.{cntAt}
 use Rattle.rm0440.specs.Output as Out
-use Rattle.rm0440.specs.Registers.{keptMask}
+use Rattle.rm0440.specs.Registers.{keptMask, mask, bits}
 use Rattle.regs.specs.Regs as R
 use Rattle.tim.proofs.Fit.{either}
 use Rattle.regs.proofs.Fixed.{inst-written}
@@ -266,6 +266,21 @@ channel-lt off h = go (leb 0x34 off) refl (leb off 0x40) refl h
     go true e true f h = (leb-true 0x34 off e, omega (arith, leb-true 0x34 off e, leb-true off 0x40 f))
     go true e false f h = absurd (false≢true h)
     go false e b f h = absurd (false≢true h)
+
+-- the table keeps alike of the four
+pub compare-kept : (off : ℕ) → R.isCcr off ≡ true → keptMask (off / 4) ≡ keptMask 13
+unfolding mask bits
+compare-kept off h = ap keptMask place ∙ go (R.ccrChannel off) (channel-lt off h .1)
+  where
+    place : off / 4 ≡ 13 + R.ccrChannel off
+    place = omega (arith, channel-lt off h .0)
+
+    go : (ch : ℕ) → ch < 4 → keptMask (13 + ch) ≡ keptMask 13
+    go zero l = refl
+    go (suc zero) l = refl
+    go (suc (suc zero)) l = refl
+    go (suc (suc (suc zero))) l = refl
+    go (suc (suc (suc (suc ch)))) l = absurd (omega arith)
 
 module _ (w : List ℕ) (x : List Float) (i off v cycle : ℕ) (h : R.isCcr off ≡ true) where
   abbrev t : Timer

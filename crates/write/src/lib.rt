@@ -169,7 +169,8 @@ fn write_sr(words: &mut [u64; WORDS], i: usize, v: u32, cycle: u64) -> u64
     0
 }
 
-// CCR1 to CCR4. What the outputs are driven at is the reference's counter: a written compare left the timer synced.
+// CCR1 to CCR4, of which the table keeps alike: CCR1's entry serves all, and is a constant here. What the outputs are driven at is the
+// reference's counter: a written compare left the timer synced.
 fn write_compare(
     words: &mut [u64; WORDS],
     reals: &mut [f64; REALS],
@@ -192,7 +193,7 @@ fn write_compare(
         return 0;
     }
     let ch = ((off - 0x34) / 4) as usize;
-    let kept = v & regs::kept((off / 4) as usize);
+    let kept = v & regs::kept(13);
     let on = regfile::write_ccr(words, i, ch, kept, cycle);
     let cnt = fields::cnt0(words, i);
     let count = mmio::follow(
@@ -209,6 +210,30 @@ fn write_compare(
         cycles,
     );
     made(count)
+}
+
+// CR1 or a compare: these move the timer's reference. Two arms call it, so it is not compiled into the write of a flag register, which
+// is spared what it keeps.
+fn write_synced(
+    words: &mut [u64; WORDS],
+    reals: &mut [f64; REALS],
+    i: usize,
+    off: u32,
+    v: u32,
+    cycle: u64,
+    pins: &mut [u8],
+    levels: &mut [u8],
+    cycles: &mut [u64],
+) -> u64
+    requires { ⌜ (i < 8) × ((off ≡ 0 → ⊥) → R.isCcr off ≡ true) × (cycle ≤ 4611686018427387904) ⌝ }
+    requires { ⌜ Room 4 (slices (now pins) (now levels) (now cycles)) ⌝ }
+    ensures { λ r. ⌜ Answers (writtenBy (view (now (words .entry)) (now (reals .entry))) i off v cycle) (answerOf r) (now (words .entry)) (now (words .exit)) (now (reals .entry)) (now (reals .exit)) ⌝ }
+    ensures { λ r. ⌜ Holds (writtenBy (view (now (words .entry)) (now (reals .entry))) i off v cycle .entries) (slices (now (pins .entry)) (now (levels .entry)) (now (cycles .entry))) (slices (now (pins .exit)) (now (levels .exit)) (now (cycles .exit))) (answerOf r .count) ⌝ }
+{
+    if off == 0 {
+        return write_cr1(words, reals, i, v, cycle, pins, levels, cycles);
+    }
+    write_compare(words, reals, i, off, v, cycle, pins, levels, cycles)
 }
 
 // A write of the value v to register off: by its short way, or by the general one.
@@ -229,10 +254,10 @@ fn write_quick(
     ensures { λ r. ⌜ Holds (writtenBy (view (now (words .entry)) (now (reals .entry))) i off v cycle .entries) (slices (now (pins .entry)) (now (levels .entry)) (now (cycles .entry))) (slices (now (pins .exit)) (now (levels .exit)) (now (cycles .exit))) (answerOf r .count) ⌝ }
 {
     match off {
-        0x00 => write_cr1(words, reals, i, v, cycle, pins, levels, cycles),
+        0x00 => write_synced(words, reals, i, off, v, cycle, pins, levels, cycles),
         0x0c => write_dier(words, i, v, cycle),
         0x10 => write_sr(words, i, v, cycle),
-        0x34..=0x40 => write_compare(words, reals, i, off, v, cycle, pins, levels, cycles),
+        0x34..=0x40 => write_synced(words, reals, i, off, v, cycle, pins, levels, cycles),
         _ => write_timer(words, reals, i, off, v, cycle, pins, levels, cycles),
     }
 }

@@ -2,12 +2,12 @@
 use Rattle.book.specs.Book.{slices}
 use native.Mathlib.Omega.{arith}
 use lib.Bits.{bitAnd}
-use mathlib.Core.Path.{ap}
+use mathlib.Core.Path.{ap, sym, _∙_}
 use Rattle.regs.specs.Regs as R
 use Rattle.state.specs.View.{view}
 use Rattle.state.proofs.InRange.{bounded}
 use Rattle.mmio.proofs.Laws.{of-eight}
-use Rattle.write.proofs.Laws.{channel-lt, coded, coded-book, compare-follows, compare-gives, no-entries, without-entries, without-gives}
+use Rattle.write.proofs.Laws.{channel-lt, coded, coded-book, compare-follows, compare-gives, compare-kept, no-entries, without-entries, without-gives}
 use Rattle.write.proofs.Synced.{rests}
 use borrow.Author.Needs.{needs}
 use Rattle.write.proofs.write_compare.Statement.{statement}
@@ -33,11 +33,8 @@ sub-ch c = let s = c .before .before .before .before .before .before .before in 
 cast-ch : tie.Need-cast-ch
 cast-ch c = search needs
 
-cast-kept : tie.Need-cast-kept
-cast-kept c = search needs
-
 kept-requires : tie.Need-kept-requires
-kept-requires c κs = let s = c .before .before .before .before .before .before .before in omega (arith, channel-lt (s .args .off) (s .pre .0 .1) .0, channel-lt (s .args .off) (s .pre .0 .1) .1)
+kept-requires c κs = search needs
 
 write-ccr-requires : tie.Need-write-ccr-requires
 write-ccr-requires c κs = let s = c .before .before .before .before .before .before .before .before .before in (s .pre .0 .0, channel-lt (s .args .off) (s .pre .0 .1) .1, s .pre .0 .2)
@@ -68,7 +65,7 @@ returns-2 c =
     let e = c .before .before .before .before .before .before .before .before .before .before .before .before .before .before .before .write-ccr .ensures in
     let n = rests (view (s .args .words .now) (s .args .reals .now)) _ (s .args .i) (R.ccrChannel (s .args .off)) _ (s .args .cycle) _ l (bounded (s .args .words .now) (s .args .reals .now) .timer-fit (s .args .i) .tick-pos) (e .0 (s .args .reals .now)) (c .before .before .before .before .before .before .before .before .before .before .before .before .before .cnt0 .ensures (s .args .reals .now)) in
     let o = compare-follows (view (s .args .words .now) (s .args .reals .now)) _ (s .args .i) (R.ccrChannel (s .args .off)) _ (s .args .cycle) _ _ l (e .0 (s .args .reals .now)) (e .1 (s .args .reals .now)) n in
-    let m = compare-gives (s .args .words .now) (s .args .reals .now) (s .args .i) (s .args .off) (s .args .v) (s .args .cycle) (s .pre .0 .1) _ (c .before .before .before .before .before .before .before .before .before .before .before .before .before .before .before .before .before .before .before .before .inst .ensures (s .args .reals .now)) (c .before .before .before .before .before .before .before .before .before .before .before .before .before .before .before .before .before .before .if1 .left) _ (ap (bitAnd (s .args .v)) (c .before .before .before .before .before .before .before .before .before .before .before .before .before .before .before .before .before .kept .ensures)) _ o _ _ _ _ _ (f .0) ((omega (arith, f .1, s .pre .1 .0)), (omega (arith, f .1, s .pre .1 .1)), (omega (arith, f .1, s .pre .1 .2))) in
+    let m = compare-gives (s .args .words .now) (s .args .reals .now) (s .args .i) (s .args .off) (s .args .v) (s .args .cycle) (s .pre .0 .1) _ (c .before .before .before .before .before .before .before .before .before .before .before .before .before .before .before .before .before .before .before .before .inst .ensures (s .args .reals .now)) (c .before .before .before .before .before .before .before .before .before .before .before .before .before .before .before .before .before .before .if1 .left) _ (ap (bitAnd (s .args .v)) (c .before .before .before .before .before .before .before .before .before .before .before .before .before .before .before .before .before .kept .ensures ∙ sym (compare-kept (s .args .off) (s .pre .0 .1)))) _ o _ _ _ _ _ (f .0) ((omega (arith, f .1, s .pre .1 .0)), (omega (arith, f .1, s .pre .1 .1)), (omega (arith, f .1, s .pre .1 .2))) in
     (coded _ _ _ _ _ _ _ (c .made .ensures) (m .0), coded-book _ _ _ _ _ (c .made .ensures) (m .1))
 
 pub write-compare-spec : {M : Type 1} → statement M
@@ -80,7 +77,6 @@ write-compare-spec =
     returns
     sub-ch
     cast-ch
-    cast-kept
     kept-requires
     write-ccr-requires
     cnt0-requires

@@ -7,8 +7,8 @@ use borrow.Author.Needs.{needs}
 use Rattle.write.proofs.write_quick.Statement.{statement}
 use Rattle.write.proofs.write_quick.Tie as tie
 
-write-cr1-requires : tie.Need-write-cr1-requires
-write-cr1-requires c κs = search needs
+write-synced-requires : tie.Need-write-synced-requires
+write-synced-requires c κs = let s = c .before .before .before .before .before .before .before .before .before in let k = c .before .before .before .before .before .match .keys1 in ((s .pre .0 .0, (λ n. absurd (n k)), s .pre .0 .1), s .pre .1)
 
 write-dier-requires : tie.Need-write-dier-requires
 write-dier-requires c κs = search needs
@@ -16,8 +16,8 @@ write-dier-requires c κs = search needs
 write-sr-requires : tie.Need-write-sr-requires
 write-sr-requires c κs = search needs
 
-write-compare-requires : tie.Need-write-compare-requires
-write-compare-requires c κs = let s = c .before .before .before .before .before .before .before .before .before .before .before in ((s .pre .0 .0, ccr-in (s .args .off) (omega (arith, c .before .before .before .before .before .before .if1 .left)) (omega (arith, c .before .before .before .before .before .if2 .taken)), omega (arith, s .pre .0 .1)), s .pre .1)
+write-synced-requires-2 : tie.Need-write-synced-requires-2
+write-synced-requires-2 c κs = let s = c .before .before .before .before .before .before .before .before .before .before .before in ((s .pre .0 .0, (λ n. ccr-in (s .args .off) (omega (arith, c .before .before .before .before .before .before .if1 .left)) (omega (arith, c .before .before .before .before .before .if2 .taken))), s .pre .0 .1), s .pre .1)
 
 write-timer-requires : tie.Need-write-timer-requires
 write-timer-requires c κs = search needs
@@ -32,10 +32,7 @@ same-length-3 : tie.Need-same-length-3
 same-length-3 c = search needs
 
 returns : tie.Need-returns
-returns c =
-    let s = c .before .before .before .before .before .before .before .before .before .before .before .before .before .before .before .before in
-    let k = c .before .before .before .before .before .before .before .before .before .before .before .before .match .keys1 in
-    (at-reg (s .args .words .now) (s .args .reals .now) (s .args .i) (s .args .off) 0 (s .args .v) (s .args .cycle) k _ _ _ (c .before .before .before .before .before .before .write-cr1 .ensures .0), at-reg-book (s .args .words .now) (s .args .reals .now) (s .args .i) (s .args .off) 0 (s .args .v) (s .args .cycle) k _ _ _ (c .before .before .before .before .before .before .write-cr1 .ensures .1))
+returns c = search needs
 
 returns-2 : tie.Need-returns-2
 returns-2 c =
@@ -77,10 +74,10 @@ pub write-quick-spec : {M : Type 1} → statement M
 write-quick-spec =
     tie.close
     (tie.spec
-    write-cr1-requires
+    write-synced-requires
     write-dier-requires
     write-sr-requires
-    write-compare-requires
+    write-synced-requires-2
     write-timer-requires
     same-length
     same-length-2
