@@ -94,7 +94,7 @@ pub extern "C" fn board_set_clock_tree(
         tim1,
         tim2,
     };
-    mmio::set_clock_tree(words, reals, t, cycle)
+    control::set_clock_tree(words, reals, t, cycle)
 }
 
 // Write an enable word.
@@ -107,7 +107,7 @@ pub extern "C" fn board_enable(
 ) -> Answer
     ensures { λ r. ⌜ Answers (step (view (now (words .entry)) (now (reals .entry))) (C.enable word value)) r (now (words .entry)) (now (words .exit)) (now (reals .entry)) (now (reals .entry)) ⌝ }
 {
-    query::enable(words, reals, word, value)
+    control::enable(words, reals, word, value)
 }
 
 // Set a pin: mode, open drain, output bit, pulls, function.
@@ -285,7 +285,7 @@ pub extern "C" fn board_deliver(
 pub extern "C" fn board_booked(words: &[u64; WORDS], reals: &[f64; REALS], timer: u32) -> Answer
     ensures { λ r. ⌜ Answers (step (view (now (words .entry)) (now (reals .entry))) (C.queryBooked timer)) r (now (words .entry)) (now (words .entry)) (now (reals .entry)) (now (reals .entry)) ⌝ }
 {
-    query::booked(words, reals, timer)
+    control::booked(words, reals, timer)
 }
 
 // The least booked cycle.
@@ -293,7 +293,7 @@ pub extern "C" fn board_booked(words: &[u64; WORDS], reals: &[f64; REALS], timer
 pub extern "C" fn board_next(words: &[u64; WORDS], reals: &[f64; REALS]) -> Answer
     ensures { λ r. ⌜ Answers (step (view (now (words .entry)) (now (reals .entry))) C.queryNext) r (now (words .entry)) (now (words .entry)) (now (reals .entry)) (now (reals .entry)) ⌝ }
 {
-    query::next_booked(words, reals)
+    control::next_booked(words, reals)
 }
 
 // A pin's level.
@@ -301,7 +301,7 @@ pub extern "C" fn board_next(words: &[u64; WORDS], reals: &[f64; REALS]) -> Answ
 pub extern "C" fn board_level(words: &[u64; WORDS], reals: &[f64; REALS], pin: u32) -> Answer
     ensures { λ r. ⌜ Answers (step (view (now (words .entry)) (now (reals .entry))) (C.queryLevel pin)) r (now (words .entry)) (now (words .entry)) (now (reals .entry)) (now (reals .entry)) ⌝ }
 {
-    query::level(words, reals, pin)
+    control::level(words, reals, pin)
 }
 
 // A pin's volts, as bits.
@@ -309,7 +309,7 @@ pub extern "C" fn board_level(words: &[u64; WORDS], reals: &[f64; REALS], pin: u
 pub extern "C" fn board_volts(words: &[u64; WORDS], reals: &[f64; REALS], pin: u32) -> Answer
     ensures { λ r. ⌜ Answers (step (view (now (words .entry)) (now (reals .entry))) (C.queryVolts pin)) r (now (words .entry)) (now (words .entry)) (now (reals .entry)) (now (reals .entry)) ⌝ }
 {
-    query::volts(words, reals, pin)
+    control::volts(words, reals, pin)
 }
 
 // An interrupt line: 1 if high plus 2 if pending.
@@ -317,7 +317,7 @@ pub extern "C" fn board_volts(words: &[u64; WORDS], reals: &[f64; REALS], pin: u
 pub extern "C" fn board_line(words: &[u64; WORDS], reals: &[f64; REALS], irq: u32) -> Answer
     ensures { λ r. ⌜ Answers (step (view (now (words .entry)) (now (reals .entry))) (C.queryLine irq)) r (now (words .entry)) (now (words .entry)) (now (reals .entry)) (now (reals .entry)) ⌝ }
 {
-    query::line(words, reals, irq)
+    control::line(words, reals, irq)
 }
 
 // Time at a cycle, as bits.
@@ -325,7 +325,7 @@ pub extern "C" fn board_line(words: &[u64; WORDS], reals: &[f64; REALS], irq: u3
 pub extern "C" fn board_time(words: &[u64; WORDS], reals: &[f64; REALS], cycle: u64) -> Answer
     ensures { λ r. ⌜ Answers (step (view (now (words .entry)) (now (reals .entry))) (C.queryTime cycle)) r (now (words .entry)) (now (words .entry)) (now (reals .entry)) (now (reals .entry)) ⌝ }
 {
-    query::time(words, reals, cycle)
+    control::time(words, reals, cycle)
 }
 
 // Clear a pending interrupt.
@@ -337,5 +337,5 @@ pub extern "C" fn board_clear_pending(
 ) -> Answer
     ensures { λ r. ⌜ Answers (step (view (now (words .entry)) (now (reals .entry))) (C.clearPending irq)) r (now (words .entry)) (now (words .exit)) (now (reals .entry)) (now (reals .entry)) ⌝ }
 {
-    query::clear_pending(words, reals, irq)
+    control::clear_pending(words, reals, irq)
 }

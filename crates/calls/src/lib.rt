@@ -43,7 +43,7 @@ fn time(words: &[u64; WORDS], reals: &[f64; REALS], calls: &[u32]) -> Answer
     ensures { λ r. ⌜ Answers (step (view (now (words .entry)) (now (reals .entry))) (E.questionCall 16 (now (calls .entry)))) r (now (words .entry)) (now (words .entry)) (now (reals .entry)) (now (reals .entry)) ⌝ }
 {
     let cycle = encoding::word64(calls, 1);
-    query::time(words, reals, cycle)
+    control::time(words, reals, cycle)
 }
 
 fn question(words: &[u64; WORDS], reals: &[f64; REALS], calls: &[u32], op: u32) -> Answer
@@ -53,12 +53,12 @@ fn question(words: &[u64; WORDS], reals: &[f64; REALS], calls: &[u32], op: u32) 
     match op {
         6 => read(words, reals, calls),
         8 => peek(words, reals, calls),
-        11 => query::booked(words, reals, k),
-        13 => query::level(words, reals, k),
-        14 => query::volts(words, reals, k),
-        15 => query::line(words, reals, k),
+        11 => control::booked(words, reals, k),
+        13 => control::level(words, reals, k),
+        14 => control::volts(words, reals, k),
+        15 => control::line(words, reals, k),
         16 => time(words, reals, calls),
-        _ => query::next_booked(words, reals),
+        _ => control::next_booked(words, reals),
     }
 }
 
@@ -91,7 +91,7 @@ fn clock(words: &mut [u64; WORDS], reals: &mut [f64; REALS], calls: &[u32]) -> A
 {
     let t = encoding::tree_of(calls);
     let cycle = encoding::word64(calls, 11);
-    mmio::set_clock_tree(words, reals, t, cycle)
+    control::set_clock_tree(words, reals, t, cycle)
 }
 
 fn enable(words: &mut [u64; WORDS], reals: &[f64; REALS], calls: &[u32]) -> Answer
@@ -99,14 +99,14 @@ fn enable(words: &mut [u64; WORDS], reals: &[f64; REALS], calls: &[u32]) -> Answ
 {
     let w = encoding::word(calls, 1);
     let value = encoding::word(calls, 2);
-    query::enable(words, reals, w, value)
+    control::enable(words, reals, w, value)
 }
 
 fn clear_pending(words: &mut [u64; WORDS], reals: &[f64; REALS], calls: &[u32]) -> Answer
     ensures { λ r. ⌜ Answers (step (view (now (words .entry)) (now (reals .entry))) (E.changeCall 17 (now (calls .entry)))) r (now (words .entry)) (now (words .exit)) (now (reals .entry)) (now (reals .entry)) ⌝ }
 {
     let irq = encoding::word(calls, 1);
-    query::clear_pending(words, reals, irq)
+    control::clear_pending(words, reals, irq)
 }
 
 fn change(words: &mut [u64; WORDS], reals: &mut [f64; REALS], calls: &[u32], op: u32) -> Answer

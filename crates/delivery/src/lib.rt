@@ -290,13 +290,13 @@ pub fn deliver(
     ensures { λ r. ⌜ r .count ≤ 400004 ⌝ }
 {
     let t = state::load_timer(words, i);
-    let div = rcc::divider(words, reals, t);
+    let div = context::divider(words, reals, t);
     let r = run(words, reals, pins, levels, cycles, t, div, cycle);
     let s = r.timer;
     let due = r.due;
     store(words, i, s, r.events);
-    rcc::settle_line(words, s);
-    rcc::book_due(words, i, due, cycle);
+    context::settle_line(words, s);
+    context::book_due(words, i, due, cycle);
     Delivered {
         number: r.number,
         events: r.events,

@@ -1,6 +1,5 @@
-// A timer's calls over the lent board (bus.rs, `Mmio`): read, peek, reset, deliver; and the clock tree. Crate write has the writes.
+// A timer's calls over the lent board (bus.rs, `Mmio`): read, peek, reset, deliver. Crate write has the writes.
 use answer::Answer;
-use clk::ClockTree;
 use state::REALS;
 use state::WORDS;
 ghost use mathlib.Core.Path.{_≡_};
@@ -71,7 +70,7 @@ fn read_whole(words: &[u64; WORDS], timer: u32, offset: u32, cycle: u64) -> Answ
     if no != 0 {
         return answer::refused(no);
     }
-    if !rcc::clock_on(words, timer as usize) {
+    if !context::clock_on(words, timer as usize) {
         return answer::served(0);
     }
     let v = whole_of(words, timer as usize, offset, cycle);
@@ -86,7 +85,7 @@ fn read_part(words: &[u64; WORDS], timer: u32, offset: u32, size: u32, cycle: u6
     if no != 0 {
         return answer::refused(no);
     }
-    if !rcc::clock_on(words, timer as usize) {
+    if !context::clock_on(words, timer as usize) {
         return answer::served(0);
     }
     let v = lane_of(words, timer as usize, offset, size, cycle);
@@ -158,7 +157,7 @@ fn settle_line_if(words: &mut [u64; WORDS], on: bool, i: usize)
     ensures { λ _. ⌜ ((x : List Float) → view (now (words .exit)) x ≡ cond on (lineSettled (timerAt (view (now (words .entry)) x) i) (view (now (words .entry)) x)) (view (now (words .entry)) x)) ⌝ }
 {
     if on {
-        rcc::settle_line_at(words, i);
+        context::settle_line_at(words, i);
     }
 }
 
@@ -167,7 +166,7 @@ fn rebook_if(words: &mut [u64; WORDS], on: bool, i: usize, cycle: u64)
     ensures { λ _. ⌜ ((x : List Float) → view (now (words .exit)) x ≡ cond on (rebooked i (timerAt (view (now (words .entry)) x) i) cycle (view (now (words .entry)) x)) (view (now (words .entry)) x)) ⌝ }
 {
     if on {
-        rcc::rebook(words, i, cycle);
+        context::rebook(words, i, cycle);
     }
 }
 
@@ -216,7 +215,7 @@ fn reset_timer(
     ensures { λ r. ⌜ r ≤ 4 ⌝ }
 {
     let t = state::load_timer(words, i);
-    let div = rcc::divider(words, reals, t);
+    let div = context::divider(words, reals, t);
     let s = t.reset(div);
     state::store_timer(words, i, s);
     follow(
@@ -284,25 +283,4 @@ pub fn deliver(
         number: d.number as u32,
         count: d.count as u32,
     }
-}
-
-// ---- the clock tree
-
-pub fn set_clock_tree(
-    words: &mut [u64; WORDS],
-    reals: &mut [f64; REALS],
-    t: ClockTree,
-    cycle: u64,
-) -> Answer
-    ensures { λ r. ⌜ Answers (step (view (now (words .entry)) (now (reals .entry))) (Call.clockTree t cycle)) r (now (words .entry)) (now (words .exit)) (now (reals .entry)) (now (reals .exit)) ⌝ }
-{
-    if !t.is_good() {
-        return answer::refused(4);
-    }
-    if answer::is_astray(words, cycle) {
-        return answer::refused(5);
-    }
-    rcc::set_clock_tree(words, reals, t, cycle);
-    state::set_last(words, cycle);
-    answer::served(0)
 }

@@ -31,7 +31,7 @@ use Rattle.machine.specs.Refusals as Refusals
 use Rattle.state.specs.Board.{withInst}
 use Rattle.state.specs.View.{view}
 use Rattle.state.proofs.InRange.{bounded}
-use Rattle.rcc.proofs.Laws.{stored-there}
+use Rattle.context.proofs.Laws.{stored-there}
 use Rattle.answer.specs.declared.Answer.{Answer}
 use Rattle.answer.specs.Promise.{answer, Answers}
 use Rattle.machine.proofs.NumberLaws.{given, passing}

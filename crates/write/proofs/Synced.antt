@@ -15,7 +15,7 @@ use Rattle.tim.proofs.Fit.{either}
 use Rattle.regs.specs.declared.Written.{Written}
 use Rattle.regs.specs.Regs as R
 use Rattle.machine.specs.Board.{Board, timerAt, withTimer}
-use Rattle.rcc.proofs.Laws.{stored-there}
+use Rattle.context.proofs.Laws.{stored-there}
 use Rattle.regfile.proofs.Unmoved.{up-le}
 
 down-le : (reload cnt n : ℕ) → cnt ≤ reload → downFrom reload cnt n ≤ reload

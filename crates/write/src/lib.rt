@@ -97,7 +97,7 @@ fn write_timer(
     ensures { λ r. ⌜ Holds (writtenBy (view (now (words .entry)) (now (reals .entry))) i off v cycle .entries) (slices (now (pins .entry)) (now (levels .entry)) (now (cycles .entry))) (slices (now (pins .exit)) (now (levels .exit)) (now (cycles .exit))) (answerOf r .count) ⌝ }
 {
     let t = state::load_timer(words, i);
-    let div = rcc::divider(words, reals, t);
+    let div = context::divider(words, reals, t);
     let w = regs::write_reg(t, off, v, cycle, div);
     let s = w.timer;
     if counter_astray(off, s) {
@@ -139,7 +139,7 @@ fn write_cr1(
     ensures { λ r. ⌜ Holds (writtenBy (view (now (words .entry)) (now (reals .entry))) i 0 v cycle .entries) (slices (now (pins .entry)) (now (levels .entry)) (now (cycles .entry))) (slices (now (pins .exit)) (now (levels .exit)) (now (cycles .exit))) (answerOf r .count) ⌝ }
 {
     if regfile::write_cr1(words, i, v, cycle) {
-        rcc::rebook(words, i, cycle);
+        context::rebook(words, i, cycle);
         state::set_last(words, cycle);
         return 0;
     }
@@ -152,7 +152,7 @@ fn write_dier(words: &mut [u64; WORDS], i: usize, v: u32, cycle: u64) -> u64
     ensures { λ r. ⌜ ((x : List Float) → Answers (writtenBy (view (now (words .entry)) x) i 12 v cycle) (answerOf r) (now (words .entry)) (now (words .exit)) x x) ⌝ }
 {
     fields::set_reg(words, i, 3, v & regs::kept(3));
-    rcc::settle_line_at(words, i);
+    context::settle_line_at(words, i);
     state::set_last(words, cycle);
     0
 }
@@ -164,7 +164,7 @@ fn write_sr(words: &mut [u64; WORDS], i: usize, v: u32, cycle: u64) -> u64
 {
     let t = state::load_timer(words, i);
     fields::set_reg(words, i, 4, regs::kept_sr(t.regs.sr, v));
-    rcc::settle_line_at(words, i);
+    context::settle_line_at(words, i);
     state::set_last(words, cycle);
     0
 }
@@ -318,7 +318,7 @@ pub fn write(
         return answer::refused(no);
     }
     let i = timer as usize;
-    if !rcc::clock_on(words, i) {
+    if !context::clock_on(words, i) {
         state::set_last(words, cycle);
         return answer::served(0);
     }
