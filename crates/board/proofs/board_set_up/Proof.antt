@@ -4,15 +4,9 @@ use borrow.Author.Needs.{needs}
 use Rattle.board.proofs.board_set_up.Statement.{statement}
 use Rattle.board.proofs.board_set_up.Tie as tie
 
-set-up-requires : tie.Need-set-up-requires
-set-up-requires c κs = search needs
-
-cast-t12 : tie.Need-cast-t12
-cast-t12 c = search needs
-
 returns : tie.Need-returns
 returns c =
     set-up-answers _ _ _ _ _ _ (c .set-up .ensures)
 
 pub board-set-up-spec : {M : Type 1} → statement M
-board-set-up-spec = tie.close (tie.spec set-up-requires cast-t12 returns)
+board-set-up-spec = tie.close (tie.spec (λ c κs. search needs) (λ c. search needs) returns)

@@ -7,15 +7,6 @@ use Rattle.calls.proofs.change.Tie as tie
 set-up-requires : tie.Need-set-up-requires
 set-up-requires c κs = set-up-fits (c .before .before .before .before .args .calls .now) (c .before .before .before .before .args .op) (c .before .before .match .keys1) (c .before .before .before .before .pre)
 
-clock-requires : tie.Need-clock-requires
-clock-requires c κs = search needs
-
-enable-requires : tie.Need-enable-requires
-enable-requires c κs = search needs
-
-clear-pending-requires : tie.Need-clear-pending-requires
-clear-pending-requires c κs = search needs
-
 returns : tie.Need-returns
 returns c = answers-as _ _ (change-is (c .before .before .before .before .before .args .calls .now) 0 (c .before .before .before .before .before .args .op) (c .before .before .before .match .keys1)) _ _ _ _ _ _ (c .set-up .ensures)
 
@@ -29,4 +20,7 @@ returns-4 : tie.Need-returns-4
 returns-4 c = answers-as _ _ (change-else (c .before .before .before .before .before .args .calls .now) (c .before .before .before .before .before .args .op) (c .before .before .before .match .rest .0 .0 .1) (c .before .before .before .match .rest .0 .1) (c .before .before .before .match .rest .1)) _ _ _ _ _ _ (c .clear-pending .ensures)
 
 pub change-spec : {M : Type 1} → statement M
-change-spec = tie.close (tie.spec set-up-requires clock-requires enable-requires clear-pending-requires returns returns-2 returns-3 returns-4)
+change-spec =
+    tie.close
+    (tie.spec set-up-requires (λ c κs. search needs) (λ c κs. search needs) (λ c κs. search needs) returns returns-2 returns-3
+    returns-4)

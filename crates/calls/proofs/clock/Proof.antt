@@ -4,17 +4,8 @@ use Rattle.calls.proofs.Laws.{answers-as, clock-is}
 use Rattle.calls.proofs.clock.Statement.{statement}
 use Rattle.calls.proofs.clock.Tie as tie
 
-tree-of-requires : tie.Need-tree-of-requires
-tree-of-requires c κs = search needs
-
-word64-requires : tie.Need-word64-requires
-word64-requires c κs = search needs
-
-set-clock-tree-requires : tie.Need-set-clock-tree-requires
-set-clock-tree-requires c κs = search needs
-
 returns : tie.Need-returns
 returns c = answers-as _ _ (clock-is (c .before .before .before .before .before .before .args .calls .now) _ _ (c .before .before .before .before .tree-of .ensures) (c .before .before .before .word64 .ensures)) _ _ _ _ _ _ (c .set-clock-tree .ensures)
 
 pub clock-spec : {M : Type 1} → statement M
-clock-spec = tie.close (tie.spec tree-of-requires word64-requires set-clock-tree-requires returns)
+clock-spec = tie.close (tie.spec (λ c κs. search needs) (λ c κs. search needs) (λ c κs. search needs) returns)

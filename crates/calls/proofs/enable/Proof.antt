@@ -4,17 +4,8 @@ use Rattle.calls.proofs.Laws.{answers-as, enable-is}
 use Rattle.calls.proofs.enable.Statement.{statement}
 use Rattle.calls.proofs.enable.Tie as tie
 
-word-requires : tie.Need-word-requires
-word-requires c κs = search needs
-
-word-requires-2 : tie.Need-word-requires-2
-word-requires-2 c κs = search needs
-
-enable-requires : tie.Need-enable-requires
-enable-requires c κs = search needs
-
 returns : tie.Need-returns
 returns c = answers-as _ _ (enable-is (c .before .before .before .before .before .args .calls .now) _ _ (c .before .before .before .word .ensures) (c .before .before .word2 .ensures)) _ _ _ _ _ _ (c .enable .ensures)
 
 pub enable-spec : {M : Type 1} → statement M
-enable-spec = tie.close (tie.spec word-requires word-requires-2 enable-requires returns)
+enable-spec = tie.close (tie.spec (λ c κs. search needs) (λ c κs. search needs) (λ c κs. search needs) returns)

@@ -23,9 +23,6 @@ part-perform-start-2 c = omega (arith, c .before .before .before .before .before
 part-perform-end-2 : tie.Need-part-perform-end-2
 part-perform-end-2 c = omega (arith, c .before .before .before .before .before .before .before .pre)
 
-mul-perform : tie.Need-mul-perform
-mul-perform c = search needs
-
 sub-perform-3 : tie.Need-sub-perform-3
 sub-perform-3 c = omega (arith, c .before .before .before .before .before .before .before .before .pre)
 
@@ -51,4 +48,8 @@ returns : tie.Need-returns
 returns c = part-does (c .before .before .before .before .before .before .before .before .before .before .before .before .before .before .before .before .args .calls .now) _ _ _ _ _ _ _ _ _ _ (c .before .before .before .before .before .before .before .before .before .before .before .before .before .before .before .before .pre .1 .0) (c .before .before .before .before .before .before .before .before .before .before .before .before .before .before .before .before .pre .1 .1) (c .before .before .before .before .before .before .perform .ensures)
 
 pub perform-at-spec : {M : Type 1} → statement M
-perform-at-spec = tie.close (tie.spec sub-perform part-perform-start part-perform-end sub-perform-2 part-perform-start-2 part-perform-end-2 mul-perform sub-perform-3 part-perform-start-3 part-perform-end-3 perform-requires same-length same-length-2 same-length-3 returns)
+perform-at-spec =
+    tie.close
+    (tie.spec sub-perform part-perform-start part-perform-end sub-perform-2 part-perform-start-2 part-perform-end-2
+    (λ c. search needs) sub-perform-3 part-perform-start-3 part-perform-end-3 perform-requires same-length same-length-2
+    same-length-3 returns)

@@ -4,33 +4,6 @@ use Rattle.calls.proofs.Laws.{answers-as, question-is, booked-is, level
 use Rattle.calls.proofs.question.Statement.{statement}
 use Rattle.calls.proofs.question.Tie as tie
 
-word-requires : tie.Need-word-requires
-word-requires c κs = search needs
-
-read-requires : tie.Need-read-requires
-read-requires c κs = search needs
-
-peek-requires : tie.Need-peek-requires
-peek-requires c κs = search needs
-
-booked-requires : tie.Need-booked-requires
-booked-requires c κs = search needs
-
-level-requires : tie.Need-level-requires
-level-requires c κs = search needs
-
-volts-requires : tie.Need-volts-requires
-volts-requires c κs = search needs
-
-line-requires : tie.Need-line-requires
-line-requires c κs = search needs
-
-time-requires : tie.Need-time-requires
-time-requires c κs = search needs
-
-next-booked-requires : tie.Need-next-booked-requires
-next-booked-requires c κs = search needs
-
 returns : tie.Need-returns
 returns c = answers-as _ _ (question-is (c .before .before .before .before .args .calls .now) 6 (c .before .before .before .before .args .op) (c .before .match .keys1)) _ _ _ _ _ _ (c .read .ensures)
 
@@ -56,4 +29,8 @@ returns-8 : tie.Need-returns-8
 returns-8 c = answers-as _ _ (next-is (c .before .before .before .before .args .calls .now) (c .before .before .before .before .args .op) (c .before .match .rest .0 .0 .0 .0 .0 .0 .1) (c .before .match .rest .0 .0 .0 .0 .0 .1) (c .before .match .rest .0 .0 .0 .0 .1) (c .before .match .rest .0 .0 .0 .1) (c .before .match .rest .0 .0 .1) (c .before .match .rest .0 .1) (c .before .match .rest .1)) _ _ _ _ _ _ (c .next-booked .ensures)
 
 pub question-spec : {M : Type 1} → statement M
-question-spec = tie.close (tie.spec word-requires read-requires peek-requires booked-requires level-requires volts-requires line-requires time-requires next-booked-requires returns returns-2 returns-3 returns-4 returns-5 returns-6 returns-7 returns-8)
+question-spec =
+    tie.close
+    (tie.spec (λ c κs. search needs) (λ c κs. search needs) (λ c κs. search needs) (λ c κs. search needs) (λ c κs. search needs)
+    (λ c κs. search needs) (λ c κs. search needs) (λ c κs. search needs) (λ c κs. search needs) returns returns-2 returns-3
+    returns-4 returns-5 returns-6 returns-7 returns-8)

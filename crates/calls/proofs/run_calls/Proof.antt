@@ -19,14 +19,8 @@ abbrev μ-loop : tie.MeasureT-loop
 μ-loop words₀ reals₀ calls answers₀ pins₀ levels₀ cycles₀ room size at₀ done₀ entries₀ words reals answers pins levels cycles at done entries =
     length calls - at
 
-room-requires : tie.Need-room-requires Inv-loop μ-loop
-room-requires c κs = search needs
-
 loop-holds : tie.Need-loop-holds Inv-loop μ-loop
 loop-holds c = (begins _ _ _ _ _ refl, refl, refl, refl, refl)
-
-mul-rest : tie.Need-mul-rest Inv-loop μ-loop
-mul-rest c = search needs
 
 sub-rest : tie.Need-sub-rest Inv-loop μ-loop
 sub-rest c = c .loop .inv .0 .within
@@ -37,12 +31,6 @@ part-rest-start c = c .loop .inv .0 .within
 part-rest-end : tie.Need-part-rest-end Inv-loop μ-loop
 part-rest-end c = omega (arith, c .loop .inv .0 .within)
 
-len-of-requires : tie.Need-len-of-requires Inv-loop μ-loop
-len-of-requires c κs = search needs
-
-places-of-requires : tie.Need-places-of-requires Inv-loop μ-loop
-places-of-requires c κs = search needs
-
 mul-i : tie.Need-mul-i Inv-loop μ-loop
 mul-i c = omega (arith, c .before .before .before .loop .inv .0 .few, c .before .before .before .loop .inv .0 .within, c .before .before .before .loop .inv .0 .words, c .before .before .before .loop .inv .0 .places, c .before .before .before .loop .inv .1, c .before .before .before .loop .inv .2, c .before .before .before .loop .inv .3, c .before .before .before .loop .inv .4)
 
@@ -51,9 +39,6 @@ sub-stops c = omega (arith, c .before .before .before .loop .inv .0 .few, c .bef
 
 sub-stops-2 : tie.Need-sub-stops-2 Inv-loop μ-loop
 sub-stops-2 c = omega (arith, c .before .before .before .loop .inv .0 .few, c .before .before .before .loop .inv .0 .within, c .before .before .before .loop .inv .0 .words, c .before .before .before .loop .inv .0 .places, c .before .before .before .loop .inv .1, c .before .before .before .loop .inv .2, c .before .before .before .loop .inv .3, c .before .before .before .loop .inv .4)
-
-stops-requires : tie.Need-stops-requires Inv-loop μ-loop
-stops-requires c κs = search needs
 
 same-length : tie.Need-same-length Inv-loop μ-loop
 same-length c = c .before .before .before .before .before .loop .inv .1
@@ -92,4 +77,8 @@ loop-again : tie.Need-loop-again Inv-loop μ-loop
 loop-again c = (goes-on _ _ _ _ _ _ _ _ _ _ (c .before .before .before .before .before .before .before .before .before .before .before .before .before .before .before .before .before .before .before .before .loop .inv .0) _ _ (c .before .before .before .before .before .before .before .before .before .before .before .before .before .before .before .before .before .before .len-of .ensures) (c .before .before .before .before .before .before .before .before .before .before .before .before .before .before .before .before .before .places-of .ensures) _ (c .before .before .before .before .before .before .before .before .before .before .before .before .before .before .before .before .stops .ensures) (c .before .before .before .before .before .before .before .before .before .before .before .before .before .before .before .if1 .left) _ _ _ (c .before .before .before .before .before .before .before .before .perform-call .ensures .1), omega (arith, c .before .before .before .before .before .before .before .before .perform-call .kept, c .before .before .before .before .before .before .before .before .before .before .before .before .before .before .before .before .before .before .before .before .loop .inv .1), omega (arith, c .before .before .before .before .before .before .before .before .perform-call .kept, c .before .before .before .before .before .before .before .before .before .before .before .before .before .before .before .before .before .before .before .before .loop .inv .2), omega (arith, c .before .before .before .before .before .before .before .before .perform-call .kept, c .before .before .before .before .before .before .before .before .before .before .before .before .before .before .before .before .before .before .before .before .loop .inv .3), omega (arith, c .before .before .before .before .before .before .before .before .perform-call .kept, c .before .before .before .before .before .before .before .before .before .before .before .before .before .before .before .before .before .before .before .before .loop .inv .4))
 
 pub run-calls-spec : {M : Type 1} → statement M
-run-calls-spec = tie.close (tie.spec Inv-loop μ-loop room-requires loop-holds mul-rest sub-rest part-rest-start part-rest-end len-of-requires places-of-requires mul-i sub-stops sub-stops-2 stops-requires same-length same-length-2 same-length-3 same-length-4 returns add-end perform-call-requires add-at add-done add-entries loop-less loop-again)
+run-calls-spec =
+    tie.close
+    (tie.spec Inv-loop μ-loop (λ c κs. search needs) loop-holds (λ c. search needs) sub-rest part-rest-start part-rest-end
+    (λ c κs. search needs) (λ c κs. search needs) mul-i sub-stops sub-stops-2 (λ c κs. search needs) same-length same-length-2
+    same-length-3 same-length-4 returns add-end perform-call-requires add-at add-done add-entries loop-less loop-again)

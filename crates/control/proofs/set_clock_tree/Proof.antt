@@ -13,21 +13,9 @@ use Rattle.clk.proofs.ClockTree.is_good.Reads as is-good-reads
 use Rattle.context.proofs.set_clock_tree.Reads as set-clock-tree-reads
 use Rattle.state.proofs.set_last.Reads as set-last-reads
 
-is-good-requires : tie.Need-is-good-requires
-is-good-requires c κs = search needs
-
-refused-requires : tie.Need-refused-requires
-refused-requires c κs = search needs
-
 returns : tie.Need-returns
 returns c =
     tree-bad (c .before .before .before .args .words .now) (c .before .before .before .args .reals .now) (c .before .before .before .args .t) (c .before .before .before .args .cycle) _ (c .before .before .is-good .ensures) (c .before .if1 .taken) _ (c .refused .ensures)
-
-is-astray-requires : tie.Need-is-astray-requires
-is-astray-requires c κs = search needs
-
-refused-requires-2 : tie.Need-refused-requires-2
-refused-requires-2 c κs = search needs
 
 returns-2 : tie.Need-returns-2
 returns-2 c =
@@ -37,12 +25,6 @@ set-clock-tree-requires : tie.Need-set-clock-tree-requires
 set-clock-tree-requires c κs =
     (tree-good _ _ (c .before .before .before .before .before .before .is-good .ensures) (c .before .before .before .before .before .if1 .left), tree-cycle (view (c .before .before .before .before .before .before .before .args .words .now) (c .before .before .before .before .before .before .before .args .reals .now)) (c .before .before .before .before .before .before .before .args .cycle) _ (c .before .before .before .is-astray .ensures (c .before .before .before .before .before .before .before .args .reals .now)) (c .before .before .if2 .left))
 
-set-last-requires : tie.Need-set-last-requires
-set-last-requires c κs = search needs
-
-served-requires : tie.Need-served-requires
-served-requires c κs = search needs
-
 returns-3 : tie.Need-returns-3
 returns-3 c =
     tree-gives (c .before .before .before .before .before .before .before .before .before .before .before .args .words .now) _ _ (c .before .before .before .before .before .before .before .before .before .before .before .args .reals .now) _ (c .before .before .before .before .before .before .before .before .before .before .before .args .t) (c .before .before .before .before .before .before .before .before .before .before .before .args .cycle) _ (c .before .before .before .before .before .before .before .before .before .before .is-good .ensures) (c .before .before .before .before .before .before .before .before .before .if1 .left) _ (c .before .before .before .before .before .before .before .is-astray .ensures (c .before .before .before .before .before .before .before .before .before .before .before .args .reals .now)) (c .before .before .before .before .before .before .if2 .left) (c .before .before .before .set-clock-tree .ensures) (c .before .set-last .ensures _) _ (c .served .ensures)
@@ -50,14 +32,5 @@ returns-3 c =
 pub set-clock-tree-spec : {M : Type 1} → statement M
 set-clock-tree-spec =
     tie.close
-    (tie.spec
-    is-good-requires
-    refused-requires
-    returns
-    is-astray-requires
-    refused-requires-2
-    returns-2
-    set-clock-tree-requires
-    set-last-requires
-    served-requires
-    returns-3)
+    (tie.spec (λ c κs. search needs) (λ c κs. search needs) returns (λ c κs. search needs) (λ c κs. search needs) returns-2
+    set-clock-tree-requires (λ c κs. search needs) (λ c κs. search needs) returns-3)

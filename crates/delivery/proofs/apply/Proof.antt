@@ -5,15 +5,6 @@ use mathlib.Core.Path.{subst}
 use Rattle.delivery.proofs.apply.Statement.{statement}
 use Rattle.delivery.proofs.apply.Tie as tie
 
-enum-told : tie.Need-enum-told
-enum-told c = search needs
-
-update-requires : tie.Need-update-requires
-update-requires c κs = search needs
-
-enum-known-e : tie.Need-enum-known-e
-enum-known-e c = search needs
-
 compare-requires : tie.Need-compare-requires
 compare-requires c κs = subst OfFour (c .before .e .given .1) (c .before .before .before .pre .0)
 
@@ -25,4 +16,5 @@ returns-2 c = rw (c .before .before .e .given .1) (c .compare .ensures)
 
 pub apply-spec : {M : Type 1} → statement M
 apply-spec =
-    tie.close (tie.spec enum-told update-requires enum-known-e compare-requires returns returns-2)
+    tie.close
+    (tie.spec (λ c. search needs) (λ c κs. search needs) (λ c. search needs) compare-requires returns returns-2)

@@ -6,29 +6,17 @@ use borrow.Author.Needs.{needs}
 use Rattle.delivery.proofs.compare_value.Statement.{statement}
 use Rattle.delivery.proofs.compare_value.Tie as tie
 
-array-read-result : tie.Need-array-read-result
-array-read-result c = search needs
-
 returns : tie.Need-returns
 returns c =
     ap (ccrAct (c .before .before .args .t)) (sym (c .if1 .taken))
-
-array-read-result-2 : tie.Need-array-read-result-2
-array-read-result-2 c = search needs
 
 returns-2 : tie.Need-returns-2
 returns-2 c =
     ap (ccrAct (c .before .before .before .args .t)) (sym (c .if2 .taken))
 
-array-read-result-3 : tie.Need-array-read-result-3
-array-read-result-3 c = search needs
-
 returns-3 : tie.Need-returns-3
 returns-3 c =
     ap (ccrAct (c .before .before .before .before .args .t)) (sym (c .if3 .taken))
-
-array-read-result-4 : tie.Need-array-read-result-4
-array-read-result-4 c = search needs
 
 returns-4 : tie.Need-returns-4
 returns-4 c =
@@ -37,12 +25,5 @@ returns-4 c =
 pub compare-value-spec : {M : Type 1} → statement M
 compare-value-spec =
     tie.close
-    (tie.spec
-    array-read-result
-    returns
-    array-read-result-2
-    returns-2
-    array-read-result-3
-    returns-3
-    array-read-result-4
+    (tie.spec (λ c. search needs) returns (λ c. search needs) returns-2 (λ c. search needs) returns-3 (λ c. search needs)
     returns-4)

@@ -5,12 +5,6 @@ use borrow.Author.Needs.{needs}
 use Rattle.delivery.proofs.count_at.Statement.{statement}
 use Rattle.delivery.proofs.count_at.Tie as tie
 
-enum-told : tie.Need-enum-told
-enum-told c = search needs
-
-enum-known-e : tie.Need-enum-known-e
-enum-known-e c = search needs
-
 compare-value-requires : tie.Need-compare-value-requires
 compare-value-requires c κs =
     subst OfFour (c .before .e .given .1) (c .before .before .before .pre)
@@ -23,5 +17,4 @@ returns-2 c =
     rw (c .before .before .e .given .1) (c .compare-value .ensures)
 
 pub count-at-spec : {M : Type 1} → statement M
-count-at-spec =
-    tie.close (tie.spec enum-told enum-known-e compare-value-requires returns returns-2)
+count-at-spec = tie.close (tie.spec (λ c. search needs) (λ c. search needs) compare-value-requires returns returns-2)

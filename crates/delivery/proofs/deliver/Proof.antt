@@ -4,12 +4,6 @@ use borrow.Author.Needs.{needs}
 use Rattle.delivery.proofs.deliver.Statement.{statement}
 use Rattle.delivery.proofs.deliver.Tie as tie
 
-load-timer-requires : tie.Need-load-timer-requires
-load-timer-requires c κs = search needs
-
-divider-requires : tie.Need-divider-requires
-divider-requires c κs = search needs
-
 run-requires : tie.Need-run-requires
 run-requires c κs =
     (loaded-fit (c .before .before .before .before .before .before .before .before .before .before .before .before .before .args .words .now) (c .before .before .before .before .before .before .before .before .before .before .before .before .before .args .reals .now) (c .before .before .before .before .before .before .before .before .before .before .before .before .before .args .i) _ (c .before .before .before .before .before .before .before .before .load-timer .ensures (c .before .before .before .before .before .before .before .before .before .before .before .before .before .args .reals .now)), c .before .before .before .before .before .divider .ensures .1 .0, c .before .before .before .before .before .divider .ensures .1 .1, c .before .before .before .before .before .before .before .before .before .before .before .before .before .pre .1)
@@ -18,21 +12,9 @@ store-requires : tie.Need-store-requires
 store-requires c κs =
     (c .before .before .before .before .before .before .before .before .before .before .before .before .before .before .before .before .before .before .before .before .before .before .pre .0, c .before .before .before .before .before .before .before .before .run .ensures .1 .0)
 
-settle-line-requires : tie.Need-settle-line-requires
-settle-line-requires c κs = search needs
-
 book-due-requires : tie.Need-book-due-requires
 book-due-requires c κs =
     c .before .before .before .before .before .before .before .before .before .before .before .before .before .before .before .before .before .before .before .before .before .before .before .before .before .before .pre .0
-
-same-length : tie.Need-same-length
-same-length c = search needs
-
-same-length-2 : tie.Need-same-length-2
-same-length-2 c = search needs
-
-same-length-3 : tie.Need-same-length-3
-same-length-3 c = search needs
 
 returns : tie.Need-returns
 returns c =
@@ -41,14 +23,5 @@ returns c =
 pub deliver-spec : {M : Type 1} → statement M
 deliver-spec =
     tie.close
-    (tie.spec
-    load-timer-requires
-    divider-requires
-    run-requires
-    store-requires
-    settle-line-requires
-    book-due-requires
-    same-length
-    same-length-2
-    same-length-3
-    returns)
+    (tie.spec (λ c κs. search needs) (λ c κs. search needs) run-requires store-requires (λ c κs. search needs) book-due-requires
+    (λ c. search needs) (λ c. search needs) (λ c. search needs) returns)

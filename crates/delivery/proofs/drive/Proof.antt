@@ -9,37 +9,14 @@ use Rattle.delivery.proofs.drive.Lts as lts
 use Rattle.delivery.proofs.count_at.Reads as count-at-reads
 use Rattle.delivery.proofs.drive_four.Reads as drive-four-reads
 
--- src/lib.rt:174:9
 returns : tie.Need-returns
 returns c =
     (none-driven (c .before .before .before .before .before .args .t) _ (c .before .before .before .before .before .args .at) _ _ (below-two _ (c .if1 .taken)), omega arith)
 
--- src/lib.rt:177:9
 returns-2 : tie.Need-returns-2
 returns-2 c =
     (none-driven (c .before .before .before .before .before .before .before .args .t) _ (c .before .before .before .before .before .before .before .args .at) _ _ (above-four _ (c .before .before .if1 .left) (c .if2 .taken)), omega arith)
 
--- src/lib.rt:179:9
-count-at-requires : tie.Need-count-at-requires
-count-at-requires c κs = search needs
-
--- src/lib.rt:180:5
-drive-four-requires : tie.Need-drive-four-requires
-drive-four-requires c κs = search needs
-
--- src/lib.rt:157:1
-same-length : tie.Need-same-length
-same-length c = search needs
-
--- src/lib.rt:157:1
-same-length-2 : tie.Need-same-length-2
-same-length-2 c = search needs
-
--- src/lib.rt:157:1
-same-length-3 : tie.Need-same-length-3
-same-length-3 c = search needs
-
--- src/lib.rt:157:1
 returns-3 : tie.Need-returns-3
 returns-3 c =
     (driven _ _ _ _ (c .before .before .before .before .before .before .before .before .before .before .before .before .before .before .before .before .before .before .before .before .args .t) (c .before .before .before .before .before .before .before .before .before .before .before .before .before .before .before .before .before .before .before .before .args .e) _ _ (c .before .before .before .before .before .before .before .before .before .before .before .before .count-at .ensures) (c .before .before .before .before .before .before .drive-four .ensures .0), c .before .before .before .before .before .before .drive-four .ensures .1)
@@ -47,12 +24,5 @@ returns-3 c =
 pub drive-spec : {M : Type 1} → statement M
 drive-spec =
     tie.close
-    (tie.spec
-    returns
-    returns-2
-    count-at-requires
-    drive-four-requires
-    same-length
-    same-length-2
-    same-length-3
-    returns-3)
+    (tie.spec returns returns-2 (λ c κs. search needs) (λ c κs. search needs) (λ c. search needs) (λ c. search needs)
+    (λ c. search needs) returns-3)

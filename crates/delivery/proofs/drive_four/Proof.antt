@@ -5,46 +5,13 @@ use borrow.Author.Needs.{needs}
 use Rattle.delivery.proofs.drive_four.Statement.{statement}
 use Rattle.delivery.proofs.drive_four.Tie as tie
 
-cast-tim : tie.Need-cast-tim
-cast-tim c = search needs
-
-tim-requires : tie.Need-tim-requires
-tim-requires c κs = search needs
-
-cast-s : tie.Need-cast-s
-cast-s c = search needs
-
-output-requires : tie.Need-output-requires
-output-requires c κs = search needs
-
-output-requires-2 : tie.Need-output-requires-2
-output-requires-2 c κs = search needs
-
 drive-two-requires : tie.Need-drive-two-requires
 drive-two-requires c κs =
     omega (arith, c .before .before .before .before .before .before .before .tim .ensures, c .before .before .before .before .before .before .before .before .before .before .before .before .pre)
 
-output-requires-3 : tie.Need-output-requires-3
-output-requires-3 c κs = search needs
-
-output-requires-4 : tie.Need-output-requires-4
-output-requires-4 c κs = search needs
-
-add-drive-two : tie.Need-add-drive-two
-add-drive-two c = search needs
-
 drive-two-requires-2 : tie.Need-drive-two-requires-2
 drive-two-requires-2 c κs =
     omega (arith, c .before .before .before .before .before .before .before .before .before .before .before .before .before .before .before .before .before .before .before .before .before .tim .ensures, c .before .before .before .before .before .before .before .before .before .before .before .before .before .drive-two .ensures .1, c .before .before .before .before .before .before .before .before .before .before .before .before .before .drive-two .kept, c .before .before .before .before .before .before .before .before .before .before .before .before .before .before .before .before .before .before .before .before .before .before .before .before .before .before .pre)
-
-same-length : tie.Need-same-length
-same-length c = search needs
-
-same-length-2 : tie.Need-same-length-2
-same-length-2 c = search needs
-
-same-length-3 : tie.Need-same-length-3
-same-length-3 c = search needs
 
 returns : tie.Need-returns
 returns c =
@@ -56,18 +23,6 @@ returns c =
 pub drive-four-spec : {M : Type 1} → statement M
 drive-four-spec =
     tie.close
-    (tie.spec
-    cast-tim
-    tim-requires
-    cast-s
-    output-requires
-    output-requires-2
-    drive-two-requires
-    output-requires-3
-    output-requires-4
-    add-drive-two
-    drive-two-requires-2
-    same-length
-    same-length-2
-    same-length-3
-    returns)
+    (tie.spec (λ c. search needs) (λ c κs. search needs) (λ c. search needs) (λ c κs. search needs) (λ c κs. search needs)
+    drive-two-requires (λ c κs. search needs) (λ c κs. search needs) (λ c. search needs) drive-two-requires-2
+    (λ c. search needs) (λ c. search needs) (λ c. search needs) returns)

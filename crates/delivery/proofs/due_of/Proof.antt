@@ -11,9 +11,6 @@ returns : tie.Need-returns
 unfolding nextEvent
 returns c = rw (not-true (c .before .before .args .t .count .running) (c .if1 .taken))
 
-first-of-requires : tie.Need-first-of-requires
-first-of-requires c κs = search needs
-
 cycles-of-requires : tie.Need-cycles-of-requires
 cycles-of-requires c κs = (rw (c .first-of .ensures) (steps-le (c .before .before .before .args .t) (omega arith) (omega arith)), c .before .before .before .pre .tick-le)
 
@@ -24,4 +21,4 @@ returns-2 : tie.Need-returns-2
 returns-2 c = rw (c .before .cycles-of .ensures, c .before .before .first-of .ensures) (next-runs (c .before .before .before .before .before .args .t) (not-false (c .before .before .before .before .before .args .t .count .running) (c .before .before .before .if1 .left)))
 
 pub due-of-spec : {M : Type 1} → statement M
-due-of-spec = tie.close (tie.spec returns first-of-requires cycles-of-requires add-t6 returns-2)
+due-of-spec = tie.close (tie.spec returns (λ c κs. search needs) cycles-of-requires add-t6 returns-2)

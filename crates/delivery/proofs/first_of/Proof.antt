@@ -13,61 +13,43 @@ use Rattle.tim.proofs.Timer.consider_up.Reads as consider-up-reads
 use Rattle.tim.proofs.Timer.down.Reads as down-reads
 use Rattle.tim.proofs.Timer.update_steps.Reads as update-steps-reads
 
--- src/lib.rt:221:16
-update-steps-requires : tie.Need-update-steps-requires
-update-steps-requires c κs = search needs
-
--- src/lib.rt:224:8
-down-requires : tie.Need-down-requires
-down-requires c κs = search needs
-
--- src/lib.rt:225:13
 consider-down-requires : tie.Need-consider-down-requires
 consider-down-requires c κs =
     (lit< tt, sym (c .before .down .ensures) ∙ c .if1 .taken)
 
--- src/lib.rt:226:13
 consider-down-requires-2 : tie.Need-consider-down-requires-2
 consider-down-requires-2 c κs =
     (lit< tt, sym (c .before .before .down .ensures) ∙ c .before .if1 .taken)
 
--- src/lib.rt:227:13
 consider-down-requires-3 : tie.Need-consider-down-requires-3
 consider-down-requires-3 c κs =
     (lit< tt, sym (c .before .before .before .down .ensures) ∙ c .before .before .if1 .taken)
 
--- src/lib.rt:228:9
 consider-down-requires-4 : tie.Need-consider-down-requires-4
 consider-down-requires-4 c κs =
     (lit< tt, sym (c .before .before .before .before .down .ensures) ∙ c .before .before .before .if1 .taken)
 
--- src/lib.rt:228:9
 returns : tie.Need-returns
 unfolding nextSteps
 returns c =
     c .consider-down4 .ensures ∙ ap (consider (c .before .before .before .before .before .before .before .args .t) 3) (c .before .consider-down3 .ensures ∙ ap (consider (c .before .before .before .before .before .before .before .args .t) 2) (c .before .before .consider-down2 .ensures ∙ ap (consider (c .before .before .before .before .before .before .before .args .t) 1) (c .before .before .before .consider-down .ensures ∙ ap (λ (n : ℕ). consider (c .before .before .before .before .before .before .before .args .t) 0 (record { steps = n; next = Update })) (c .before .before .before .before .before .before .update-steps .ensures))))
 
--- src/lib.rt:230:9
 consider-up-requires : tie.Need-consider-up-requires
 consider-up-requires c κs =
     (lit< tt, sym (c .before .down .ensures) ∙ c .if1 .left)
 
--- src/lib.rt:231:9
 consider-up-requires-2 : tie.Need-consider-up-requires-2
 consider-up-requires-2 c κs =
     (lit< tt, sym (c .before .before .down .ensures) ∙ c .before .if1 .left)
 
--- src/lib.rt:232:9
 consider-up-requires-3 : tie.Need-consider-up-requires-3
 consider-up-requires-3 c κs =
     (lit< tt, sym (c .before .before .before .down .ensures) ∙ c .before .before .if1 .left)
 
--- src/lib.rt:233:5
 consider-up-requires-4 : tie.Need-consider-up-requires-4
 consider-up-requires-4 c κs =
     (lit< tt, sym (c .before .before .before .before .down .ensures) ∙ c .before .before .before .if1 .left)
 
--- src/lib.rt:217:1
 returns-2 : tie.Need-returns-2
 unfolding nextSteps
 returns-2 c =
@@ -76,16 +58,6 @@ returns-2 c =
 pub first-of-spec : {M : Type 1} → statement M
 first-of-spec =
     tie.close
-    (tie.spec
-    update-steps-requires
-    down-requires
-    consider-down-requires
-    consider-down-requires-2
-    consider-down-requires-3
-    consider-down-requires-4
-    returns
-    consider-up-requires
-    consider-up-requires-2
-    consider-up-requires-3
-    consider-up-requires-4
-    returns-2)
+    (tie.spec (λ c κs. search needs) (λ c κs. search needs) consider-down-requires consider-down-requires-2
+    consider-down-requires-3 consider-down-requires-4 returns consider-up-requires consider-up-requires-2 consider-up-requires-3
+    consider-up-requires-4 returns-2)

@@ -20,20 +20,11 @@ abbrev μ-loop : tie.MeasureT-loop
 μ-loop words₀ reals₀ pins₀ levels₀ cycles₀ div cycle room t₀ events₀ count₀ words reals pins levels cycles t events count =
     mostEvents - events
 
-room-requires : tie.Need-room-requires Inv-loop μ-loop
-room-requires c κs = search needs
-
 loop-holds : tie.Need-loop-holds Inv-loop μ-loop
 loop-holds c = (begins _ _ _ _ _ _ (c .before .before .before .before .before .before .before .pre .0) refl, refl, refl, refl)
 
 due-of-requires : tie.Need-due-of-requires Inv-loop μ-loop
 due-of-requires c κs = c .loop .inv .0 .fit
-
-enum-known-due : tie.Need-enum-known-due Inv-loop μ-loop
-enum-known-due c = search needs
-
-enum-told : tie.Need-enum-told Inv-loop μ-loop
-enum-told c = search needs
 
 same-length : tie.Need-same-length Inv-loop μ-loop
 same-length c = c .before .before .before .loop .inv .1
@@ -49,9 +40,6 @@ returns c = (room-ends _ _ _ _ _ _ _ _ _ _ (c .before .before .before .before .r
 
 sub-verdict : tie.Need-sub-verdict Inv-loop μ-loop
 sub-verdict c = c .before .before .before .before .loop .inv .0 .within
-
-verdict-requires : tie.Need-verdict-requires Inv-loop μ-loop
-verdict-requires c κs = search needs
 
 same-length-4 : tie.Need-same-length-4 Inv-loop μ-loop
 same-length-4 c = c .before .before .before .before .before .before .loop .inv .1
@@ -83,26 +71,6 @@ loop-again c = (going-on _ _ _ _ _ _ _ _ _ _ _ (c .before .before .before .befor
 pub run-spec : {M : Type 1} → statement M
 run-spec =
     tie.close
-    (tie.spec
-    Inv-loop
-    μ-loop
-    room-requires
-    loop-holds
-    due-of-requires
-    enum-known-due
-    enum-told
-    same-length
-    same-length-2
-    same-length-3
-    returns
-    sub-verdict
-    verdict-requires
-    same-length-4
-    same-length-5
-    same-length-6
-    returns-2
-    apply-requires
-    drive-requires
-    add-events
-    loop-less
-    loop-again)
+    (tie.spec Inv-loop μ-loop (λ c κs. search needs) loop-holds due-of-requires (λ c. search needs) (λ c. search needs)
+    same-length same-length-2 same-length-3 returns sub-verdict (λ c κs. search needs) same-length-4 same-length-5 same-length-6
+    returns-2 apply-requires drive-requires add-events loop-less loop-again)

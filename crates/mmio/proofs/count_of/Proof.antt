@@ -9,9 +9,6 @@ use borrow.Author.Needs.{needs}
 use Rattle.mmio.proofs.count_of.Statement.{statement}
 use Rattle.mmio.proofs.count_of.Tie as tie
 
-load-timer-requires : tie.Need-load-timer-requires
-load-timer-requires c κs = search needs
-
 cnt-at-requires : tie.Need-cnt-at-requires
 cnt-at-requires c κs =
     let s = c .before in (loaded-fit (s .args .words .now) [] (s .args .i) _ (c .load-timer .ensures []), omega (arith, s .pre .1))
@@ -21,4 +18,4 @@ returns c =
     λ x. c .cnt-at .ensures ∙ ap (λ (t : Timer). cntAt t (c .before .before .args .cycle)) (c .before .load-timer .ensures x)
 
 pub count-of-spec : {M : Type 1} → statement M
-count-of-spec = tie.close (tie.spec load-timer-requires cnt-at-requires returns)
+count-of-spec = tie.close (tie.spec (λ c κs. search needs) cnt-at-requires returns)

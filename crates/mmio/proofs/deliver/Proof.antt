@@ -6,21 +6,6 @@ use borrow.Author.Needs.{needs}
 use Rattle.mmio.proofs.deliver.Statement.{statement}
 use Rattle.mmio.proofs.deliver.Tie as tie
 
-book-refusal-requires : tie.Need-book-refusal-requires
-book-refusal-requires c κs = search needs
-
-refused-requires : tie.Need-refused-requires
-refused-requires c κs = search needs
-
-same-length : tie.Need-same-length
-same-length c = search needs
-
-same-length-2 : tie.Need-same-length-2
-same-length-2 c = search needs
-
-same-length-3 : tie.Need-same-length-3
-same-length-3 c = search needs
-
 returns : tie.Need-returns
 returns c =
     let s = c .before .before .before .before .before .before .before .before .before .before in (
@@ -34,24 +19,9 @@ deliver-requires c κs =
     let q = admitted (s .args .words .now) (s .args .reals .now) (s .args .timer) 4 (s .args .cycle) (places (slices (s .args .pins .now) (s .args .levels .now) (s .args .cycles .now))) _ (c .before .before .before .before .before .before .book-refusal .ensures (s .args .reals .now)) (c .before .before .before .before .before .if1 .left) in
     (q .index-lt, omega (arith, q .cycle-le))
 
-set-last-requires : tie.Need-set-last-requires
-set-last-requires c κs = search needs
-
-cast-t29 : tie.Need-cast-t29
-cast-t29 c = search needs
-
 cast-t30 : tie.Need-cast-t30
 cast-t30 c =
     omega (arith, c .before .before .before .before .before .before .before .before .before .before .deliver .ensures .1)
-
-same-length-4 : tie.Need-same-length-4
-same-length-4 c = search needs
-
-same-length-5 : tie.Need-same-length-5
-same-length-5 c = search needs
-
-same-length-6 : tie.Need-same-length-6
-same-length-6 c = search needs
 
 returns-2 : tie.Need-returns-2
 returns-2 c =
@@ -61,18 +31,6 @@ returns-2 c =
 pub deliver-spec : {M : Type 1} → statement M
 deliver-spec =
     tie.close
-    (tie.spec
-    book-refusal-requires
-    refused-requires
-    same-length
-    same-length-2
-    same-length-3
-    returns
-    deliver-requires
-    set-last-requires
-    cast-t29
-    cast-t30
-    same-length-4
-    same-length-5
-    same-length-6
-    returns-2)
+    (tie.spec (λ c κs. search needs) (λ c κs. search needs) (λ c. search needs) (λ c. search needs) (λ c. search needs) returns
+    deliver-requires (λ c κs. search needs) (λ c. search needs) cast-t30 (λ c. search needs) (λ c. search needs)
+    (λ c. search needs) returns-2)

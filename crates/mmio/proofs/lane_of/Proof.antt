@@ -7,9 +7,6 @@ use borrow.Author.Needs.{needs}
 use Rattle.mmio.proofs.lane_of.Statement.{statement}
 use Rattle.mmio.proofs.lane_of.Tie as tie
 
-mul-value-of : tie.Need-mul-value-of
-mul-value-of c = search needs
-
 value-of-requires : tie.Need-value-of-requires
 value-of-requires c κs =
     (c .pre .0, c .pre .2)
@@ -18,13 +15,9 @@ cast-lane-read : tie.Need-cast-lane-read
 cast-lane-read c =
     omega (arith, c .before .pre .1)
 
-lane-read-requires : tie.Need-lane-read-requires
-lane-read-requires c κs = search needs
-
 returns : tie.Need-returns
 returns c =
     λ x. c .lane-read .ensures ∙ ap (λ (k : ℕ). laneRead k (c .before .before .args .offset) (c .before .before .args .size)) (c .before .value-of .ensures x)
 
 pub lane-of-spec : {M : Type 1} → statement M
-lane-of-spec =
-    tie.close (tie.spec mul-value-of value-of-requires cast-lane-read lane-read-requires returns)
+lane-of-spec = tie.close (tie.spec (λ c. search needs) value-of-requires cast-lane-read (λ c κs. search needs) returns)

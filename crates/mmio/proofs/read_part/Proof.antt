@@ -6,12 +6,6 @@ use borrow.Author.Needs.{needs}
 use Rattle.mmio.proofs.read_part.Statement.{statement}
 use Rattle.mmio.proofs.read_part.Tie as tie
 
-timer-refusal-requires : tie.Need-timer-refusal-requires
-timer-refusal-requires c κs = search needs
-
-refused-requires : tie.Need-refused-requires
-refused-requires c κs = search needs
-
 returns : tie.Need-returns
 returns c =
     λ x. read-away (c .before .before .before .args .words .now) x (c .before .before .before .args .timer) (c .before .before .before .args .offset) (c .before .before .before .args .size) (c .before .before .before .args .cycle) _ _ (c .before .before .timer-refusal .ensures x) (c .before .if1 .taken) (c .refused .ensures)
@@ -19,9 +13,6 @@ returns c =
 clock-on-requires : tie.Need-clock-on-requires
 clock-on-requires c κs =
     read-admitted (c .before .before .args .words .now) [] (c .before .before .args .timer) (c .before .before .args .size) (c .before .before .args .cycle) _ (c .before .timer-refusal .ensures []) (c .if1 .left) .index-lt
-
-served-requires : tie.Need-served-requires
-served-requires c κs = search needs
 
 returns-2 : tie.Need-returns-2
 returns-2 c =
@@ -31,12 +22,6 @@ lane-of-requires : tie.Need-lane-of-requires
 lane-of-requires c κs =
     let q = read-admitted (c .before .before .before .before .args .words .now) [] (c .before .before .before .before .args .timer) (c .before .before .before .before .args .size) (c .before .before .before .before .args .cycle) _ (c .before .before .before .timer-refusal .ensures []) (c .before .before .if1 .left) in (q .index-lt, q .size-le, omega (arith, q .cycle-le))
 
-cast-served : tie.Need-cast-served
-cast-served c = search needs
-
-served-requires-2 : tie.Need-served-requires-2
-served-requires-2 c κs = search needs
-
 returns-3 : tie.Need-returns-3
 returns-3 c =
     λ x. read-on (c .before .before .before .before .before .before .args .words .now) x (c .before .before .before .before .before .before .args .timer) (c .before .before .before .before .before .before .args .offset) (c .before .before .before .before .before .before .args .size) (c .before .before .before .before .before .before .args .cycle) _ _ (c .before .before .before .before .before .timer-refusal .ensures x) (c .before .before .before .before .if1 .left) _ (c .before .before .before .clock-on .ensures x) _ (c .before .before .if2 .left) (c .before .lane-of .ensures x) (c .served2 .ensures)
@@ -44,14 +29,5 @@ returns-3 c =
 pub read-part-spec : {M : Type 1} → statement M
 read-part-spec =
     tie.close
-    (tie.spec
-    timer-refusal-requires
-    refused-requires
-    returns
-    clock-on-requires
-    served-requires
-    returns-2
-    lane-of-requires
-    cast-served
-    served-requires-2
-    returns-3)
+    (tie.spec (λ c κs. search needs) (λ c κs. search needs) returns clock-on-requires (λ c κs. search needs) returns-2
+    lane-of-requires (λ c. search needs) (λ c κs. search needs) returns-3)

@@ -6,12 +6,6 @@ use borrow.Author.Needs.{needs}
 use Rattle.mmio.proofs.read_whole.Statement.{statement}
 use Rattle.mmio.proofs.read_whole.Tie as tie
 
-timer-refusal-requires : tie.Need-timer-refusal-requires
-timer-refusal-requires c κs = search needs
-
-refused-requires : tie.Need-refused-requires
-refused-requires c κs = search needs
-
 returns : tie.Need-returns
 returns c =
     λ x. read-away (c .before .before .before .args .words .now) x (c .before .before .before .args .timer) (c .before .before .before .args .offset) 4 (c .before .before .before .args .cycle) _ _ (c .before .before .timer-refusal .ensures x) (c .before .if1 .taken) (c .refused .ensures)
@@ -19,9 +13,6 @@ returns c =
 clock-on-requires : tie.Need-clock-on-requires
 clock-on-requires c κs =
     read-admitted (c .before .before .args .words .now) [] (c .before .before .args .timer) 4 (c .before .before .args .cycle) _ (c .before .timer-refusal .ensures []) (c .if1 .left) .index-lt
-
-served-requires : tie.Need-served-requires
-served-requires c κs = search needs
 
 returns-2 : tie.Need-returns-2
 returns-2 c =
@@ -32,12 +23,6 @@ whole-of-requires c κs =
     let s = c .before .before .before .before in
     let q = read-admitted (s .args .words .now) [] (s .args .timer) 4 (s .args .cycle) _ (c .before .before .before .timer-refusal .ensures []) (c .before .before .if1 .left) in (q .index-lt, omega (arith, q .cycle-le))
 
-cast-served : tie.Need-cast-served
-cast-served c = search needs
-
-served-requires-2 : tie.Need-served-requires-2
-served-requires-2 c κs = search needs
-
 returns-3 : tie.Need-returns-3
 returns-3 c =
     let s = c .before .before .before .before .before .before in
@@ -46,14 +31,5 @@ returns-3 c =
 pub read-whole-spec : {M : Type 1} → statement M
 read-whole-spec =
     tie.close
-    (tie.spec
-    timer-refusal-requires
-    refused-requires
-    returns
-    clock-on-requires
-    served-requires
-    returns-2
-    whole-of-requires
-    cast-served
-    served-requires-2
-    returns-3)
+    (tie.spec (λ c κs. search needs) (λ c κs. search needs) returns clock-on-requires (λ c κs. search needs) returns-2
+    whole-of-requires (λ c. search needs) (λ c κs. search needs) returns-3)

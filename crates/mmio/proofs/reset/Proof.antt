@@ -7,21 +7,6 @@ use borrow.Author.Needs.{needs}
 use Rattle.mmio.proofs.reset.Statement.{statement}
 use Rattle.mmio.proofs.reset.Tie as tie
 
-book-refusal-requires : tie.Need-book-refusal-requires
-book-refusal-requires c κs = search needs
-
-refused-requires : tie.Need-refused-requires
-refused-requires c κs = search needs
-
-same-length : tie.Need-same-length
-same-length c = search needs
-
-same-length-2 : tie.Need-same-length-2
-same-length-2 c = search needs
-
-same-length-3 : tie.Need-same-length-3
-same-length-3 c = search needs
-
 returns : tie.Need-returns
 returns c =
     let s = c .before .before .before .before .before .before .before .before .before .before in (
@@ -38,15 +23,6 @@ reset-timer-requires c κs =
 cast-t27 : tie.Need-cast-t27
 cast-t27 c = omega (arith, c .before .before .before .before .before .before .reset-timer .ensures .1)
 
-same-length-4 : tie.Need-same-length-4
-same-length-4 c = search needs
-
-same-length-5 : tie.Need-same-length-5
-same-length-5 c = search needs
-
-same-length-6 : tie.Need-same-length-6
-same-length-6 c = search needs
-
 returns-2 : tie.Need-returns-2
 returns-2 c =
     let s = c .before .before .before .before .before .before .before .before .before .before .before .before .before .before .before .before .before .before .before .before .before in
@@ -56,16 +32,5 @@ returns-2 c =
 pub reset-spec : {M : Type 1} → statement M
 reset-spec =
     tie.close
-    (tie.spec
-    book-refusal-requires
-    refused-requires
-    same-length
-    same-length-2
-    same-length-3
-    returns
-    reset-timer-requires
-    cast-t27
-    same-length-4
-    same-length-5
-    same-length-6
-    returns-2)
+    (tie.spec (λ c κs. search needs) (λ c κs. search needs) (λ c. search needs) (λ c. search needs) (λ c. search needs) returns
+    reset-timer-requires cast-t27 (λ c. search needs) (λ c. search needs) (λ c. search needs) returns-2)

@@ -6,30 +6,9 @@ use borrow.Author.Needs.{needs}
 use Rattle.mmio.proofs.reset_timer.Statement.{statement}
 use Rattle.mmio.proofs.reset_timer.Tie as tie
 
-load-timer-requires : tie.Need-load-timer-requires
-load-timer-requires c κs = search needs
-
-divider-requires : tie.Need-divider-requires
-divider-requires c κs = search needs
-
-reset-requires : tie.Need-reset-requires
-reset-requires c κs = search needs
-
 store-timer-requires : tie.Need-store-timer-requires
 store-timer-requires c κs =
     (c .before .before .before .before .before .before .before .before .before .before .pre .0, rw (c .before .reset .ensures) (fit-reset _ _ (omega (arith, c .before .before .divider .ensures .1 .0)) (c .before .before .divider .ensures .1 .1)))
-
-follow-requires : tie.Need-follow-requires
-follow-requires c κs = search needs
-
-same-length : tie.Need-same-length
-same-length c = search needs
-
-same-length-2 : tie.Need-same-length-2
-same-length-2 c = search needs
-
-same-length-3 : tie.Need-same-length-3
-same-length-3 c = search needs
 
 returns : tie.Need-returns
 returns c =
@@ -40,13 +19,5 @@ returns c =
 pub reset-timer-spec : {M : Type 1} → statement M
 reset-timer-spec =
     tie.close
-    (tie.spec
-    load-timer-requires
-    divider-requires
-    reset-requires
-    store-timer-requires
-    follow-requires
-    same-length
-    same-length-2
-    same-length-3
-    returns)
+    (tie.spec (λ c κs. search needs) (λ c κs. search needs) (λ c κs. search needs) store-timer-requires (λ c κs. search needs)
+    (λ c. search needs) (λ c. search needs) (λ c. search needs) returns)

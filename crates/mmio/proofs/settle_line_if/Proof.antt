@@ -3,9 +3,6 @@ use borrow.Author.Needs.{needs}
 use Rattle.mmio.proofs.settle_line_if.Statement.{statement}
 use Rattle.mmio.proofs.settle_line_if.Tie as tie
 
-settle-line-at-requires : tie.Need-settle-line-at-requires
-settle-line-at-requires c κs = search needs
-
 returns : tie.Need-returns
 returns c =
     λ x. rw (c .before .before .if1 .taken) (c .settle-line-at .ensures x)
@@ -15,4 +12,4 @@ returns-2 c =
     λ x. rw (c .if1 .left)
 
 pub settle-line-if-spec : {M : Type 1} → statement M
-settle-line-if-spec = tie.close (tie.spec settle-line-at-requires returns returns-2)
+settle-line-if-spec = tie.close (tie.spec (λ c κs. search needs) returns returns-2)

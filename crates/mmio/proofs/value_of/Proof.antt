@@ -11,19 +11,13 @@ use Rattle.mmio.proofs.value_of.Lts as lts
 use Rattle.regs.proofs.read_reg.Reads as read-reg-reads
 use Rattle.state.proofs.load_timer.Reads as load-timer-reads
 
--- src/lib.rt:35:9
-load-timer-requires : tie.Need-load-timer-requires
-load-timer-requires c κs = search needs
-
--- src/lib.rt:36:5
 read-reg-requires : tie.Need-read-reg-requires
 read-reg-requires c κs =
     (loaded-fit (c .before .args .words .now) [] (c .before .args .i) _ (c .load-timer .ensures []), c .before .pre .1)
 
--- src/lib.rt:31:1
 returns : tie.Need-returns
 returns c =
     λ x. c .read-reg .ensures ∙ ap (λ (t : Timer). regRead t (c .before .before .args .off) (c .before .before .args .cycle)) (c .before .load-timer .ensures x)
 
 pub value-of-spec : {M : Type 1} → statement M
-value-of-spec = tie.close (tie.spec load-timer-requires read-reg-requires returns)
+value-of-spec = tie.close (tie.spec (λ c κs. search needs) read-reg-requires returns)

@@ -4,15 +4,6 @@ use borrow.Author.Needs.{needs}
 use Rattle.mmio.proofs.whole_of.Statement.{statement}
 use Rattle.mmio.proofs.whole_of.Tie as tie
 
-mul-off : tie.Need-mul-off
-mul-off c = search needs
-
-count-of-requires : tie.Need-count-of-requires
-count-of-requires c κs = search needs
-
-lane-of-requires : tie.Need-lane-of-requires
-lane-of-requires c κs = search needs
-
 returns : tie.Need-returns
 returns c = let s = c .before .before in λ x. counter-read _ (s .args .offset) (s .args .cycle) _ (c .before .match .keys1) (c .count-of .ensures x)
 
@@ -20,4 +11,4 @@ returns-2 : tie.Need-returns-2
 returns-2 c = c .lane-of .ensures
 
 pub whole-of-spec : {M : Type 1} → statement M
-whole-of-spec = tie.close (tie.spec mul-off count-of-requires lane-of-requires returns returns-2)
+whole-of-spec = tie.close (tie.spec (λ c. search needs) (λ c κs. search needs) (λ c κs. search needs) returns returns-2)

@@ -9,23 +9,9 @@ use Rattle.probe.proofs.probe_refresh_pin.Lts as lts
 use Rattle.probe.proofs.has_moved.Reads as has-moved-reads
 use Rattle.sys.proofs.refresh_pin.Reads as refresh-pin-reads
 
--- src/lib.rt:47:44
-cast-refresh-pin : tie.Need-cast-refresh-pin
-cast-refresh-pin c = search needs
-
--- src/lib.rt:47:9
-refresh-pin-requires : tie.Need-refresh-pin-requires
-refresh-pin-requires c κs = search needs
-
--- src/lib.rt:48:5
-has-moved-requires : tie.Need-has-moved-requires
-has-moved-requires c κs = search needs
-
--- src/lib.rt:39:1
 returns : tie.Need-returns
 returns c =
     record { board = c .before .refresh-pin .ensures .board; moved = c .has-moved .ensures ∙ ap moves (c .before .refresh-pin .ensures .change) }
 
 pub probe-refresh-pin-spec : {M : Type 1} → statement M
-probe-refresh-pin-spec =
-    tie.close (tie.spec cast-refresh-pin refresh-pin-requires has-moved-requires returns)
+probe-refresh-pin-spec = tie.close (tie.spec (λ c. search needs) (λ c κs. search needs) (λ c κs. search needs) returns)

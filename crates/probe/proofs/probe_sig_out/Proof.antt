@@ -9,22 +9,9 @@ use Rattle.probe.proofs.probe_sig_out.Lts as lts
 use Rattle.probe.proofs.has_moved.Reads as has-moved-reads
 use Rattle.sys.proofs.sig_out.Reads as sig-out-reads
 
--- src/lib.rt:34:40
-cast-sig-out : tie.Need-cast-sig-out
-cast-sig-out c = search needs
-
--- src/lib.rt:34:9
-sig-out-requires : tie.Need-sig-out-requires
-sig-out-requires c κs = search needs
-
--- src/lib.rt:35:5
-has-moved-requires : tie.Need-has-moved-requires
-has-moved-requires c κs = search needs
-
--- src/lib.rt:25:1
 returns : tie.Need-returns
 returns c =
     record { board = c .before .sig-out .ensures .board; moved = c .has-moved .ensures ∙ ap moves (c .before .sig-out .ensures .change) }
 
 pub probe-sig-out-spec : {M : Type 1} → statement M
-probe-sig-out-spec = tie.close (tie.spec cast-sig-out sig-out-requires has-moved-requires returns)
+probe-sig-out-spec = tie.close (tie.spec (λ c. search needs) (λ c κs. search needs) (λ c κs. search needs) returns)

@@ -12,23 +12,13 @@ use Rattle.probe.proofs.probe_timer.Lts as lts
 use Rattle.state.proofs.load_timer.Reads as load-timer-reads
 use Rattle.state.proofs.store_timer.Reads as store-timer-reads
 
--- src/lib.rt:56:13
-cast-k : tie.Need-cast-k
-cast-k c = search needs
-
--- src/lib.rt:57:9
-load-timer-requires : tie.Need-load-timer-requires
-load-timer-requires c κs = search needs
-
--- src/lib.rt:58:5
 store-timer-requires : tie.Need-store-timer-requires
 store-timer-requires c κs =
     (search needs, rw (c .before .load-timer .ensures []) (bounded _ [] .timer-fit _))
 
--- src/lib.rt:52:1
 returns : tie.Need-returns
 returns c =
     λ x. rw (c .store-timer .ensures x, c .before .before .load-timer .ensures x)
 
 pub probe-timer-spec : {M : Type 1} → statement M
-probe-timer-spec = tie.close (tie.spec cast-k load-timer-requires store-timer-requires returns)
+probe-timer-spec = tie.close (tie.spec (λ c. search needs) (λ c κs. search needs) store-timer-requires returns)

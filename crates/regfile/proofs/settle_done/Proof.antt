@@ -5,19 +5,9 @@ use borrow.Author.Needs.{needs}
 use Rattle.regfile.proofs.settle_done.Statement.{statement}
 use Rattle.regfile.proofs.settle_done.Tie as tie
 
-load-timer-requires : tie.Need-load-timer-requires
-load-timer-requires c κs = search needs
-
-is-past-requires : tie.Need-is-past-requires
-is-past-requires c κs = search needs
-
-set-done-requires : tie.Need-set-done-requires
-set-done-requires c κs = search needs
-
 returns : tie.Need-returns
 returns c =
     let s = c .before .before .before .before .before in λ x. done-set (view (s .args .words .now) x) _ (s .args .i) (s .args .ch) (s .args .ccr) _ _ (c .before .before .before .load-timer .ensures x) (c .before .before .is-past .ensures) (c .set-done .ensures x)
 
 pub settle-done-spec : {M : Type 1} → statement M
-settle-done-spec =
-    tie.close (tie.spec load-timer-requires is-past-requires set-done-requires returns)
+settle-done-spec = tie.close (tie.spec (λ c κs. search needs) (λ c κs. search needs) (λ c κs. search needs) returns)

@@ -7,9 +7,6 @@ use borrow.Author.Needs.{needs}
 use Rattle.regfile.proofs.sync.Statement.{statement}
 use Rattle.regfile.proofs.sync.Tie as tie
 
-load-timer-requires : tie.Need-load-timer-requires
-load-timer-requires c κs = search needs
-
 sync-requires : tie.Need-sync-requires
 sync-requires c κs =
     (loaded-fit (c .before .before .before .args .words .now) [] (c .before .before .before .args .i) _ (c .before .load-timer .ensures []), c .before .before .before .pre .1)
@@ -27,5 +24,4 @@ returns-2 c =
     let s = c .before .before .before in λ x. sync-stopped (view (s .args .words .now) x) (s .args .i) (s .args .cycle) _ (c .before .load-timer .ensures x) (c .if1 .left)
 
 pub sync-spec : {M : Type 1} → statement M
-sync-spec =
-    tie.close (tie.spec load-timer-requires sync-requires set-at-requires returns returns-2)
+sync-spec = tie.close (tie.spec (λ c κs. search needs) sync-requires set-at-requires returns returns-2)

@@ -6,18 +6,6 @@ use borrow.Author.Needs.{needs}
 use Rattle.regfile.proofs.write_cr1.Statement.{statement}
 use Rattle.regfile.proofs.write_cr1.Tie as tie
 
-load-timer-requires : tie.Need-load-timer-requires
-load-timer-requires c κs = search needs
-
-kept-cr1-requires : tie.Need-kept-cr1-requires
-kept-cr1-requires c κs = search needs
-
-stays-requires : tie.Need-stays-requires
-stays-requires c κs = search needs
-
-write-steady-requires : tie.Need-write-steady-requires
-write-steady-requires c κs = search needs
-
 returns : tie.Need-returns
 returns c =
     let s = c .before .before .before .before .before .before .before in
@@ -30,4 +18,6 @@ returns-2 : tie.Need-returns-2
 returns-2 c = (λ q. not-served q, (λ q. not-served q, λ q. refl))
 
 pub write-cr1-spec : {M : Type 1} → statement M
-write-cr1-spec = tie.close (tie.spec load-timer-requires kept-cr1-requires stays-requires write-steady-requires returns returns-2)
+write-cr1-spec =
+    tie.close
+    (tie.spec (λ c κs. search needs) (λ c κs. search needs) (λ c κs. search needs) (λ c κs. search needs) returns returns-2)

@@ -10,18 +10,9 @@ use Rattle.regfile.proofs.write_steady.Lts as lts
 use Rattle.fields.proofs.set_reg.Reads as set-reg-reads
 use Rattle.regfile.proofs.sync.Reads as sync-reads
 
--- src/lib.rt:116:5
-sync-requires : tie.Need-sync-requires
-sync-requires c κs = search needs
-
--- src/lib.rt:117:5
-set-reg-requires : tie.Need-set-reg-requires
-set-reg-requires c κs = search needs
-
--- src/lib.rt:112:1
 returns : tie.Need-returns
 returns c =
     λ x. moved (view (c .before .before .before .before .args .words .now) x) _ _ (c .before .before .before .before .args .i) (c .before .before .before .before .args .cycle) (c .before .before .before .before .args .new) (omega (arith, c .before .before .before .before .pre .0, bounded (c .before .before .before .before .args .words .now) x .timers-length)) (c .before .before .sync .ensures x) (c .set-reg .ensures x)
 
 pub write-steady-spec : {M : Type 1} → statement M
-write-steady-spec = tie.close (tie.spec sync-requires set-reg-requires returns)
+write-steady-spec = tie.close (tie.spec (λ c κs. search needs) (λ c κs. search needs) returns)

@@ -4,15 +4,8 @@ use borrow.Author.Needs.{needs}
 use Rattle.write.proofs.made.Statement.{statement}
 use Rattle.write.proofs.made.Tie as tie
 
-mul-result : tie.Need-mul-result
-mul-result c = search needs
-
 returns : tie.Need-returns
 returns c = coding _
 
 pub made-spec : {M : Type 1} → statement M
-made-spec =
-    tie.close
-    (tie.spec
-    mul-result
-    returns)
+made-spec = tie.close (tie.spec (λ c. search needs) returns)

@@ -10,27 +10,14 @@ use Rattle.write.proofs.merged.Tie as tie
 aligned : (offset : ℕ) → offset / 4 * 4 / 4 * 4 ≡ offset / 4 * 4
 aligned offset = omega arith
 
-mul-present : tie.Need-mul-present
-mul-present c = search needs
-
 present-requires : tie.Need-present-requires
 present-requires c κs = (c .pre .0, aligned (c .args .offset), c .pre .2)
 
 cast-lane-write : tie.Need-cast-lane-write
 cast-lane-write c = omega (arith, c .before .pre .1)
 
-lane-write-requires : tie.Need-lane-write-requires
-lane-write-requires c κs = search needs
-
 returns : tie.Need-returns
 returns c = let s = c .before .before in λ x. c .lane-write .ensures ∙ ap (λ (k : ℕ). laneWrite k (s .args .offset) (s .args .size) (s .args .value)) (c .before .present .ensures x)
 
 pub merged-spec : {M : Type 1} → statement M
-merged-spec =
-    tie.close
-    (tie.spec
-    mul-present
-    present-requires
-    cast-lane-write
-    lane-write-requires
-    returns)
+merged-spec = tie.close (tie.spec (λ c. search needs) present-requires cast-lane-write (λ c κs. search needs) returns)

@@ -13,12 +13,6 @@ use borrow.Author.Needs.{needs}
 use Rattle.write.proofs.write_compare.Statement.{statement}
 use Rattle.write.proofs.write_compare.Tie as tie
 
-inst-requires : tie.Need-inst-requires
-inst-requires c κs = search needs
-
-set-last-requires : tie.Need-set-last-requires
-set-last-requires c κs = search needs
-
 returns : tie.Need-returns
 returns c =
     let s = c .before .before .before .before .before .before .before .before .before in
@@ -30,32 +24,11 @@ returns c =
 sub-ch : tie.Need-sub-ch
 sub-ch c = let s = c .before .before .before .before .before .before .before in omega (arith, channel-lt (s .args .off) (s .pre .0 .1) .0)
 
-cast-ch : tie.Need-cast-ch
-cast-ch c = search needs
-
-kept-requires : tie.Need-kept-requires
-kept-requires c κs = search needs
-
 write-ccr-requires : tie.Need-write-ccr-requires
 write-ccr-requires c κs = let s = c .before .before .before .before .before .before .before .before .before in (s .pre .0 .0, channel-lt (s .args .off) (s .pre .0 .1) .1, s .pre .0 .2)
 
-cnt0-requires : tie.Need-cnt0-requires
-cnt0-requires c κs = search needs
-
-follow-requires : tie.Need-follow-requires
-follow-requires c κs = search needs
-
 made-requires : tie.Need-made-requires
 made-requires c κs = c .before .before .before .before .before .before .follow .ensures .1
-
-same-length : tie.Need-same-length
-same-length c = search needs
-
-same-length-2 : tie.Need-same-length-2
-same-length-2 c = search needs
-
-same-length-3 : tie.Need-same-length-3
-same-length-3 c = search needs
 
 returns-2 : tie.Need-returns-2
 returns-2 c =
@@ -71,18 +44,6 @@ returns-2 c =
 pub write-compare-spec : {M : Type 1} → statement M
 write-compare-spec =
     tie.close
-    (tie.spec
-    inst-requires
-    set-last-requires
-    returns
-    sub-ch
-    cast-ch
-    kept-requires
-    write-ccr-requires
-    cnt0-requires
-    follow-requires
-    made-requires
-    same-length
-    same-length-2
-    same-length-3
-    returns-2)
+    (tie.spec (λ c κs. search needs) (λ c κs. search needs) returns sub-ch (λ c. search needs) (λ c κs. search needs)
+    write-ccr-requires (λ c κs. search needs) (λ c κs. search needs) made-requires (λ c. search needs) (λ c. search needs)
+    (λ c. search needs) returns-2)

@@ -10,12 +10,6 @@ use Rattle.write.proofs.write_cr1.Tie as tie
 write-cr1-requires : tie.Need-write-cr1-requires
 write-cr1-requires c κs = let s = c .before .before .before .before in (s .pre .0 .0, omega (arith, s .pre .0 .1))
 
-rebook-requires : tie.Need-rebook-requires
-rebook-requires c κs = search needs
-
-set-last-requires : tie.Need-set-last-requires
-set-last-requires c κs = search needs
-
 returns : tie.Need-returns
 returns c =
     let s = c .before .before .before .before .before .before .before .before .before .before in
@@ -23,18 +17,6 @@ returns c =
     let on = c .before .before .before .before .if1 .taken in
     let m = cr1-served (s .args .words .now) (s .args .reals .now) (s .args .i) (s .args .v) (s .args .cycle) _ _ _ (of-eight (s .args .words .now) (s .args .reals .now) (s .args .i) (s .pre .0 .0)) (e .0 on (s .args .reals .now) _) (e .1 .0 on (s .args .reals .now) _) (c .before .before .rebook .ensures (s .args .reals .now)) (c .set-last .ensures (s .args .reals .now)) in
     (m, no-entries _ _ _ _ _ _ (cr1-entries (s .args .words .now) (s .args .reals .now) (s .args .i) (s .args .v) (s .args .cycle)) m (slices (s .args .pins .now) (s .args .levels .now) (s .args .cycles .now)))
-
-write-timer-requires : tie.Need-write-timer-requires
-write-timer-requires c κs = search needs
-
-same-length : tie.Need-same-length
-same-length c = search needs
-
-same-length-2 : tie.Need-same-length-2
-same-length-2 c = search needs
-
-same-length-3 : tie.Need-same-length-3
-same-length-3 c = search needs
 
 returns-2 : tie.Need-returns-2
 returns-2 c =
@@ -46,13 +28,5 @@ returns-2 c =
 pub write-cr1-spec : {M : Type 1} → statement M
 write-cr1-spec =
     tie.close
-    (tie.spec
-    write-cr1-requires
-    rebook-requires
-    set-last-requires
-    returns
-    write-timer-requires
-    same-length
-    same-length-2
-    same-length-3
-    returns-2)
+    (tie.spec write-cr1-requires (λ c κs. search needs) (λ c κs. search needs) returns (λ c κs. search needs)
+    (λ c. search needs) (λ c. search needs) (λ c. search needs) returns-2)

@@ -5,18 +5,6 @@ use borrow.Author.Needs.{needs}
 use Rattle.write.proofs.write_dier.Statement.{statement}
 use Rattle.write.proofs.write_dier.Tie as tie
 
-kept-requires : tie.Need-kept-requires
-kept-requires c κs = search needs
-
-set-reg-requires : tie.Need-set-reg-requires
-set-reg-requires c κs = search needs
-
-settle-line-at-requires : tie.Need-settle-line-at-requires
-settle-line-at-requires c κs = search needs
-
-set-last-requires : tie.Need-set-last-requires
-set-last-requires c κs = search needs
-
 returns : tie.Need-returns
 returns c =
     let s = c .before .before .before .before .before .before .before in
@@ -25,9 +13,4 @@ returns c =
 pub write-dier-spec : {M : Type 1} → statement M
 write-dier-spec =
     tie.close
-    (tie.spec
-    kept-requires
-    set-reg-requires
-    settle-line-at-requires
-    set-last-requires
-    returns)
+    (tie.spec (λ c κs. search needs) (λ c κs. search needs) (λ c κs. search needs) (λ c κs. search needs) returns)

@@ -7,24 +7,6 @@ use borrow.Author.Needs.{needs}
 use Rattle.write.proofs.write_on.Statement.{statement}
 use Rattle.write.proofs.write_on.Tie as tie
 
-mul-off : tie.Need-mul-off
-mul-off c = search needs
-
-quick-requires : tie.Need-quick-requires
-quick-requires c κs = search needs
-
-write-quick-requires : tie.Need-write-quick-requires
-write-quick-requires c κs = search needs
-
-same-length : tie.Need-same-length
-same-length c = search needs
-
-same-length-2 : tie.Need-same-length-2
-same-length-2 c = search needs
-
-same-length-3 : tie.Need-same-length-3
-same-length-3 c = search needs
-
 returns : tie.Need-returns
 returns c =
     let s = c .before .before .before .before .before .before .before .before .before .before .before .before .before .before .before .before .before in
@@ -34,18 +16,6 @@ returns c =
 
 merged-requires : tie.Need-merged-requires
 merged-requires c κs = let s = c .before .before .before .before .before .before in (s .pre .0 .0, s .pre .0 .1, omega (arith, s .pre .0 .2))
-
-write-timer-requires : tie.Need-write-timer-requires
-write-timer-requires c κs = search needs
-
-same-length-4 : tie.Need-same-length-4
-same-length-4 c = search needs
-
-same-length-5 : tie.Need-same-length-5
-same-length-5 c = search needs
-
-same-length-6 : tie.Need-same-length-6
-same-length-6 c = search needs
 
 returns-2 : tie.Need-returns-2
 returns-2 c =
@@ -57,17 +27,6 @@ returns-2 c =
 pub write-on-spec : {M : Type 1} → statement M
 write-on-spec =
     tie.close
-    (tie.spec
-    mul-off
-    quick-requires
-    write-quick-requires
-    same-length
-    same-length-2
-    same-length-3
-    returns
-    merged-requires
-    write-timer-requires
-    same-length-4
-    same-length-5
-    same-length-6
-    returns-2)
+    (tie.spec (λ c. search needs) (λ c κs. search needs) (λ c κs. search needs) (λ c. search needs) (λ c. search needs)
+    (λ c. search needs) returns merged-requires (λ c κs. search needs) (λ c. search needs) (λ c. search needs)
+    (λ c. search needs) returns-2)

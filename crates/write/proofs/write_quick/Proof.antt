@@ -10,29 +10,8 @@ use Rattle.write.proofs.write_quick.Tie as tie
 write-synced-requires : tie.Need-write-synced-requires
 write-synced-requires c κs = let s = c .before .before .before .before .before .before .before .before .before in let k = c .before .before .before .before .before .match .keys1 in ((s .pre .0 .0, (λ n. absurd (n k)), s .pre .0 .1), s .pre .1)
 
-write-dier-requires : tie.Need-write-dier-requires
-write-dier-requires c κs = search needs
-
-write-sr-requires : tie.Need-write-sr-requires
-write-sr-requires c κs = search needs
-
 write-synced-requires-2 : tie.Need-write-synced-requires-2
 write-synced-requires-2 c κs = let s = c .before .before .before .before .before .before .before .before .before .before .before in ((s .pre .0 .0, (λ n. ccr-in (s .args .off) (omega (arith, c .before .before .before .before .before .before .if1 .left)) (omega (arith, c .before .before .before .before .before .if2 .taken))), s .pre .0 .1), s .pre .1)
-
-write-timer-requires : tie.Need-write-timer-requires
-write-timer-requires c κs = search needs
-
-same-length : tie.Need-same-length
-same-length c = search needs
-
-same-length-2 : tie.Need-same-length-2
-same-length-2 c = search needs
-
-same-length-3 : tie.Need-same-length-3
-same-length-3 c = search needs
-
-returns : tie.Need-returns
-returns c = search needs
 
 returns-2 : tie.Need-returns-2
 returns-2 c =
@@ -46,50 +25,10 @@ returns-3 c =
     let k = c .before .before .match .keys3 in
     (at-reg (s .args .words .now) (s .args .reals .now) (s .args .i) (s .args .off) 16 (s .args .v) (s .args .cycle) k _ _ _ (c .write-sr .ensures (s .args .reals .now)), at-reg-book (s .args .words .now) (s .args .reals .now) (s .args .i) (s .args .off) 16 (s .args .v) (s .args .cycle) k _ _ _ (no-entries _ _ _ _ _ _ (sr-entries (s .args .words .now) (s .args .reals .now) (s .args .i) (s .args .v) (s .args .cycle)) (c .write-sr .ensures (s .args .reals .now)) (slices (s .args .pins .now) (s .args .levels .now) (s .args .cycles .now))))
 
-same-length-4 : tie.Need-same-length-4
-same-length-4 c = search needs
-
-same-length-5 : tie.Need-same-length-5
-same-length-5 c = search needs
-
-same-length-6 : tie.Need-same-length-6
-same-length-6 c = search needs
-
-returns-4 : tie.Need-returns-4
-returns-4 c = search needs
-
-same-length-7 : tie.Need-same-length-7
-same-length-7 c = search needs
-
-same-length-8 : tie.Need-same-length-8
-same-length-8 c = search needs
-
-same-length-9 : tie.Need-same-length-9
-same-length-9 c = search needs
-
-returns-5 : tie.Need-returns-5
-returns-5 c = search needs
-
 pub write-quick-spec : {M : Type 1} → statement M
 write-quick-spec =
     tie.close
-    (tie.spec
-    write-synced-requires
-    write-dier-requires
-    write-sr-requires
-    write-synced-requires-2
-    write-timer-requires
-    same-length
-    same-length-2
-    same-length-3
-    returns
-    returns-2
-    returns-3
-    same-length-4
-    same-length-5
-    same-length-6
-    returns-4
-    same-length-7
-    same-length-8
-    same-length-9
-    returns-5)
+    (tie.spec write-synced-requires (λ c κs. search needs) (λ c κs. search needs) write-synced-requires-2 (λ c κs. search needs)
+    (λ c. search needs) (λ c. search needs) (λ c. search needs) (λ c. search needs) returns-2 returns-3 (λ c. search needs)
+    (λ c. search needs) (λ c. search needs) (λ c. search needs) (λ c. search needs) (λ c. search needs) (λ c. search needs)
+    (λ c. search needs))

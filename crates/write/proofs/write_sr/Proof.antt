@@ -5,21 +5,6 @@ use borrow.Author.Needs.{needs}
 use Rattle.write.proofs.write_sr.Statement.{statement}
 use Rattle.write.proofs.write_sr.Tie as tie
 
-load-timer-requires : tie.Need-load-timer-requires
-load-timer-requires c κs = search needs
-
-kept-sr-requires : tie.Need-kept-sr-requires
-kept-sr-requires c κs = search needs
-
-set-reg-requires : tie.Need-set-reg-requires
-set-reg-requires c κs = search needs
-
-settle-line-at-requires : tie.Need-settle-line-at-requires
-settle-line-at-requires c κs = search needs
-
-set-last-requires : tie.Need-set-last-requires
-set-last-requires c κs = search needs
-
 returns : tie.Need-returns
 returns c =
     let s = c .before .before .before .before .before .before .before .before .before in
@@ -28,10 +13,5 @@ returns c =
 pub write-sr-spec : {M : Type 1} → statement M
 write-sr-spec =
     tie.close
-    (tie.spec
-    load-timer-requires
-    kept-sr-requires
-    set-reg-requires
-    settle-line-at-requires
-    set-last-requires
+    (tie.spec (λ c κs. search needs) (λ c κs. search needs) (λ c κs. search needs) (λ c κs. search needs) (λ c κs. search needs)
     returns)

@@ -8,15 +8,6 @@ use Rattle.write.proofs.write_synced.Tie as tie
 write-cr1-requires : tie.Need-write-cr1-requires
 write-cr1-requires c κs = let s = c .before .before .before .before .before .before .before .before .before in ((s .pre .0 .0, s .pre .0 .2), s .pre .1)
 
-same-length : tie.Need-same-length
-same-length c = search needs
-
-same-length-2 : tie.Need-same-length-2
-same-length-2 c = search needs
-
-same-length-3 : tie.Need-same-length-3
-same-length-3 c = search needs
-
 returns : tie.Need-returns
 returns c =
     let s = c .before .before .before .before .before .before .before .before .before .before .before .before .before .before .before .before in
@@ -26,29 +17,8 @@ returns c =
 write-compare-requires : tie.Need-write-compare-requires
 write-compare-requires c κs = let s = c .before .before .before .before .before .before .before .before .before in ((s .pre .0 .0, s .pre .0 .1 (c .before .before .before .before .before .if1 .left), omega (arith, s .pre .0 .2)), s .pre .1)
 
-same-length-4 : tie.Need-same-length-4
-same-length-4 c = search needs
-
-same-length-5 : tie.Need-same-length-5
-same-length-5 c = search needs
-
-same-length-6 : tie.Need-same-length-6
-same-length-6 c = search needs
-
-returns-2 : tie.Need-returns-2
-returns-2 c = search needs
-
 pub write-synced-spec : {M : Type 1} → statement M
 write-synced-spec =
     tie.close
-    (tie.spec
-    write-cr1-requires
-    same-length
-    same-length-2
-    same-length-3
-    returns
-    write-compare-requires
-    same-length-4
-    same-length-5
-    same-length-6
-    returns-2)
+    (tie.spec write-cr1-requires (λ c. search needs) (λ c. search needs) (λ c. search needs) returns write-compare-requires
+    (λ c. search needs) (λ c. search needs) (λ c. search needs) (λ c. search needs))

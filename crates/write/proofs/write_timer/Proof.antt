@@ -9,18 +9,9 @@ use borrow.Author.Needs.{needs}
 use Rattle.write.proofs.write_timer.Statement.{statement}
 use Rattle.write.proofs.write_timer.Tie as tie
 
-load-timer-requires : tie.Need-load-timer-requires
-load-timer-requires c κs = search needs
-
-divider-requires : tie.Need-divider-requires
-divider-requires c κs = search needs
-
 write-reg-requires : tie.Need-write-reg-requires
 write-reg-requires c κs =
     let s = c .before .before .before .before .before .before .before .before in loaded-ready (s .args .words .now) (s .args .reals .now) (s .args .i) (s .args .cycle) _ _ (c .before .before .before .load-timer .ensures (s .args .reals .now)) (s .pre .0 .1) (c .divider .ensures .1 .0) (c .divider .ensures .1 .1)
-
-counter-astray-requires : tie.Need-counter-astray-requires
-counter-astray-requires c κs = search needs
 
 returns : tie.Need-returns
 returns c =
@@ -40,15 +31,6 @@ follow-requires c κs = let s = c .before .before .before .before .before .befor
 made-requires : tie.Need-made-requires
 made-requires c κs = c .before .before .before .before .before .before .follow .ensures .1
 
-same-length : tie.Need-same-length
-same-length c = search needs
-
-same-length-2 : tie.Need-same-length-2
-same-length-2 c = search needs
-
-same-length-3 : tie.Need-same-length-3
-same-length-3 c = search needs
-
 returns-2 : tie.Need-returns-2
 returns-2 c =
     let s = c .before .before .before .before .before .before .before .before .before .before .before .before .before .before .before .before .before .before .before .before .before .before .before .before .before .before .before in
@@ -60,16 +42,5 @@ returns-2 c =
 pub write-timer-spec : {M : Type 1} → statement M
 write-timer-spec =
     tie.close
-    (tie.spec
-    load-timer-requires
-    divider-requires
-    write-reg-requires
-    counter-astray-requires
-    returns
-    store-live-requires
-    follow-requires
-    made-requires
-    same-length
-    same-length-2
-    same-length-3
-    returns-2)
+    (tie.spec (λ c κs. search needs) (λ c κs. search needs) write-reg-requires (λ c κs. search needs) returns
+    store-live-requires follow-requires made-requires (λ c. search needs) (λ c. search needs) (λ c. search needs) returns-2)
