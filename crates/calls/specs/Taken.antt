@@ -8,9 +8,8 @@ use lib.ListN.{length, drop}
 use lib.Seq.{sets}
 use Rattle.book.specs.Book.{Book, puts, over, Holds}
 use Rattle.machine.specs.Board.{Board}
-use Rattle.machine.specs.Call.{Call, Outcome}
+use Rattle.machine.specs.Call.{Call, Outcome, lent}
 use Rattle.machine.specs.Step.{step, run, boardAfter}
-use Rattle.machine.specs.Refusals.{lent}
 use Rattle.accuracy.specs.Claim.{joined}
 use Rattle.calls.specs.declared.Ran.{Ran}
 use Rattle.encoding.specs.Encoding.{lenOf, callOf}
