@@ -12,9 +12,8 @@ use Rattle.real.specs.Real.{positive}
 use Rattle.clk.specs.declared.ClockTree.{ClockTree}
 use Rattle.book.specs.Book.{Entry, Holds, slices, Lent}
 use Rattle.machine.specs.Board.{Board}
-use Rattle.machine.specs.Call.{Call, Outcome, Setup, setUp, clockTree, enable, setPin, drivePin, resetPins, read, write, peek, resetTimer, deliver, queryBooked, queryNext, queryLevel, queryVolts, queryLine, queryTime, clearPending}
+use Rattle.machine.specs.Call.{Call, Outcome, Setup, setUp, clockTree, enable, setPin, drivePin, resetPins, read, write, peek, resetTimer, deliver, queryBooked, queryNext, queryLevel, queryVolts, queryLine, queryTime, clearPending, lent}
 use Rattle.machine.specs.Step.{step, withinLimits}
-use Rattle.machine.specs.Call.{lent}
 use Rattle.machine.proofs.NumberLaws.{refusal-nonzero, either}
 use Rattle.machine.proofs.Numbers.{entries-fit}
 use Rattle.state.specs.View.{view}

@@ -13,9 +13,8 @@ use borrow.Author.Tests.{ltb-false, leb-true, eqb-false}
 use Rattle.book.specs.Book.{Entry, Lent, slices, Room, Book, book, puts, put, places, over, Holds}
 use Rattle.book.proofs.Laws.{puts-append, holds, roomy}
 use Rattle.machine.specs.Board.{Board}
-use Rattle.machine.specs.Call.{Call, Outcome}
+use Rattle.machine.specs.Call.{Call, Outcome, lent}
 use Rattle.machine.specs.Step.{step, run, boardAfter}
-use Rattle.machine.specs.Call.{lent}
 use Rattle.machine.proofs.NumberLaws.{either}
 use Rattle.machine.proofs.Numbers.{entries-fit}
 use Rattle.state.specs.View.{view}

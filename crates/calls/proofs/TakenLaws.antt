@@ -7,9 +7,8 @@ use native.Mathlib.Omega.{arith}
 use lib.ListN.{length, drop}
 use borrow.Author.Tests.{le-ltb}
 use Rattle.machine.specs.Board.{Board}
-use Rattle.machine.specs.Call.{Call}
+use Rattle.machine.specs.Call.{Call, lent}
 use Rattle.machine.specs.Step.{step}
-use Rattle.machine.specs.Call.{lent}
 use Rattle.machine.proofs.Numbers.{entries-fit}
 use Rattle.calls.specs.Taken.{noRoom, taken}
 

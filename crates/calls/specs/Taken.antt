@@ -10,9 +10,8 @@ use lib.Ieee.{Float}
 use Rattle.book.specs.Book.{Lent, places, Book, puts, over, Holds}
 use Rattle.machine.specs.Board.{Board}
 use Rattle.state.specs.View.{view}
-use Rattle.machine.specs.Call.{Call, Outcome}
+use Rattle.machine.specs.Call.{Call, Outcome, lent}
 use Rattle.machine.specs.Step.{step, run, boardAfter}
-use Rattle.machine.specs.Call.{lent}
 use Rattle.accuracy.specs.Claim.{joined}
 use Rattle.calls.specs.declared.Ran.{Ran}
 use Rattle.encoding.specs.Encoding.{lenOf, callOf}
