@@ -4,7 +4,7 @@ use state::REALS;
 use state::WORDS;
 use tim::Timer;
 ghost use mathlib.Core.Path.{_≡_};
-ghost use mathlib.Core.Bool.{true};
+ghost use mathlib.Core.Bool.{true, false};
 ghost use mathlib.Core.List.{List};
 ghost use Prim.Native.Nat.{_<_, _≤_};
 ghost use lib.Ieee.{Float};
@@ -12,11 +12,14 @@ ghost use lib.ListN.{length};
 ghost use Rattle.regs.specs.Regs as R;
 ghost use Rattle.periph.specs.Lane.{laneWrite};
 ghost use Rattle.state.specs.View.{view};
-ghost use Rattle.book.specs.Book.{places, Holds};
+ghost use Rattle.book.specs.Book.{book, places, Holds};
 ghost use Rattle.machine.specs.Board.{timerAt};
 ghost use Rattle.machine.specs.Call as Call;
 ghost use Rattle.machine.specs.Step.{step, register, present, counterAstray};
+ghost use Rattle.machine.specs.Sys.{driveOutputs};
 ghost use Rattle.answer.specs.Promise.{answer, Answers};
+ghost use Rattle.outputs.specs.Outputs as O;
+ghost use Rattle.mmio.specs.Leaves.{Leaves, after};
 ghost use Rattle.write.specs.Writes.{quick, writtenBy, writtenOn, answerOf};
 
 // The register's present value, 0 for EGR.
@@ -120,6 +123,38 @@ fn write_timer(
     made(count)
 }
 
+// A write of any size: the lane merged, then the general way. It has several callers too.
+fn write_any(
+    words: &mut [u64; WORDS],
+    reals: &mut [f64; REALS],
+    i: usize,
+    offset: u32,
+    size: u32,
+    value: u32,
+    cycle: u64,
+    pins: &mut [u8],
+    levels: &mut [u8],
+    cycles: &mut [u64],
+) -> u64
+    requires { ⌜ (i < 8) × (size ≤ 4) × (cycle ≤ 4611686018427387904) ⌝ }
+    requires { ⌜ (4 ≤ length (now pins)) × (4 ≤ length (now levels)) × (4 ≤ length (now cycles)) ⌝ }
+    ensures { λ r. ⌜ Answers (writtenOn (view (now (words .entry)) (now (reals .entry))) i offset size value cycle) (answerOf r) (now (words .entry)) (now (words .exit)) (now (reals .entry)) (now (reals .exit)) ⌝ }
+    ensures { λ r. ⌜ Holds (writtenOn (view (now (words .entry)) (now (reals .entry))) i offset size value cycle .entries) (now (pins .entry)) (now (pins .exit)) (now (levels .entry)) (now (levels .exit)) (now (cycles .entry)) (now (cycles .exit)) (answerOf r .count) ⌝ }
+{
+    let v = merged(words, i, offset, size, value, cycle);
+    write_timer(
+        words,
+        reals,
+        i,
+        offset / 4 * 4,
+        v,
+        cycle,
+        pins,
+        levels,
+        cycles,
+    )
+}
+
 // ---- short ways of whole writes: of the registers that a running program writes, the words that change are stored
 
 // CR1. A write that starts, stops or turns the timer goes the general way.
@@ -169,6 +204,76 @@ fn write_sr(words: &mut [u64; WORDS], i: usize, v: u32, cycle: u64) -> u64
     0
 }
 
+// Drives the outputs of timer i at a count, and writes their changes to the book from place 0 on: outputs' `drive_outputs`, written out
+// once more for one caller. So it is compiled into a write of a compare, which changes a pilot's duty: called instead, by way of
+// `mmio::follow`, a write of CCR1 takes 1.06 of the Rust's time.
+fn drive_written(
+    words: &mut [u64; WORDS],
+    reals: &mut [f64; REALS],
+    pins: &mut [u8],
+    levels: &mut [u8],
+    cycles: &mut [u64],
+    i: usize,
+    cnt: u32,
+    at: u64,
+) -> usize
+    requires { ⌜ i < 8 ⌝ }
+    requires { ⌜ (4 ≤ length (now pins)) × (4 ≤ length (now levels)) × (4 ≤ length (now cycles)) ⌝ }
+    ensures { λ r. ⌜ O.Driven (driveOutputs (timerAt (view (now (words .entry)) (now (reals .entry))) i) cnt (view (now (words .entry)) (now (reals .entry)) .pads)) at (view (now (words .entry)) (now (reals .entry))) (view (now (words .exit)) (now (reals .exit))) (book (now (pins .entry)) (now (levels .entry)) (now (cycles .entry)) 0) (book (now (pins .exit)) (now (levels .exit)) (now (cycles .exit)) r) ⌝ }
+    ensures { λ r. ⌜ r ≤ 4 ⌝ }
+{
+    let t = state::load_timer(words, i);
+    if t.inst.n < 2 {
+        return 0;
+    }
+    if t.inst.n > 4 {
+        return 0;
+    }
+    let s = sig::tim(t.inst.n as u8, 0) as usize;
+    let x = t.inst.channels;
+    let l = t.output(0, cnt);
+    let l1 = t.output(1, cnt);
+    let l2 = t.output(2, cnt);
+    let l3 = t.output(3, cnt);
+    let m = outputs::drive_two(words, reals, pins, levels, cycles, 0, x, 0, s, l, l1, at);
+    outputs::drive_two(
+        words,
+        reals,
+        pins,
+        levels,
+        cycles,
+        m,
+        x,
+        2,
+        s + 2,
+        l2,
+        l3,
+        at,
+    )
+}
+
+// What follows from a compare that acts at once: the outputs driven at a count, the next event booked.
+fn follow_compare(
+    words: &mut [u64; WORDS],
+    reals: &mut [f64; REALS],
+    i: usize,
+    cnt: u32,
+    cycle: u64,
+    pins: &mut [u8],
+    levels: &mut [u8],
+    cycles: &mut [u64],
+) -> usize
+    requires { ⌜ i < 8 ⌝ }
+    requires { ⌜ (4 ≤ length (now pins)) × (4 ≤ length (now levels)) × (4 ≤ length (now cycles)) ⌝ }
+    ensures { λ r. ⌜ Leaves (after (view (now (words .entry)) (now (reals .entry))) i cycle true cnt false true) (view (now (words .exit)) (now (reals .exit))) (book (now (pins .entry)) (now (levels .entry)) (now (cycles .entry)) 0) (book (now (pins .exit)) (now (levels .exit)) (now (cycles .exit)) r) ⌝ }
+    ensures { λ r. ⌜ r ≤ 4 ⌝ }
+{
+    let k = drive_written(words, reals, pins, levels, cycles, i, cnt, cycle);
+    rcc::rebook(words, i, cycle);
+    state::set_last(words, cycle);
+    k
+}
+
 // CCR1 to CCR4, of which the table keeps alike: CCR1's entry serves all, and is a constant here. What the outputs are driven at is the
 // reference's counter: a written compare left the timer synced.
 fn write_compare(
@@ -195,20 +300,12 @@ fn write_compare(
     let ch = ((off - 0x34) / 4) as usize;
     let kept = v & regs::kept(13);
     let on = regfile::write_ccr(words, i, ch, kept, cycle);
+    if !on {
+        state::set_last(words, cycle);
+        return 0;
+    }
     let cnt = fields::cnt0(words, i);
-    let count = mmio::follow(
-        words,
-        reals,
-        i,
-        on,
-        cnt,
-        false,
-        on,
-        cycle,
-        pins,
-        levels,
-        cycles,
-    );
+    let count = follow_compare(words, reals, i, cnt, cycle, pins, levels, cycles);
     made(count)
 }
 
@@ -248,7 +345,7 @@ fn write_quick(
     levels: &mut [u8],
     cycles: &mut [u64],
 ) -> u64
-    requires { ⌜ (i < 8) × (cycle ≤ 4611686018427387904) ⌝ }
+    requires { ⌜ (i < 8) × (register off ≡ off) × (cycle ≤ 4611686018427387904) ⌝ }
     requires { ⌜ (4 ≤ length (now pins)) × (4 ≤ length (now levels)) × (4 ≤ length (now cycles)) ⌝ }
     ensures { λ r. ⌜ Answers (writtenBy (view (now (words .entry)) (now (reals .entry))) i off v cycle) (answerOf r) (now (words .entry)) (now (words .exit)) (now (reals .entry)) (now (reals .exit)) ⌝ }
     ensures { λ r. ⌜ Holds (writtenBy (view (now (words .entry)) (now (reals .entry))) i off v cycle .entries) (now (pins .entry)) (now (pins .exit)) (now (levels .entry)) (now (levels .exit)) (now (cycles .entry)) (now (cycles .exit)) (answerOf r .count) ⌝ }
@@ -258,7 +355,7 @@ fn write_quick(
         0x0c => write_dier(words, i, v, cycle),
         0x10 => write_sr(words, i, v, cycle),
         0x34..=0x40 => write_synced(words, reals, i, off, v, cycle, pins, levels, cycles),
-        _ => write_timer(words, reals, i, off, v, cycle, pins, levels, cycles),
+        _ => write_any(words, reals, i, off, 4, v, cycle, pins, levels, cycles),
     }
 }
 
@@ -289,12 +386,31 @@ fn write_on(
     ensures { λ r. ⌜ Answers (writtenOn (view (now (words .entry)) (now (reals .entry))) i offset size value cycle) (answerOf r) (now (words .entry)) (now (words .exit)) (now (reals .entry)) (now (reals .exit)) ⌝ }
     ensures { λ r. ⌜ Holds (writtenOn (view (now (words .entry)) (now (reals .entry))) i offset size value cycle .entries) (now (pins .entry)) (now (pins .exit)) (now (levels .entry)) (now (levels .exit)) (now (cycles .entry)) (now (cycles .exit)) (answerOf r .count) ⌝ }
 {
-    let off = offset / 4 * 4;
     if quick(size) {
-        return write_quick(words, reals, i, off, value, cycle, pins, levels, cycles);
+        return write_quick(
+            words,
+            reals,
+            i,
+            offset / 4 * 4,
+            value,
+            cycle,
+            pins,
+            levels,
+            cycles,
+        );
     }
-    let v = merged(words, i, offset, size, value, cycle);
-    write_timer(words, reals, i, off, v, cycle, pins, levels, cycles)
+    write_any(
+        words,
+        reals,
+        i,
+        offset,
+        size,
+        value,
+        cycle,
+        pins,
+        levels,
+        cycles,
+    )
 }
 
 // A write: nothing but the cycle of the last changing call while the timer's clock is off.

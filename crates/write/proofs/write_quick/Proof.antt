@@ -1,13 +1,13 @@
 -- One case for each short way, or the general one.
 use native.Mathlib.Omega.{arith}
 use Rattle.regs.proofs.Cases.{ccr-in}
-use Rattle.write.proofs.Laws.{at-reg, at-reg-book, dier-entries, no-entries, sr-entries}
+use Rattle.write.proofs.Laws.{as-whole, as-whole-book, at-reg, at-reg-book, dier-entries, no-entries, sr-entries}
 use borrow.Author.Needs.{needs}
 use Rattle.write.proofs.write_quick.Statement.{statement}
 use Rattle.write.proofs.write_quick.Tie as tie
 
 write-synced-requires : tie.Need-write-synced-requires
-write-synced-requires c κs = let s = c .before .before .before .before .before .before .before .before .before in let k = c .before .before .before .before .before .match .keys1 in ((s .pre .0 .0, (λ n. absurd (n k)), s .pre .0 .1), s .pre .1)
+write-synced-requires c κs = let s = c .before .before .before .before .before .before .before .before .before in let k = c .before .before .before .before .before .match .keys1 in ((s .pre .0 .0, (λ n. absurd (n k)), s .pre .0 .2), s .pre .1)
 
 write-dier-requires : tie.Need-write-dier-requires
 write-dier-requires c κs = search needs
@@ -16,10 +16,10 @@ write-sr-requires : tie.Need-write-sr-requires
 write-sr-requires c κs = search needs
 
 write-synced-requires-2 : tie.Need-write-synced-requires-2
-write-synced-requires-2 c κs = let s = c .before .before .before .before .before .before .before .before .before .before .before in ((s .pre .0 .0, (λ n. ccr-in (s .args .off) (omega (arith, c .before .before .before .before .before .before .if1 .left)) (omega (arith, c .before .before .before .before .before .if2 .taken))), s .pre .0 .1), s .pre .1)
+write-synced-requires-2 c κs = let s = c .before .before .before .before .before .before .before .before .before .before .before in ((s .pre .0 .0, (λ n. ccr-in (s .args .off) (omega (arith, c .before .before .before .before .before .before .if1 .left)) (omega (arith, c .before .before .before .before .before .if2 .taken))), s .pre .0 .2), s .pre .1)
 
-write-timer-requires : tie.Need-write-timer-requires
-write-timer-requires c κs = search needs
+write-any-requires : tie.Need-write-any-requires
+write-any-requires c κs = let s = c .before .before .before .before .before .before .before .before .before .before in ((s .pre .0 .0, omega arith, s .pre .0 .2), s .pre .1)
 
 same-length : tie.Need-same-length
 same-length c = search needs
@@ -67,7 +67,10 @@ same-length-9 : tie.Need-same-length-9
 same-length-9 c = search needs
 
 returns-5 : tie.Need-returns-5
-returns-5 c = search needs
+returns-5 c =
+    let f = c .before .before .before .before .before .before .write-any .ensures in
+    let s = c .before .before .before .before .before .before .before .before .before .before .before .before .before .before .before .before .before in
+    (as-whole (s .args .words .now) (s .args .reals .now) (s .args .i) (s .args .off) (s .args .v) (s .args .cycle) (s .pre .0 .1) _ _ _ (f .0), as-whole-book (s .args .words .now) (s .args .reals .now) (s .args .i) (s .args .off) (s .args .v) (s .args .cycle) (s .pre .0 .1) _ _ _ _ _ _ _ (f .1))
 
 pub write-quick-spec : {M : Type 1} → statement M
 write-quick-spec =
@@ -77,7 +80,7 @@ write-quick-spec =
     write-dier-requires
     write-sr-requires
     write-synced-requires-2
-    write-timer-requires
+    write-any-requires
     same-length
     same-length-2
     same-length-3
