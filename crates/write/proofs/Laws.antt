@@ -20,9 +20,10 @@ use Rattle.regs.specs.Regs as R
 use Rattle.tim.proofs.Fit.{either}
 use Rattle.regs.proofs.Fixed.{inst-written}
 use Rattle.periph.specs.Lane.{laneWrite}
-use Rattle.book.specs.Book.{Entry, Book, book, Holds, Lent, Room}
+use Rattle.book.specs.Book.{Entry, Book, book, Holds, Lent, Room, puts}
 use Rattle.book.proofs.Laws.{holds}
 use Rattle.machine.specs.Board.{Board, timerAt, withTimer, withLast}
+use Rattle.machine.specs.Sys.{driveOutputs}
 use Rattle.machine.specs.Deliver.{dividerOf, lineSettled, rebooked}
 use Rattle.machine.specs.Call.{Call, Outcome, write, served}
 use Rattle.machine.specs.Step.{step, refuseIf, clockOn, register, present, written, counterAstray, followed}
@@ -37,7 +38,8 @@ use Rattle.answer.specs.Promise.{answer, Answers}
 use Rattle.machine.proofs.NumberLaws.{given, passing}
 use Rattle.answer.proofs.Given.{first-front, away, gives, turns-away, turns-away-book, unbooked}
 use Rattle.mmio.specs.Leaves.{Leaves, after}
-use Rattle.mmio.proofs.Laws.{asked, after-stored}
+use Rattle.mmio.proofs.Laws.{asked, after-stored, drives-on, follows}
+use Rattle.outputs.specs.Outputs as O
 use Rattle.fields.specs.Field.{withReg}
 use Rattle.fields.proofs.Words.{same-timer}
 use Rattle.write.specs.Writes.{writtenBy, writtenOn, answerOf}
@@ -108,6 +110,18 @@ module _ (w : List ℕ) (x : List Float) (i offset size value cycle v : ℕ)
   pub on-merged-book : (s s₁ : Lent) (k : ℕ) → Holds (writtenBy (view w x) i (register offset) v cycle .entries) s s₁ k
       → Holds (writtenOn (view w x) i offset size value cycle .entries) s s₁ k
   on-merged-book s s₁ k m = subst (λ (z : ℕ). Holds (writtenBy (view w x) i (register offset) z cycle .entries) s s₁ k) e m
+
+-- a whole write of a register
+module _ (w : List ℕ) (x : List Float) (i off v cycle : ℕ) (e : register off ≡ off) where
+  whole-by : writtenOn (view w x) i off 4 v cycle ≡ writtenBy (view w x) i off v cycle
+  unfolding laneWrite
+  whole-by = ap (λ (k : ℕ). writtenBy (view w x) i k v cycle) e
+
+  pub as-whole : (r : Answer) (w₁ : List ℕ) (x₁ : List Float) → Answers (writtenOn (view w x) i off 4 v cycle) r w w₁ x x₁ → Answers (writtenBy (view w x) i off v cycle) r w w₁ x x₁
+  as-whole r w₁ x₁ m = subst (λ (o : Outcome). Answers o r w w₁ x x₁) whole-by m
+
+  pub as-whole-book : (s s₁ : Lent) (k : ℕ) → Holds (writtenOn (view w x) i off 4 v cycle .entries) s s₁ k → Holds (writtenBy (view w x) i off v cycle .entries) s s₁ k
+  as-whole-book s s₁ k m = subst (λ (o : Outcome). Holds (o .entries) s s₁ k) whole-by m
 
 -- a whole write is its value
 pub whole : (old offset size value : ℕ) → size ≡ 4 → value ≡ laneWrite old offset size value
@@ -243,6 +257,17 @@ at-count : (b : Board) (i cycle cnt cnt₁ : ℕ) (driven lined booked : Bool) �
 unfolding followed
 at-count b i cycle cnt cnt₁ true lined booked h = ap (λ (n : ℕ). after b i cycle true n lined booked) (h refl)
 at-count b i cycle cnt cnt₁ false lined booked h = refl
+
+-- a compare that waits: nothing follows
+pub waits-follow : (b b₁ : Board) (i cycle : ℕ) (k : Book) → b₁ ≡ withLast b cycle → Leaves (after b i cycle false 0 false false) b₁ k k
+unfolding followed puts
+waits-follow b b₁ i cycle k e = record { board = e ∙ ap (λ (y : Board). withLast y cycle) (sym (same-timer b i)); entries = refl }
+
+-- one that acts at once
+pub acts-follow : (b b₂ b₃ b₄ : Board) (i cycle cnt : ℕ) (k k₁ : Book) → O.Driven (driveOutputs (timerAt b i) cnt (b .pads)) cycle b b₂ k k₁
+    → b₃ ≡ rebooked i (timerAt b₂ i) cycle b₂ → b₄ ≡ withLast b₃ cycle → Leaves (after b i cycle true cnt false true) b₄ k k₁
+acts-follow b b₂ b₃ b₄ i cycle cnt k k₁ d e₃ e₄ =
+    follows b b₂ b₂ b₃ b₄ i cycle cnt true false true k k₁ (drives-on true (timerAt b i) cnt cycle b b₂ k k₁ refl d) refl e₃ e₄
 
 pub compare-follows : (b b₁ : Board) (i ch v cycle cnt : ℕ) (on : Bool) → i < length (b .timers)
     → b₁ ≡ withTimer b i (R.ccrWritten (timerAt b i) ch v cycle .timer) → on ≡ R.ccrWritten (timerAt b i) ch v cycle .drive

@@ -4,7 +4,7 @@ use state::REALS;
 use state::WORDS;
 use tim::Timer;
 ghost use mathlib.Core.Path.{_≡_};
-ghost use mathlib.Core.Bool.{true};
+ghost use mathlib.Core.Bool.{true, false};
 ghost use mathlib.Core.List.{List};
 ghost use Prim.Native.Nat.{_<_, _≤_};
 ghost use lib.Ieee.{Float};
@@ -12,11 +12,14 @@ ghost use lib.ListN.{length};
 ghost use Rattle.regs.specs.Regs as R;
 ghost use Rattle.periph.specs.Lane.{laneWrite};
 ghost use Rattle.state.specs.View.{view};
-ghost use Rattle.book.specs.Book.{places, Holds, slices, Room};
+ghost use Rattle.book.specs.Book.{book, places, Holds, slices, Room};
 ghost use Rattle.machine.specs.Board.{timerAt};
 ghost use Rattle.machine.specs.Call as Call;
 ghost use Rattle.machine.specs.Step.{step, register, present, counterAstray};
+ghost use Rattle.machine.specs.Sys.{driveOutputs};
 ghost use Rattle.answer.specs.Promise.{answer, Answers};
+ghost use Rattle.outputs.specs.Outputs as O;
+ghost use Rattle.mmio.specs.Leaves.{Leaves, after};
 ghost use Rattle.write.specs.Writes.{quick, writtenBy, writtenOn, answerOf};
 
 // The register's present value, 0 for EGR.
@@ -30,11 +33,14 @@ fn present(words: &[u64; WORDS], i: usize, off: u32, cycle: u64) -> u32
     mmio::lane_of(words, i, off, 4, cycle)
 }
 
-// The lane merged into its register.
+// The lane merged into its register. A whole write needs no present value.
 fn merged(words: &[u64; WORDS], i: usize, offset: u32, size: u32, value: u32, cycle: u64) -> u32
     requires { ⌜ (i < 8) × (size ≤ 4) × (cycle < 9223372036854775808) ⌝ }
     ensures { λ r. ⌜ ((x : List Float) → r ≡ laneWrite (present (timerAt (view (now (words .entry)) x) i) (register offset) cycle) offset size value) ⌝ }
 {
+    if size == 4 {
+        return value;
+    }
     let old = present(words, i, offset / 4 * 4, cycle);
     periph::lane_write(old, offset, size as u8, value)
 }
@@ -169,6 +175,76 @@ fn write_sr(words: &mut [u64; WORDS], i: usize, v: u32, cycle: u64) -> u64
     0
 }
 
+// Drives the outputs of timer i at a count, and writes their changes to the book from place 0 on: outputs' `drive_outputs`, written out
+// once more for one caller. So it is compiled into a write of a compare, which changes a pilot's duty: called instead, by way of
+// `mmio::follow`, a write of CCR1 takes 1.06 of the Rust's time.
+fn drive_written(
+    words: &mut [u64; WORDS],
+    reals: &mut [f64; REALS],
+    pins: &mut [u8],
+    levels: &mut [u8],
+    cycles: &mut [u64],
+    i: usize,
+    cnt: u32,
+    at: u64,
+) -> usize
+    requires { ⌜ i < 8 ⌝ }
+    requires { ⌜ Room 4 (slices (now pins) (now levels) (now cycles)) ⌝ }
+    ensures { λ r. ⌜ O.Driven (driveOutputs (timerAt (view (now (words .entry)) (now (reals .entry))) i) cnt (view (now (words .entry)) (now (reals .entry)) .pads)) at (view (now (words .entry)) (now (reals .entry))) (view (now (words .exit)) (now (reals .exit))) (book (slices (now (pins .entry)) (now (levels .entry)) (now (cycles .entry))) 0) (book (slices (now (pins .exit)) (now (levels .exit)) (now (cycles .exit))) r) ⌝ }
+    ensures { λ r. ⌜ r ≤ 4 ⌝ }
+{
+    let t = state::load_timer(words, i);
+    if t.inst.n < 2 {
+        return 0;
+    }
+    if t.inst.n > 4 {
+        return 0;
+    }
+    let s = sig::tim(t.inst.n as u8, 0) as usize;
+    let x = t.inst.channels;
+    let l = t.output(0, cnt);
+    let l1 = t.output(1, cnt);
+    let l2 = t.output(2, cnt);
+    let l3 = t.output(3, cnt);
+    let m = outputs::drive_two(words, reals, pins, levels, cycles, 0, x, 0, s, l, l1, at);
+    outputs::drive_two(
+        words,
+        reals,
+        pins,
+        levels,
+        cycles,
+        m,
+        x,
+        2,
+        s + 2,
+        l2,
+        l3,
+        at,
+    )
+}
+
+// What follows from a compare that acts at once: the outputs driven at a count, the next event booked.
+fn follow_compare(
+    words: &mut [u64; WORDS],
+    reals: &mut [f64; REALS],
+    i: usize,
+    cnt: u32,
+    cycle: u64,
+    pins: &mut [u8],
+    levels: &mut [u8],
+    cycles: &mut [u64],
+) -> usize
+    requires { ⌜ i < 8 ⌝ }
+    requires { ⌜ Room 4 (slices (now pins) (now levels) (now cycles)) ⌝ }
+    ensures { λ r. ⌜ Leaves (after (view (now (words .entry)) (now (reals .entry))) i cycle true cnt false true) (view (now (words .exit)) (now (reals .exit))) (book (slices (now (pins .entry)) (now (levels .entry)) (now (cycles .entry))) 0) (book (slices (now (pins .exit)) (now (levels .exit)) (now (cycles .exit))) r) ⌝ }
+    ensures { λ r. ⌜ r ≤ 4 ⌝ }
+{
+    let k = drive_written(words, reals, pins, levels, cycles, i, cnt, cycle);
+    context::rebook(words, i, cycle);
+    state::set_last(words, cycle);
+    k
+}
+
 // CCR1 to CCR4, of which the table keeps alike: CCR1's entry serves all, and is a constant here. What the outputs are driven at is the
 // reference's counter: a written compare left the timer synced.
 fn write_compare(
@@ -195,49 +271,19 @@ fn write_compare(
     let ch = ((off - 0x34) / 4) as usize;
     let kept = v & regs::kept(13);
     let on = regfile::write_ccr(words, i, ch, kept, cycle);
+    if !on {
+        state::set_last(words, cycle);
+        return 0;
+    }
     let cnt = fields::cnt0(words, i);
-    let count = mmio::follow(
-        words,
-        reals,
-        i,
-        on,
-        cnt,
-        false,
-        on,
-        cycle,
-        pins,
-        levels,
-        cycles,
-    );
+    let count = follow_compare(words, reals, i, cnt, cycle, pins, levels, cycles);
     made(count)
 }
 
-// CR1 or a compare: these move the timer's reference. Two arms call it, so it is not compiled into the write of a flag register, which
-// is spared what it keeps.
-fn write_synced(
-    words: &mut [u64; WORDS],
-    reals: &mut [f64; REALS],
-    i: usize,
-    off: u32,
-    v: u32,
-    cycle: u64,
-    pins: &mut [u8],
-    levels: &mut [u8],
-    cycles: &mut [u64],
-) -> u64
-    requires { ⌜ (i < 8) × ((off ≡ 0 → ⊥) → R.isCcr off ≡ true) × (cycle ≤ 4611686018427387904) ⌝ }
-    requires { ⌜ Room 4 (slices (now pins) (now levels) (now cycles)) ⌝ }
-    ensures { λ r. ⌜ Answers (writtenBy (view (now (words .entry)) (now (reals .entry))) i off v cycle) (answerOf r) (now (words .entry)) (now (words .exit)) (now (reals .entry)) (now (reals .exit)) ⌝ }
-    ensures { λ r. ⌜ Holds (writtenBy (view (now (words .entry)) (now (reals .entry))) i off v cycle .entries) (slices (now (pins .entry)) (now (levels .entry)) (now (cycles .entry))) (slices (now (pins .exit)) (now (levels .exit)) (now (cycles .exit))) (answerOf r .count) ⌝ }
-{
-    if off == 0 {
-        return write_cr1(words, reals, i, v, cycle, pins, levels, cycles);
-    }
-    write_compare(words, reals, i, off, v, cycle, pins, levels, cycles)
-}
+// ---- a write by its register
 
-// A write of the value v to register off: by its short way, or by the general one.
-fn write_quick(
+// A write of the value v to register off: CR1 and the compares by their short ways, all others by the general one.
+fn write_other(
     words: &mut [u64; WORDS],
     reals: &mut [f64; REALS],
     i: usize,
@@ -254,11 +300,69 @@ fn write_quick(
     ensures { λ r. ⌜ Holds (writtenBy (view (now (words .entry)) (now (reals .entry))) i off v cycle .entries) (slices (now (pins .entry)) (now (levels .entry)) (now (cycles .entry))) (slices (now (pins .exit)) (now (levels .exit)) (now (cycles .exit))) (answerOf r .count) ⌝ }
 {
     match off {
-        0x00 => write_synced(words, reals, i, off, v, cycle, pins, levels, cycles),
+        0x00 => write_cr1(words, reals, i, v, cycle, pins, levels, cycles),
+        0x34..=0x40 => write_compare(words, reals, i, off, v, cycle, pins, levels, cycles),
+        _ => write_timer(words, reals, i, off, v, cycle, pins, levels, cycles),
+    }
+}
+
+// A write of any size: the lane merged, then by its register. This, CR1's way and the compares' have two callers, so none is compiled into
+// the write of a flag register, which is spared what they keep: a whole write of DIER takes 1.04 of the Rust's time with the lane's
+// merging compiled in.
+fn write_any(
+    words: &mut [u64; WORDS],
+    reals: &mut [f64; REALS],
+    i: usize,
+    offset: u32,
+    size: u32,
+    value: u32,
+    cycle: u64,
+    pins: &mut [u8],
+    levels: &mut [u8],
+    cycles: &mut [u64],
+) -> u64
+    requires { ⌜ (i < 8) × (size ≤ 4) × (cycle ≤ 4611686018427387904) ⌝ }
+    requires { ⌜ Room 4 (slices (now pins) (now levels) (now cycles)) ⌝ }
+    ensures { λ r. ⌜ Answers (writtenOn (view (now (words .entry)) (now (reals .entry))) i offset size value cycle) (answerOf r) (now (words .entry)) (now (words .exit)) (now (reals .entry)) (now (reals .exit)) ⌝ }
+    ensures { λ r. ⌜ Holds (writtenOn (view (now (words .entry)) (now (reals .entry))) i offset size value cycle .entries) (slices (now (pins .entry)) (now (levels .entry)) (now (cycles .entry))) (slices (now (pins .exit)) (now (levels .exit)) (now (cycles .exit))) (answerOf r .count) ⌝ }
+{
+    let v = merged(words, i, offset, size, value, cycle);
+    write_other(
+        words,
+        reals,
+        i,
+        offset / 4 * 4,
+        v,
+        cycle,
+        pins,
+        levels,
+        cycles,
+    )
+}
+
+// A whole write of the value v to register off: by its short way, or as any other write.
+fn write_quick(
+    words: &mut [u64; WORDS],
+    reals: &mut [f64; REALS],
+    i: usize,
+    off: u32,
+    v: u32,
+    cycle: u64,
+    pins: &mut [u8],
+    levels: &mut [u8],
+    cycles: &mut [u64],
+) -> u64
+    requires { ⌜ (i < 8) × (register off ≡ off) × (cycle ≤ 4611686018427387904) ⌝ }
+    requires { ⌜ Room 4 (slices (now pins) (now levels) (now cycles)) ⌝ }
+    ensures { λ r. ⌜ Answers (writtenBy (view (now (words .entry)) (now (reals .entry))) i off v cycle) (answerOf r) (now (words .entry)) (now (words .exit)) (now (reals .entry)) (now (reals .exit)) ⌝ }
+    ensures { λ r. ⌜ Holds (writtenBy (view (now (words .entry)) (now (reals .entry))) i off v cycle .entries) (slices (now (pins .entry)) (now (levels .entry)) (now (cycles .entry))) (slices (now (pins .exit)) (now (levels .exit)) (now (cycles .exit))) (answerOf r .count) ⌝ }
+{
+    match off {
+        0x00 => write_cr1(words, reals, i, v, cycle, pins, levels, cycles),
         0x0c => write_dier(words, i, v, cycle),
         0x10 => write_sr(words, i, v, cycle),
-        0x34..=0x40 => write_synced(words, reals, i, off, v, cycle, pins, levels, cycles),
-        _ => write_timer(words, reals, i, off, v, cycle, pins, levels, cycles),
+        0x34..=0x40 => write_compare(words, reals, i, off, v, cycle, pins, levels, cycles),
+        _ => write_any(words, reals, i, off, 4, v, cycle, pins, levels, cycles),
     }
 }
 
@@ -289,12 +393,31 @@ fn write_on(
     ensures { λ r. ⌜ Answers (writtenOn (view (now (words .entry)) (now (reals .entry))) i offset size value cycle) (answerOf r) (now (words .entry)) (now (words .exit)) (now (reals .entry)) (now (reals .exit)) ⌝ }
     ensures { λ r. ⌜ Holds (writtenOn (view (now (words .entry)) (now (reals .entry))) i offset size value cycle .entries) (slices (now (pins .entry)) (now (levels .entry)) (now (cycles .entry))) (slices (now (pins .exit)) (now (levels .exit)) (now (cycles .exit))) (answerOf r .count) ⌝ }
 {
-    let off = offset / 4 * 4;
     if quick(size) {
-        return write_quick(words, reals, i, off, value, cycle, pins, levels, cycles);
+        return write_quick(
+            words,
+            reals,
+            i,
+            offset / 4 * 4,
+            value,
+            cycle,
+            pins,
+            levels,
+            cycles,
+        );
     }
-    let v = merged(words, i, offset, size, value, cycle);
-    write_timer(words, reals, i, off, v, cycle, pins, levels, cycles)
+    write_any(
+        words,
+        reals,
+        i,
+        offset,
+        size,
+        value,
+        cycle,
+        pins,
+        levels,
+        cycles,
+    )
 }
 
 // A write: nothing but the cycle of the last changing call while the timer's clock is off.
