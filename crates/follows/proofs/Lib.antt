@@ -1,0 +1,16 @@
+pub mod Leap
+pub mod Place
+pub mod Periodic
+pub mod Edge
+pub mod First
+pub mod Dir
+pub mod Centre
+pub mod Event
+pub mod Late
+pub mod Port
+pub mod Between
+pub mod Turn
+pub mod Match
+pub mod After
+pub mod Deliver
+pub mod Output
