@@ -37,7 +37,7 @@ event-runs : (m : Bool) (t : Timer) → moves m t ≡ true → nextEvent m t ≡
 unfolding nextEvent
 event-runs m t e = ap (λ (b : Bool). cond b (At (t .count .base + nextSteps m t .steps * t .count .tick) (nextSteps m t .next)) Stopped) e
 
-event-stopped : (m : Bool) (t : Timer) → moves m t ≡ false → nextEvent m t ≡ Stopped
+pub event-stopped : (m : Bool) (t : Timer) → moves m t ≡ false → nextEvent m t ≡ Stopped
 unfolding nextEvent
 event-stopped m t e = ap (λ (b : Bool). cond b (At (t .count .base + nextSteps m t .steps * t .count .tick) (nextSteps m t .next)) Stopped) e
 
@@ -60,7 +60,7 @@ module _ (m : Bool) where
   unmet true false false d h = refl
   unmet true true false d h = refl
 
-  mute : (s : M.Timer) → going (manualMode m) s ≡ false → Silent (manualMode m) s
+  pub mute : (s : M.Timer) → going (manualMode m) s ≡ false → Silent (manualMode m) s
   mute s e = record { q0 = q 0; q1 = q 1; q2 = q 2; q3 = q 3 }
     where
       q : (ch : ℕ) → meets (manualMode m) s ch ≡ false
@@ -76,17 +76,17 @@ module _ (m : Bool) where
         go true p true q = rw (p, q)
         go true p false q = absurd (let f : not (stuck m t) && t .count .running ≡ true = rw (q, p) in let z : _≡_ {A = ℕ} 0 1 = cc in omega arith)
 
-    still : (n : ℕ) → clocks (manualMode m) n (raw t) ≡ raw t
+    pub still : (n : ℕ) → clocks (manualMode m) n (raw t) ≡ raw t
     unfolding clocks
     still zero = refl
     still (suc n) = ap (clock (manualMode m)) (still n) ∙ rests
 
-    deliver-stopped : (f c div : ℕ) → deliver m f c div t ≡ t
+    pub deliver-stopped : (f c div : ℕ) → deliver m f c div t ≡ t
     unfolding deliver
     deliver-stopped zero c div = refl
     deliver-stopped (suc f) c div = rw (event-stopped m t e)
 
-    seen-stopped : (div c : ℕ) → raw t ≡ seen m t div c
+    pub seen-stopped : (div c : ℕ) → raw t ≡ seen m t div c
     unfolding cntAt cr1At
     seen-stopped div c = rw e
 
@@ -400,7 +400,7 @@ module _ (m : Bool) where
             go zero e = absurd (omega (arith, w .timed, w .pos))
             go (suc x) e = omega arith
 
-    from-there : (f n c : ℕ) → clocksAt t div c ≡ n → t .count .base ≤ c → dueBy (nextEvent m (deliver m f c div t)) c ≡ false
+    pub from-there : (f n c : ℕ) → clocksAt t div c ≡ n → t .count .base ≤ c → dueBy (nextEvent m (deliver m f c div t)) c ≡ false
         → clocks (manualMode m) n (matched (manualMode m) (Leap.at (raw t) 0 0)) ≡ seen m (deliver m f c div t) div c
     from-there f n c is b d =
         let e : n ≡ n - 0 * per t = omega arith in

@@ -14,3 +14,10 @@ pub mod Match
 pub mod After
 pub mod Deliver
 pub mod Output
+pub mod Instances
+pub mod Delivered
+pub mod Standing
+pub mod Acting
+pub mod Control
+pub mod Generated
+pub mod Written

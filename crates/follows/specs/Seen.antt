@@ -5,6 +5,7 @@ use mathlib.Core.Bool.{Bool, true, false, cond}
 use mathlib.Core.List.{[], _∷_}
 use lib.Dec.{leb}
 use lib.ListN.{length}
+use Rattle.rm0440.specs.Bits.{CEN}
 use Rattle.rm0440.specs.Counter.{stepCycles, stepsBetween}
 use Rattle.rm0440.specs.State as M
 use Rattle.tim.specs.declared.Timer.{Timer}
@@ -52,10 +53,11 @@ seen t div c = M.withCount (raw t) (t .count .running) (cond (t .count .running)
 
 -- ---- the timers that it is a view of
 
--- its step is that of its prescaler and divider; the record of matches has four places
+-- its step is that of its prescaler and divider, without CEN it stands, and its record of matches has four places
 pub record Timed (t : Timer) (div : ℕ) : Type 0 where
   pub pos : 0 < div
   pub timed : t .count .tick ≡ stepCycles (t .count .«psc_act») div
+  pub halted : CEN (t .regs .cr1) ≡ false → t .count .running ≡ false
   pub sized : length (t .chan .«cc_done») ≡ 4
 
 -- running, its counter is within the reload (docs/DIFFERENCES.md, above-reload upward, clamp-down downward)
