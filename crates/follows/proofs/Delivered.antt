@@ -32,10 +32,10 @@ use Rattle.follows.proofs.Instances.{cnt-at, seen-is, next-is, event-is
 due-is : (t : Timer) (c : ℕ) → dueBy (nextEvent t) c ≡ false → dueBy (Port.nextEvent false t) c ≡ false
 due-is t c d = ap (λ (e : Due). dueBy e c) (event-is t) ∙ d
 
-left-is : (f c div : ℕ) (t : Timer) → dueBy (nextEvent (deliver f c div t)) c ≡ false → dueBy (Port.nextEvent false (Port.deliver false f c div t)) c ≡ false
+pub left-is : (f c div : ℕ) (t : Timer) → dueBy (nextEvent (deliver f c div t)) c ≡ false → dueBy (Port.nextEvent false (Port.deliver false f c div t)) c ≡ false
 left-is f c div t d = ap (λ (u : Timer). dueBy (Port.nextEvent false u) c) (deliver-is f c div t) ∙ due-is (deliver f c div t) c d
 
-seen-left : (f c div : ℕ) (t : Timer) → Port.seen false (Port.deliver false f c div t) div c ≡ seen (deliver f c div t) div c
+pub seen-left : (f c div : ℕ) (t : Timer) → Port.seen false (Port.deliver false f c div t) div c ≡ seen (deliver f c div t) div c
 seen-left f c div t = ap (λ (u : Timer). Port.seen false u div c) (deliver-is f c div t) ∙ seen-is (deliver f c div t) div c
 
 module _ (t : Timer) (div : ℕ) (w : Timed t div) (h : Within t) where

@@ -20,4 +20,8 @@ pub mod Standing
 pub mod Acting
 pub mod Control
 pub mod Generated
+pub mod Ports
+pub mod Lasting
 pub mod Written
+pub mod Settled
+pub mod Theorem

@@ -64,6 +64,11 @@ pub record Timed (t : Timer) (div : ℕ) : Type 0 where
 abbrev pub Within : Timer → Type 0
 Within t = t .count .running ≡ true → t .count .cnt0 ≤ t .count .«arr_act»
 
+-- a timer that a call at a cycle leaves: its reference is not later
+pub record Left (div now : ℕ) (t : Timer) : Type 0 where
+  pub timed : Timed t div
+  pub based : t .count .base ≤ now
+
 -- ---- the port's delivery: so many events at most, up to cycle c (crates/machine, Deliver.run)
 
 -- the next event is due by cycle c; a stopped timer has none
