@@ -25,3 +25,4 @@ pub mod Lasting
 pub mod Written
 pub mod Settled
 pub mod Theorem
+pub mod Met
