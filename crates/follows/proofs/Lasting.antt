@@ -2,15 +2,17 @@
 use Prim.Native.Nat.{ℕ, _+_, _*_, _≤_, _<_}
 use mathlib.Core.Path.{_≡_, refl, sym, ap, _∙_}
 use mathlib.Core.Bool.{Bool, true, false, cond}
+use native.Mathlib.Nat.{le-refl}
 use native.Mathlib.Omega.{arith}
 use lib.ListN.{length-set}
 use Rattle.rm0440.specs.Bits.{CEN, UDIS, OPM}
 use Rattle.tim.specs.declared.Timer.{Timer}
 use Rattle.tim.specs.declared.Inst.{Inst}
+use Rattle.tim.specs.Timer.{down}
 use Rattle.tim.specs.Count.{synced}
 use Rattle.tim.specs.Change as T
 use Rattle.stepping.proofs.Agrees.{sync-base}
-use Rattle.follows.specs.Seen.{Timed, Left}
+use Rattle.follows.specs.Seen.{Timed, Within, Left}
 use Rattle.follows.proofs.Standing.{either-sync}
 
 module _ (t : Timer) (div : ℕ) (w : Timed t div) where
@@ -49,6 +51,19 @@ module _ (t : Timer) (div : ℕ) (w : Timed t div) where
         (λ e. record { pos = p; timed = refl; halted = w .halted; sized = w .sized }) (λ e. record { pos = p; timed = refl; halted = w .halted; sized = w .sized });
     based = sync-base t now b;
   }
+
+-- an update leaves the counter within the reload
+pub updated-within : (t : Timer) (x div : ℕ) → Within (T.updated t x div)
+unfolding T.updated T.reloaded T.restarted T.recomputedAfterUpdate T.ended
+updated-within t x div r = go (UDIS (t .regs .cr1))
+  where
+    either : (d : Bool) (a : ℕ) → cond d a 0 ≤ a
+    either true a = le-refl a
+    either false a = omega arith
+
+    go : (u : Bool) → T.restarted (cond u t (T.withFlag (T.loaded t) 1)) x div .count .cnt0 ≤ T.restarted (cond u t (T.withFlag (T.loaded t) 1)) x div .count .«arr_act»
+    go true = either (down t) (t .count .«arr_act»)
+    go false = either (down t) (t .regs .arr)
 
 pub left-reset : (i : Inst) (div now : ℕ) → 0 < div → Left div now (T.resetState i div)
 unfolding T.resetState

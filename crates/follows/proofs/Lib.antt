@@ -25,4 +25,4 @@ pub mod Lasting
 pub mod Written
 pub mod Settled
 pub mod Theorem
-pub mod Met
+pub mod Lists

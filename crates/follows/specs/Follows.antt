@@ -6,6 +6,7 @@ use Prim.Native.Nat.{ℕ, suc, _+_, _-_, _%_, _≤_, _<_}
 use mathlib.Core.Path.{_≡_}
 use mathlib.Core.Bool.{true, false, cond}
 use lib.ListN.{getD}
+use Rattle.rm0440.specs.Counter.{tickUp, tickDown, after}
 use Rattle.rm0440.specs.Rules.{Rules, manual, rust}
 use Rattle.rm0440.specs.State as M
 use Rattle.rm0440.specs.Clock.{clock, clocks}
@@ -16,10 +17,12 @@ use Rattle.rm0440.specs.Late.{passes}
 use Rattle.rm0440.specs.Cases.{Outside}
 use Rattle.rm0440.specs.WriteCases.{OutsideWrite}
 use Rattle.tim.specs.declared.Timer.{Timer}
+use Rattle.tim.specs.declared.Next.the-variants.{Update}
+use Rattle.tim.specs.declared.Due.the-variants.{At}
 use Rattle.tim.specs.Timer.{down, isOutput, ccrAct}
 use Rattle.tim.specs.Count.{ticksAt, cntAt, synced}
-use Rattle.tim.specs.Next.{nextSteps, nextEvent}
-use Rattle.tim.specs.Change.{output, resetState, retimed}
+use Rattle.tim.specs.Next.{updateSteps, nextSteps, nextEvent}
+use Rattle.tim.specs.Change.{updated, output, resetState, retimed}
 use Rattle.regs.specs.Regs.{regRead, regWritten}
 use Rattle.follows.specs.Seen.{clocksAt, per, seen, Timed, Within, dueBy, deliver}
 
@@ -89,6 +92,23 @@ Retimes =
 abbrev pub Goes : Type 0
 Goes = (t : Timer) (div off v now : ℕ) → Call t div now → Within (regWritten t off v now div .timer) → Call (regWritten t off v now div .timer) div now
 
+-- ---- the two cases that no view shows: a running counter above its reload, after which an update leaves it within
+
+-- above-reload: upward at the reload + 1 it reads as from 0, and the update is due at once
+abbrev pub AboveReload : Type 0
+AboveReload =
+    (t : Timer) (c : ℕ) → t .count .running ≡ true → down t ≡ false → t .count .cnt0 ≡ t .count .«arr_act» + 1
+    → (cntAt t c ≡ after (tickUp (t .count .«arr_act»)) (ticksAt t c) 0) × (nextEvent t ≡ At (t .count .base) Update)
+
+-- clamp-down: downward it reads as from the reload, and the update comes when the counter itself would have come down
+abbrev pub ClampDown : Type 0
+ClampDown =
+    (t : Timer) (c : ℕ) → t .count .running ≡ true → down t ≡ true → t .count .«arr_act» < t .count .cnt0
+    → (cntAt t c ≡ after (tickDown (t .count .«arr_act»)) (ticksAt t c) (t .count .«arr_act»)) × (updateSteps t ≡ t .count .cnt0 + 1)
+
+abbrev pub Ends : Type 0
+Ends = (t : Timer) (x div : ℕ) → Within (updated t x div)
+
 -- ---- the cases
 
 -- a state whose reload in use fits the timer's width
@@ -120,6 +140,9 @@ pub record Follows : Type 0 where
   pub resets : Resets
   pub retimes : Retimes
   pub goes : Goes
+  pub above-reload : AboveReload
+  pub clamp-down : ClampDown
+  pub ends : Ends
   -- "with its exact cases"
   pub clocks-agree : ClocksAgree
   pub writes-agree : WritesAgree

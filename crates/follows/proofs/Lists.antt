@@ -8,13 +8,13 @@ use Rattle.rm0440.specs.Output.{ocref, atMatch}
 use Rattle.rm0440.specs.Rules.{manual, rust}
 use Rattle.rm0440.specs.State.{Timer}
 use Rattle.rm0440.specs.Clock.{wraps, restarted, pulseEnded, updateEvent, wrapped, matched, stepped, clock, clocks}
-use Rattle.rm0440.specs.Write.{answered, keptCr1, newCr1, leftCr1, writeCr1, writeEgr, leftCnt, writeCnt, leftArr, writeArr, storedCcmr, writeCcmr, writeCcr, writeChannel, write}
+use Rattle.rm0440.specs.Write.{answered, keptCr1, newCr1, writeCr1, writeEgr, leftCnt, writeCnt, leftArr, writeArr, storedCcmr, writeCcmr, writeCcr, writeChannel, write}
 use Rattle.rm0440.specs.Cases as C
 use Rattle.rm0440.specs.Cases.{some}
 use Rattle.rm0440.specs.WriteCases as W
 
 -- a timer of 32 bits with one channel, out of reset
-abbrev t0 : Timer
+abbrev pub t0 : Timer
 t0 = record {
   channels = 1;
   max = 4294967295;
@@ -34,30 +34,27 @@ t0 = record {
 }
 
 -- a write, and clocks, by the Rust's rules
-abbrev w : ℕ → ℕ → Timer → Timer
+abbrev pub w : ℕ → ℕ → Timer → Timer
 w off v t = write rust off v t
 
-abbrev after : ℕ → Timer → Timer
+abbrev pub after : ℕ → Timer → Timer
 after n t = clocks rust n t
 
 -- running with a reload; with a step of 10 clocks
-abbrev from : ℕ → ℕ → Timer
+abbrev pub from : ℕ → ℕ → Timer
 from reload cr1 = w 0 cr1 (w 0x2c reload t0)
 
-abbrev slow : Timer
+abbrev pub slow : Timer
 slow = w 0x14 1 (w 0x28 9 t0)
 
--- the write of CR1, CNT or ARR, of a state, meets counter and compare equal where the two rules differ
-abbrev unlike : Timer → Timer → Bool
+-- the write of CNT or ARR, of a state, meets counter and compare equal where the two rules differ
+abbrev pub unlike : Timer → Timer → Bool
 unlike t left = some (W.unlike rust t left)
 
-abbrev equalStopped : Timer
-equalStopped = w 0 0 (w 0 1 (w 0x24 5 (w 0x34 5 t0)))
-
-abbrev matchedOnce : Timer
+abbrev pub matchedOnce : Timer
 matchedOnce = after 3 (w 0 0x11 (w 0x24 5 (w 0x34 5 slow)))
 
-unfoldable meets : List Bool
+unfoldable pub meets : List Bool
 meets =
     C.reload-zero (from 0 1)
     ∷ C.above-reload (leftCnt manual 10 (after 5 (from 9 1)))
@@ -73,10 +70,9 @@ meets =
     ∷ W.ug-under-udis (w 0 3 (w 0x28 7 t0))
     -- preload-cleared
     ∷ W.arpe-cleared (w 0x2c 4 (w 0 0x80 (w 0x2c 9 t0))) (newCr1 manual (w 0x2c 4 (w 0 0x80 (w 0x2c 9 t0))) 1)
-    -- done-equality, match-again, stopped-match, one-pulse-last-match
-    ∷ unlike equalStopped (leftCr1 manual 0x11 equalStopped)
-    ∷ unlike matchedOnce (leftArr manual 9 matchedOnce)
+    -- done-equality and stopped-match (the list's starts meet start-delay); match-again; one-pulse-last-match
     ∷ unlike (w 0x34 5 t0) (leftCnt manual 5 (w 0x34 5 t0))
+    ∷ unlike matchedOnce (leftArr manual 9 matchedOnce)
     ∷ C.done-equality rust (w 0 9 (w 0x24 1 (w 0x2c 1 t0)))
     ∷ C.compare-above-reload rust (after 9 (w 0 1 (w 0x34 20 (w 0x2c 9 t0))))
     ∷ some (W.mode-change-latch (w 0x20 1 (w 0x18 0x50 t0)) (storedCcmr 0 0 (w 0x20 1 (w 0x18 0x50 t0))))
@@ -84,7 +80,7 @@ meets =
     ∷ W.trigger-generation 0x40
     ∷ []
 
-abbrev all : List Bool → Bool
+abbrev pub all : List Bool → Bool
 all [] = true
 all (b ∷ bs) = b && all bs
 
