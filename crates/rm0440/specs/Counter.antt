@@ -1,7 +1,7 @@
--- The counter, one step at a time (RM0440, "Time-base unit" and "Counter modes").
+-- Numbers of the counter that tim shares (RM0440, "Time-base unit" and "Counter modes"); the counter as a part of the whole timer is Clock's.
 use mathlib.Core.Bool.{Bool, cond}
 use Prim.Native.Nat.{ℕ, zero, suc, _+_, _-_, _*_, _/_}
-use lib.Dec.{eqb, ltb, leb}
+use lib.Dec.{ltb}
 
 -- "Upcounting mode: the counter counts from 0 to the auto-reload value, then restarts from 0 and generates a counter overflow event."
 -- The manual blocks a reload of 0 (docs/DIFFERENCES.md, reload-zero) and counts on from above the reload (above-reload).
@@ -17,10 +17,6 @@ tickDown reload (suc cnt) = cnt
 -- whatever CMS (docs/DIFFERENCES.md, centre-aligned) and SMCR hold (slave-mode)
 abbrev pub tick : Bool → ℕ → ℕ → ℕ
 tick down reload cnt = cond down (tickDown reload cnt) (tickUp reload cnt)
-
--- this step is the overflow or the underflow
-abbrev pub wraps : Bool → ℕ → ℕ → Bool
-wraps down reload cnt = cond down (eqb cnt 0) (leb reload cnt)
 
 -- the counter after n steps
 unfoldable pub after : (ℕ → ℕ) → ℕ → ℕ → ℕ

@@ -1,6 +1,14 @@
 pub mod Bits
 pub mod Counter
-pub mod Event
 pub mod Output
 pub mod Registers
 pub mod Update
+pub mod Rules
+pub mod State
+pub mod Clock
+pub mod Level
+pub mod Write
+pub mod Read
+pub mod Late
+pub mod Cases
+pub mod WriteCases

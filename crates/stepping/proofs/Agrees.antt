@@ -1,24 +1,22 @@
 -- The timer of crate tim, which computes its counter and its next event at once, does what RM0440's counter does step by
 -- step. Document 01's order; every premise is written out. Assumes nothing.
-use Prim.Native.Nat.{ℕ, suc, _+_, _-_, _*_, _%_, _≤_, _<_, min}
+use Prim.Native.Nat.{ℕ, _+_, _-_, _*_, _%_, _≤_, _<_, min}
 use mathlib.Core.Path.{_≡_, refl, _∙_}
 use mathlib.Core.Bool.{Bool, true, false, cond}
 use native.Mathlib.Nat.{min-eq-left, min-eq-right, sub-self, zero-mod, zero-mul, add-zero, div-mul-le-self}
 use native.Mathlib.Omega.{arith}
-use borrow.Author.Tests.{le-leb}
 use Rattle.rm0440.specs.Counter.{tickUp, tickDown, after}
-use Rattle.rm0440.specs.Event.{update, lowest, firstEvent}
 use Rattle.tim.specs.declared.Timer.{Timer}
 use Rattle.tim.specs.declared.Next.the-variants.{Update}
 use Rattle.tim.specs.declared.Due.the-variants.{At, Stopped}
 use Rattle.tim.specs.Timer.{down}
 use Rattle.tim.specs.Count.{ticksAt, cntAt, synced}
 use Rattle.tim.specs.Next.{updateSteps, nextSteps, nextEvent}
-use Rattle.stepping.specs.Reading.{channels, ahead, due, stepped, Best}
+use Rattle.stepping.specs.Reading.{Best}
 use Rattle.stepping.proofs.Counting.{up-after, up-above, up-over, down-after, down-over, down-within}
 use Rattle.stepping.proofs.Synced.{cnt-runs, cnt-stopped, synced-runs, synced-stopped, moved, moved-cnt, moved-moved, part-split}
 use Rattle.stepping.proofs.Kept.{event-moved, ticks-before}
-use Rattle.stepping.proofs.Nearest.{next-searched, next-at-once, best-next, event-runs, event-stopped}
+use Rattle.stepping.proofs.Nearest.{next-at-once, best-next, event-runs, event-stopped}
 
 -- ---- the counter at a cycle
 
@@ -102,23 +100,6 @@ sync-base t now h = go (t .count .running) refl
 
 -- ---- the next event
 
-module _ (t : Timer) (fits : down t ≡ false → t .count .cnt0 ≤ t .count .«arr_act») (fuel : ℕ) (enough : updateSteps t ≤ fuel) where
-  -- downward from any counter, upward from one within the reload: the event that RM0440's counter meets first, and its steps
-  pub next-steps : nextSteps t ≡ ahead (stepped fuel t)
-  next-steps = next-searched t fuel fits enough
-
-  -- and its cycle
-  pub next-event : t .count .running ≡ true → nextEvent t ≡ due t (stepped fuel t)
-  next-event runs = event-runs t runs ∙ rw next-steps
-
--- such a fuel: reload + 1 + counter
-pub fuel-enough : (t : Timer) → updateSteps t ≤ t .count .«arr_act» + 1 + t .count .cnt0
-fuel-enough t = go (down t)
-  where
-    go : (d : Bool) → cond d (t .count .cnt0 + 1) (t .count .«arr_act» + 1 - t .count .cnt0) ≤ t .count .«arr_act» + 1 + t .count .cnt0
-    go true = omega arith
-    go false = omega arith
-
 -- named case overflown: upward from a counter above the reload the update comes first, with no step to go
 pub next-overflown : (t : Timer) → down t ≡ false → t .count .«arr_act» < t .count .cnt0
     → nextSteps t ≡ record { steps = 0; next = Update }
@@ -129,12 +110,6 @@ pub event-overflown : (t : Timer) → t .count .running ≡ true → down t ≡ 
     → nextEvent t ≡ At (t .count .base) Update
 event-overflown t runs d over =
     event-runs t runs ∙ rw (next-overflown t d over, zero-mul (t .count .tick), add-zero (t .count .base))
-
--- RM0440 has there a pending compare at the counter, else the update after one step
-pub stepped-overflown : (t : Timer) (fuel : ℕ) → down t ≡ false → t .count .«arr_act» < t .count .cnt0
-    → stepped (suc fuel) t ≡ lowest (channels t) 0 (t .count .cnt0) 0 (update 1)
-unfolding firstEvent
-stepped-overflown t fuel d over = rw (d, le-leb (t .count .«arr_act») (t .count .cnt0) (omega arith))
 
 -- stopped
 pub no-event : (t : Timer) → t .count .running ≡ false → nextEvent t ≡ Stopped

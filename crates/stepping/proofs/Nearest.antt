@@ -1,52 +1,20 @@
--- nextSteps as a list of channels considered, and so as RM0440's search; and what is true of the event it picks. Assumes nothing.
+-- What is true of the event that nextSteps picks. Assumes nothing.
 use Prim.Native.Nat.{ℕ, suc, _+_, _-_, _*_, _≤_, _<_}
-use mathlib.Core.Path.{_≡_, refl, sym, _∙_}
+use mathlib.Core.Path.{_≡_, refl, sym, ap, _∙_}
 use mathlib.Core.Bool.{Bool, true, false, cond}
 use mathlib.Core.Logic.{_⊎_, inl, inr}
 use native.Mathlib.Omega.{arith}
-use native.Mathlib.Nat.{zero-add, eq-or-lt-of-le, le-refl, le-of-suc-le-suc}
+use native.Mathlib.Nat.{eq-or-lt-of-le, le-refl, le-of-suc-le-suc}
 use lib.Dec.{ltb}
 use borrow.Author.Tests.{ltb-true, ltb-false}
-use Rattle.rm0440.specs.Event.{firstEvent}
 use Rattle.tim.specs.declared.Timer.{Timer}
 use Rattle.tim.specs.declared.Ahead.{Ahead}
+use Rattle.tim.specs.declared.Next.{Next}
 use Rattle.tim.specs.declared.Next.the-variants.{Update, Compare}
 use Rattle.tim.specs.declared.Due.the-variants.{At, Stopped}
 use Rattle.tim.specs.Timer.{down}
 use Rattle.tim.specs.Next.{updateSteps, compares, compareSteps, consider, nextSteps, nextEvent}
-use Rattle.stepping.specs.Reading.{channel, channels, ahead, Best}
-use Rattle.stepping.proofs.Considered.{nearer, considerOne, considered, kept, updateIn, first-up, first-down}
-
-consider-one : (t : Timer) (ch : ℕ) (best : Ahead)
-    → consider t ch best ≡ considerOne (down t) (t .count .«arr_act») (t .count .cnt0) 0 (channel t ch) ch best
-unfolding consider compares nearer
-consider-one t ch best = rw (zero-add (compareSteps t ch))
-
--- the four channels, from the update on
-next-considered : (t : Timer)
-    → nextSteps t ≡ considered (down t) (t .count .«arr_act») (t .count .cnt0) 0 (channels t) 0 (updateIn (updateSteps t))
-unfolding nextSteps considered
-next-considered t = rw (consider-one t 0, consider-one t 1, consider-one t 2, consider-one t 3)
-
-pub next-searched : (t : Timer) (fuel : ℕ) → (down t ≡ false → t .count .cnt0 ≤ t .count .«arr_act») → updateSteps t ≤ fuel
-    → nextSteps t ≡ ahead (firstEvent fuel (down t) (t .count .«arr_act») (channels t) (t .count .cnt0) 0)
-next-searched t fuel fits h = next-considered t ∙ go (down t) fits h
-  where
-    go : (d : Bool) → (d ≡ false → t .count .cnt0 ≤ t .count .«arr_act»)
-        → cond d (t .count .cnt0 + 1) (t .count .«arr_act» + 1 - t .count .cnt0) ≤ fuel
-        → considered d (t .count .«arr_act») (t .count .cnt0) 0 (channels t) 0
-        (updateIn (cond d (t .count .cnt0 + 1) (t .count .«arr_act» + 1 - t .count .cnt0)))
-        ≡ ahead (firstEvent fuel d (t .count .«arr_act») (channels t) (t .count .cnt0) 0)
-    go true fits h = rw (zero-add (t .count .cnt0 + 1)) at (sym (first-down (t .count .«arr_act») (channels t) fuel 0 (t .count .cnt0) h))
-    go false fits h =
-        rw (zero-add (t .count .«arr_act» + 1 - t .count .cnt0)) at
-        (sym (first-up (t .count .«arr_act») (channels t) fuel 0 (t .count .cnt0) (fits refl) h))
-
--- an update that is there already is kept
-pub next-at-once : (t : Timer) → updateSteps t ≡ 0 → nextSteps t ≡ updateIn 0
-next-at-once t e =
-    next-considered t
-    ∙ kept (down t) (t .count .«arr_act») (t .count .cnt0) 0 (channels t) 0 (updateIn (updateSteps t)) (omega arith) ∙ rw e
+use Rattle.stepping.specs.Reading.{Best}
 
 pub event-runs : (t : Timer) → t .count .running ≡ true
     → nextEvent t ≡ At (t .count .base + nextSteps t .steps * t .count .tick) (nextSteps t .next)
@@ -69,7 +37,7 @@ same : (i j : ℕ) → Compare i ≡ Compare j → i ≡ j
 same i j e = cc
 
 module _ (t : Timer) where
-  best-none : Best t 0 (updateIn (updateSteps t))
+  best-none : Best t 0 (record { steps = updateSteps t; next = Update })
   best-none = record {
     by-update = le-refl (updateSteps t);
     by-compare = λ i h e. absurd (omega arith);
@@ -119,3 +87,12 @@ module _ (t : Timer) where
   pub best-next : Best t 4 (nextSteps t)
   unfolding nextSteps
   best-next = best-step 3 _ (best-step 2 _ (best-step 1 _ (best-step 0 _ best-none)))
+
+  -- an update that is there already is the next event
+  pub next-at-once : updateSteps t ≡ 0 → nextSteps t ≡ record { steps = 0; next = Update }
+  next-at-once e = go (nextSteps t .next) refl
+    where
+      go : (x : Next) → nextSteps t .next ≡ x → nextSteps t ≡ record { steps = 0; next = Update }
+      go Update q =
+          ap (λ (s : ℕ). record { steps = s; next = nextSteps t .next }) (best-next .update-is q ∙ e) ∙ ap (λ (x : Next). record { steps = 0; next = x }) q
+      go (Compare j) q = absurd (omega (arith, best-next .strictly j q))

@@ -1,0 +1,123 @@
+-- tim's deliveries, late calls and outputs: the theorems over the period without manual mode, and stopped timers. Assumes nothing.
+use Prim.Native.Nat.{ℕ, zero, suc, _+_, _-_, _*_, _/_, _%_, _≤_, _<_}
+use mathlib.Core.Path.{_≡_, refl, sym, ap, _∙_}
+use mathlib.Core.Bool.{Bool, true, false, cond, not, _&&_}
+use native.Mathlib.Nat.{zero-div}
+use native.Mathlib.Omega.{arith}
+use lib.Dec.{lit<}
+use lib.ListN.{getD}
+use Rattle.rm0440.specs.Rules.{rust}
+use Rattle.rm0440.specs.State as M
+use Rattle.rm0440.specs.Clock.{meets, matched, clocks}
+use Rattle.rm0440.specs.Late.{passed, passes}
+use Rattle.rm0440.specs.Level.{level}
+use Rattle.tim.specs.declared.Timer.{Timer}
+use Rattle.tim.specs.declared.Due.{Due}
+use Rattle.tim.specs.declared.Ahead.{Ahead}
+use Rattle.tim.specs.Timer.{down, isOutput, ccrAct}
+use Rattle.tim.specs.Count.{cntAt}
+use Rattle.tim.specs.Next.{nextSteps, nextEvent}
+use Rattle.tim.specs.Change as T
+use Rattle.follows.specs.Seen.{raw, clocksAt, per, seen, Timed, Within, dueBy, deliver}
+use Rattle.follows.proofs.Leap as Leap
+use Rattle.follows.proofs.Leap.{Silent, matched-none}
+use Rattle.follows.proofs.Event.{next, not-yet}
+use Rattle.follows.proofs.Between.{late, next-same, best, seen-at}
+use Rattle.follows.proofs.Port as Port
+use Rattle.follows.proofs.Deliver.{delivers, none-due, from-there, still, deliver-stopped, seen-stopped, mute, event-stopped}
+use Rattle.follows.proofs.Output as Output
+use Rattle.follows.proofs.Instances.{cnt-at, seen-is, next-is, event-is, deliver-is, on-course}
+
+-- nothing due before, nothing due after
+due-is : (t : Timer) (c : ℕ) → dueBy (nextEvent t) c ≡ false → dueBy (Port.nextEvent false t) c ≡ false
+due-is t c d = ap (λ (e : Due). dueBy e c) (event-is t) ∙ d
+
+pub left-is : (f c div : ℕ) (t : Timer) → dueBy (nextEvent (deliver f c div t)) c ≡ false → dueBy (Port.nextEvent false (Port.deliver false f c div t)) c ≡ false
+left-is f c div t d = ap (λ (u : Timer). dueBy (Port.nextEvent false u) c) (deliver-is f c div t) ∙ due-is (deliver f c div t) c d
+
+pub seen-left : (f c div : ℕ) (t : Timer) → Port.seen false (Port.deliver false f c div t) div c ≡ seen (deliver f c div t) div c
+seen-left f c div t = ap (λ (u : Timer). Port.seen false u div c) (deliver-is f c div t) ∙ seen-is (deliver f c div t) div c
+
+module _ (t : Timer) (div : ℕ) (w : Timed t div) (h : Within t) where
+  -- ---- a delivery
+
+  pub follows : (f a c : ℕ) → t .count .base ≤ a → a ≤ c → dueBy (nextEvent t) a ≡ false → dueBy (nextEvent (deliver f c div t)) c ≡ false
+      → clocks rust (clocksAt t div c - clocksAt t div a) (seen t div a) ≡ seen (deliver f c div t) div c
+  follows f a c b le d e = go (t .count .running) refl
+    where
+      n : ℕ
+      n = clocksAt t div c - clocksAt t div a
+
+      go : (r : Bool) → t .count .running ≡ r → clocks rust n (seen t div a) ≡ seen (deliver f c div t) div c
+      go true r =
+          ap (clocks rust n) (sym (seen-is t div a))
+          ∙ delivers false t div (on-course t div w r h) f a c b le (due-is t a d) (left-is f c div t e) ∙ seen-left f c div t
+      go false r =
+          ap (clocks rust n) (sym (seen-is t div a) ∙ sym (seen-stopped false t r div a)) ∙ still false t r n
+          ∙ seen-stopped false t r div c ∙ ap (λ (u : Timer). Port.seen false u div c) (sym (deliver-stopped false t r f c div)) ∙ seen-left f c div t
+
+  -- ---- a call that finds events due, or none
+
+  stands : (n : ℕ) → t .count .running ≡ false → passes rust n (raw t) ≡ raw t
+  unfolding passes passed
+  stands zero r = refl
+  stands (suc n) r = ap (passed rust) (stands n r) ∙ rw r
+
+  pub passes-by : (c : ℕ) → passes rust (clocksAt t div c) (seen t div (t .count .base)) ≡ seen t div c
+  passes-by c = go (t .count .running) refl
+    where
+      go : (r : Bool) → t .count .running ≡ r → passes rust (clocksAt t div c) (seen t div (t .count .base)) ≡ seen t div c
+      go true r =
+          ap (passes rust (clocksAt t div c)) (sym (seen-is t div (t .count .base))) ∙ late false t div (on-course t div w r h) c ∙ seen-is t div c
+      go false r =
+          ap (passes rust (clocksAt t div c)) (sym (seen-is t div (t .count .base)) ∙ sym (seen-stopped false t r div (t .count .base)))
+          ∙ stands (clocksAt t div c) r ∙ seen-stopped false t r div c ∙ seen-is t div c
+
+  -- ---- with nothing due no count is met
+
+  pub silent : (c : ℕ) → t .count .base ≤ c → dueBy (nextEvent t) c ≡ false → Silent rust (seen t div c)
+  silent c b d = go (t .count .running) refl
+    where
+      go : (r : Bool) → t .count .running ≡ r → Silent rust (seen t div c)
+      go false r = mute false (seen t div c) r
+      go true r = record { q0 = q 0 (lit< tt); q1 = q 1 (lit< tt); q2 = q 2 (lit< tt); q3 = q 3 (lit< tt) }
+        where
+          y : Port.Runs false t div
+          y = on-course t div w r h
+
+          k : ℕ
+          k = clocksAt t div c / per t
+
+          early : k < Port.nextSteps false t .steps
+          early = none-due false t div y c b (due-is t c d)
+
+          there : seen t div c ≡ Leap.at (raw t) (clocksAt t div c % per t) k
+          there = sym (seen-is t div c) ∙ seen-at false t div y c (clocksAt t div c) refl (omega (arith, best false t div y .by-update, early))
+
+          q : (ch : ℕ) → ch < 4 → meets rust (seen t div c) ch ≡ false
+          q ch l = ap (λ (s : M.Timer). meets rust s ch) there ∙ not-yet rust (raw t) refl refl refl k (rw (ap (λ (a : Ahead). a .steps) (next-same false t div y)) at early) ch l
+
+  pub quiet : (c : ℕ) → t .count .base ≤ c → dueBy (nextEvent t) c ≡ false → matched rust (seen t div c) ≡ seen t div c
+  quiet c b d = matched-none rust (seen t div c) (silent c b d)
+
+  -- ---- outputs
+
+  -- what is driven at a count is the machine's level there
+  pub drives : (c ch : ℕ) → level (seen t div c) ch ≡ T.output t ch (cntAt t c)
+  unfolding level T.output
+  drives c ch = refl
+
+  -- it is that at the reference up to the next event, unless a compare is met that the record calls done (done-equality)
+  pub stays : t .count .running ≡ true → (ch : ℕ) → ch < 4
+      → ((j : ℕ) → suc j < nextSteps t .steps → getD (t .chan .«cc_done») ch false ≡ true → isOutput t ch ≡ true → Leap.onward (raw t) (suc j) ≡ ccrAct t ch → ⊥)
+      → (c : ℕ) → t .count .base ≤ c → dueBy (nextEvent t) c ≡ false → level (seen t div c) ch ≡ T.output t ch (t .count .cnt0)
+  stays r ch l kept c b d =
+      let y = on-course t div w r h in
+      let same : Port.nextSteps false t .steps ≡ nextSteps t .steps = ap (λ (a : Ahead). a .steps) (next-is t) in
+      ap (λ (s : M.Timer). level s ch) (sym (seen-is t div c))
+      ∙ Output.level-stays false t div y ch l (λ j q. kept j (rw (sym same) q)) c (none-due false t div y c b (due-is t c d))
+      ∙ ap (T.output t ch) (go (down t) (t .count .cnt0))
+    where
+      go : (d : Bool) (v : ℕ) → cond d (v - 0) (v + 0) ≡ v
+      go true v = omega arith
+      go false v = omega arith

@@ -1,0 +1,116 @@
+-- Writes of EGR: UG, and CC1G to CC4G. Assumes nothing.
+use Prim.Native.Nat.{ℕ, _+_, _≤_}
+use mathlib.Core.Path.{_≡_, refl, sym, ap, _∙_}
+use mathlib.Core.Bool.{Bool, true, false, cond, _&&_, _||_}
+use native.Mathlib.Nat.{le-refl}
+use native.Mathlib.Omega.{arith}
+use lib.Bits.{bitOr}
+use lib.ListN.{getD, set}
+use Rattle.rm0440.specs.Bits.{isSet, UDIS, URS}
+use Rattle.rm0440.specs.Output as Out
+use Rattle.rm0440.specs.Rules.{rust}
+use Rattle.rm0440.specs.State as M
+use Rattle.rm0440.specs.Clock.{matched}
+use Rattle.rm0440.specs.Write.{generated, generatedCc, writeEgr}
+use Rattle.tim.specs.declared.Timer.{Timer}
+use Rattle.tim.specs.Timer.{down, isOutput, ocMode, withChan}
+use Rattle.tim.specs.Count.{cntAt, synced}
+use Rattle.tim.specs.Change as T
+use Rattle.regs.specs.Regs as R
+use Rattle.follows.specs.Seen.{raw, seen, Within}
+use Rattle.follows.proofs.Leap.{Silent, matched-none}
+use Rattle.follows.proofs.Standing.{seen-new}
+
+-- ---- UG
+
+-- its timer, the flag apart
+abbrev fresh : Timer → ℕ → ℕ → Timer
+fresh y now div = T.recomputedAfterUpdate (T.restarted (T.loaded y) now div)
+
+abbrev ugSr : Timer → ℕ
+ugSr y = cond (UDIS (y .regs .cr1) || URS (y .regs .cr1)) (y .regs .sr) (bitOr (y .regs .sr) 1)
+
+abbrev pub flaggedUg : Timer → ℕ → ℕ → Timer
+flaggedUg y now div = R.withSr (fresh y now div) (ugSr y)
+
+pub flagged : (y : Timer) (now div : ℕ) → T.generated y now div ≡ flaggedUg y now div
+unfolding T.generated T.restarted T.recomputedAfterUpdate
+flagged y now div = go (UDIS (y .regs .cr1)) (URS (y .regs .cr1))
+  where
+    go : (u v : Bool) → cond v (fresh y now div) (cond u (fresh y now div) (T.withFlag (fresh y now div) 1))
+        ≡ R.withSr (fresh y now div) (cond (u || v) (y .regs .sr) (bitOr (y .regs .sr) 1))
+    go true true = refl
+    go true false = refl
+    go false true = refl
+    go false false = refl
+
+fresh-raw : (y : Timer) (now div : ℕ) → raw (flaggedUg y now div) ≡ generated rust (seen y div now)
+unfolding T.restarted T.recomputedAfterUpdate
+fresh-raw y now div = refl
+
+fresh-within : (y : Timer) (now div : ℕ) → Within (flaggedUg y now div)
+unfolding T.restarted T.recomputedAfterUpdate
+fresh-within y now div e = either (down y) (y .regs .arr)
+  where
+    either : (d : Bool) (a : ℕ) → cond d a 0 ≤ a
+    either true a = le-refl a
+    either false a = omega arith
+
+pub fresh-base : (y : Timer) (now div : ℕ) → flaggedUg y now div .count .base ≡ now
+unfolding T.restarted T.recomputedAfterUpdate
+fresh-base y now div = refl
+
+ug-seen : (y : Timer) (now div : ℕ) → seen (T.generated y now div) div now ≡ generated rust (seen y div now)
+ug-seen y now div =
+    ap (λ (u : Timer). seen u div now) (flagged y now div) ∙ seen-new (flaggedUg y now div) div now (fresh-base y now div) (fresh-within y now div) ∙ fresh-raw y now div
+
+-- ---- CC1G to CC4G
+
+-- the port's generated match of channel ch, as one timer
+abbrev one : ℕ → Bool → Timer → Timer
+one ch b y = withChan (R.withSr y (cond b (bitOr (y .regs .sr) (T.ccFlag ch)) (y .regs .sr))) (record {
+  ccmr = y .chan .ccmr;
+  ccr = y .chan .ccr;
+  «ccr_act» = y .chan .«ccr_act»;
+  «cc_done» = y .chan .«cc_done»;
+  oc = cond b (set (y .chan .oc) ch (Out.atMatch (ocMode y ch) (getD (y .chan .oc) ch false))) (y .chan .oc);
+})
+
+one-is : (v ch : ℕ) (y : Timer) → R.egrMatch v ch y ≡ one ch (isSet (ch + 1) v && isOutput y ch) y
+unfolding T.matched
+one-is v ch y = go (isSet (ch + 1) v) (isOutput y ch)
+  where
+    go : (a b : Bool) → cond a (cond b (T.matched y ch) y) y ≡ one ch (a && b) y
+    go true true = refl
+    go true false = refl
+    go false b = refl
+
+abbrev pub four : ℕ → Timer → Timer
+four v y = one 3 (isSet 4 v && isOutput y 3) (one 2 (isSet 3 v && isOutput y 2) (one 1 (isSet 2 v && isOutput y 1) (one 0 (isSet 1 v && isOutput y 0) y)))
+
+pub four-is : (v : ℕ) (y : Timer) → R.egrMatch v 3 (R.egrMatch v 2 (R.egrMatch v 1 (R.egrMatch v 0 y))) ≡ four v y
+four-is v y =
+    ap (λ (z : Timer). R.egrMatch v 3 (R.egrMatch v 2 (R.egrMatch v 1 z))) (one-is v 0 y)
+    ∙ ap (λ (z : Timer). R.egrMatch v 3 (R.egrMatch v 2 z)) (one-is v 1 (one 0 (isSet 1 v && isOutput y 0) y))
+    ∙ ap (R.egrMatch v 3) (one-is v 2 (one 1 (isSet 2 v && isOutput y 1) (one 0 (isSet 1 v && isOutput y 0) y)))
+    ∙ one-is v 3 (one 2 (isSet 3 v && isOutput y 2) (one 1 (isSet 2 v && isOutput y 1) (one 0 (isSet 1 v && isOutput y 0) y)))
+
+four-seen : (v : ℕ) (y : Timer) (div now : ℕ) → seen (four v y) div now ≡ generatedCc rust v (seen y div now)
+unfolding cntAt T.ccFlag
+four-seen v y div now = refl
+
+-- ---- the whole
+
+module _ (y : Timer) (v now div : ℕ) where
+  abbrev pub newEgr : Timer
+  newEgr = four v (cond (isSet 0 v) (T.generated y now div) y)
+
+  -- with UG what the new count meets is delivered; without, what the count meets is delivered already
+  pub acts-egr : Silent rust (seen y div now) → writeEgr rust v (seen y div now) ≡ matched rust (seen newEgr div now)
+  unfolding writeEgr cntAt
+  acts-egr q = go (isSet 0 v)
+    where
+      go : (b : Bool) → cond b (matched rust (generatedCc rust v (generated rust (seen y div now)))) (generatedCc rust v (seen y div now))
+          ≡ matched rust (seen (four v (cond b (T.generated y now div) y)) div now)
+      go true = ap (matched rust) (sym (four-seen v (T.generated y now div) div now ∙ ap (generatedCc rust v) (ug-seen y now div)))
+      go false = sym (four-seen v y div now) ∙ sym (matched-none rust (seen (four v y) div now) (record { q0 = q .q0; q1 = q .q1; q2 = q .q2; q3 = q .q3 }))

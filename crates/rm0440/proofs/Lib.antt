@@ -1,0 +1,4 @@
+pub mod Figures
+pub mod SameClock
+pub mod SameWrites
+pub mod SameEgr
