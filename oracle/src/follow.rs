@@ -1,0 +1,397 @@
+//! The machine of `silicon` beside a board: every call that a board has answered is made of the machine too, by the Rust's rules, and
+//! all that can be seen of the timers must be equal. At every step and every write the manual's rules are tried from the
+//! same state: outside the named cases they must do the same, and inside a difference is counted under the case's name.
+
+use std::collections::BTreeMap;
+
+use crate::calls::{Answer, Call, Entry, TimerSpec};
+use crate::silicon::cases::{self, Met};
+use crate::silicon::timeline::{Delivered, Edge, Timeline};
+use crate::silicon::{synchronizes, Rules, Timer, CNT, CR1, DIR};
+
+const RUST: Rules = Rules::rust();
+const MANUAL: Rules = Rules::manual();
+
+/// What was compared, and the cases met.
+#[derive(Clone, Debug, Default)]
+pub struct Table {
+    pub lists: u64,
+    pub calls: u64,
+    /// Registers and pin levels looked at, entries and event counts besides.
+    pub looks: u64,
+    /// Steps of a counter and writes tried by the manual's rules; those that met no case.
+    pub steps: u64,
+    pub plain_steps: u64,
+    pub writes: u64,
+    pub plain_writes: u64,
+    /// By case: times met, times that it made a difference.
+    pub met: BTreeMap<&'static str, [u64; 2]>,
+    /// Deliveries answered 8, after which a timer is followed no more.
+    pub left: u64,
+}
+
+impl Table {
+    fn count(&mut self, met: Met, differ: Met) {
+        for (names, k) in [(met, 0), (differ, 1)] {
+            names.names().for_each(|n| self.met.entry(n).or_default()[k] += 1);
+        }
+    }
+
+    fn note(&mut self, name: &'static str, met: bool, differs: bool) {
+        let (mut m, mut d) = (Met::default(), Met::default());
+        m.add(name, met);
+        d.add(name, differs);
+        self.count(m, d);
+    }
+
+    /// Two things that must be the same.
+    fn look<T: PartialEq + std::fmt::Debug>(&mut self, what: impl FnOnce() -> String, board: T, machine: T) -> Result<(), String> {
+        self.looks += 1;
+        if board == machine { Ok(()) } else { Err(format!("{}: board {board:x?}, machine {machine:x?}", what())) }
+    }
+}
+
+struct Followed {
+    line: Timeline,
+    /// The cycle of the last write.
+    written: u64,
+    /// Why the outputs may not show the machine's levels.
+    stale: Met,
+    /// A delivery was cut short.
+    left: bool,
+}
+
+/// A board's timers as machines.
+#[derive(Default)]
+pub struct Follow {
+    specs: Vec<TimerSpec>,
+    timers: Vec<Followed>,
+    table: BTreeMap<u32, u32>,
+    tree: Option<(u64, [u32; 6])>,
+    enable: BTreeMap<u32, u32>,
+    /// The pin that took a signal last, and each pin's signal; pins that do not just show their signal.
+    routes: BTreeMap<u32, u32>,
+    signals: BTreeMap<u32, u32>,
+    odd: BTreeMap<u32, bool>,
+}
+
+fn signal(number: u32, ch: usize) -> u32 {
+    16 * (number + 10) + ch as u32 + 2
+}
+
+impl Follow {
+    pub fn new() -> Self {
+        Self::default()
+    }
+
+    fn divider(&self, bus: u32) -> u64 {
+        let [_, _, p3, p4, t1, t2] = self.tree.map_or([1; 6], |t| t.1);
+        (match bus {
+            1 => t1,
+            2 => t2,
+            3 => p3,
+            _ => p4,
+        }) as u64
+    }
+
+    fn open(&self, t: usize) -> bool {
+        let s = &self.specs[t];
+        self.enable.get(&s.word).copied().unwrap_or(0) >> s.bit & 1 != 0
+    }
+
+    /// Follows a call that the board has answered, and asks the board for everything that can be seen of the timer called.
+    pub fn step(&mut self, call: &Call, answer: &Answer, ask: &mut dyn FnMut(&Call) -> Answer, table: &mut Table) -> Result<(), String> {
+        table.calls += 1;
+        if let (&Call::Write { timer, offset, size, value, cycle, .. }, 7) = (call, answer.number) {
+            let (i, v) = self.merged(timer as usize, offset, size, value, cycle);
+            let f = &self.timers[timer as usize];
+            return if f.left { Ok(()) } else { table.look(|| "refusal 7".into(), true, f.line.astray(i, v, cycle)) };
+        }
+        if !matches!(answer.number, 0 | 8) {
+            return Ok(());
+        }
+        match *call {
+            Call::Setup(ref s) => {
+                *self = Self { specs: s.timers.clone(), table: s.signals.iter().copied().collect(), ..Self::default() };
+                let hz = s.hz;
+                self.tree = Some((hz, [1; 6]));
+                for t in &s.timers {
+                    let max = if t.width == 32 { 0xffff_ffff } else { 0xffff };
+                    let line = Timeline::new(RUST, t.channels as usize, max, (2..=4).contains(&t.number));
+                    self.timers.push(Followed { line, written: 0, stale: Met::default(), left: false });
+                }
+            }
+            Call::Clock { hclk, dividers, cycle, .. } => self.clock(hclk, dividers, cycle, table),
+            Call::Enable { word, value } => {
+                let before: Vec<bool> = (0..self.specs.len()).map(|t| self.open(t)).collect();
+                self.enable.insert(word, value);
+                for (t, open) in before.into_iter().enumerate() {
+                    let stops = open && !self.open(t) && self.timers[t].line.t.on;
+                    table.note("gated-counts", stops, stops);
+                }
+            }
+            Call::Pin { pin, mode, open_drain, function, .. } => {
+                if let Some(old) = self.signals.remove(&pin) {
+                    if self.routes.get(&old) == Some(&pin) {
+                        self.routes.remove(&old);
+                    }
+                }
+                let new = if mode == 2 { self.table.get(&(pin * 16 + function % 16)).copied().unwrap_or(0) } else { 0 };
+                if new != 0 {
+                    self.signals.insert(pin, new);
+                    self.routes.insert(new, pin);
+                }
+                self.odd.insert(pin, open_drain != 0);
+            }
+            Call::ResetPins { .. } => {
+                self.routes.clear();
+                self.signals.clear();
+            }
+            Call::Read { timer, offset, size, cycle } => {
+                let t = timer as usize;
+                if self.timers[t].left {
+                    return Ok(());
+                }
+                let i = (offset & !3) as usize / 4;
+                let word = if offset < 1 << 16 { self.timers[t].line.read(i, cycle) as u32 } else { 0 };
+                let value = if self.open(t) { lane_read(word, offset, size) } else { 0 };
+                self.seen_late(t, i, cycle, table);
+                table.look(|| format!("read {offset:#x}"), answer.value, value as u64)?;
+            }
+            Call::Peek { timer, offset, cycle } => {
+                let t = timer as usize;
+                if self.timers[t].left {
+                    return Ok(());
+                }
+                let i = (offset & !3) as usize / 4;
+                self.seen_late(t, i, cycle, table);
+                table.look(|| format!("peek {offset:#x}"), answer.value, self.timers[t].line.read(i, cycle))?;
+            }
+            Call::Write { timer, offset, size, value, cycle, .. } => {
+                let t = timer as usize;
+                if self.timers[t].left {
+                    return Ok(());
+                }
+                if self.open(t) {
+                    let (i, v) = self.merged(t, offset, size, value, cycle);
+                    let refused = self.timers[t].line.astray(i, v, cycle);
+                    table.look(|| "no refusal 7".into(), false, refused)?;
+                    self.tried(t, i, v, cycle, table)?;
+                    let f = &mut self.timers[t];
+                    let edges = f.line.write(i, v, cycle);
+                    f.written = cycle;
+                    self.edges(t, answer, &edges, table)?;
+                }
+                self.look(t, cycle, ask, table)?;
+            }
+            Call::Reset { timer, cycle, .. } => {
+                let t = timer as usize;
+                let f = &mut self.timers[t];
+                f.left = false;
+                f.stale = Met::default();
+                let edges = f.line.reset(cycle);
+                self.edges(t, answer, &edges, table)?;
+                self.look(t, cycle, ask, table)?;
+            }
+            Call::Deliver { timer, cycle, .. } => {
+                let t = timer as usize;
+                if answer.number == 8 {
+                    self.timers[t].left = true;
+                    table.left += 1;
+                }
+                if self.timers[t].left {
+                    return Ok(());
+                }
+                let done = self.deliver(t, cycle, table)?;
+                table.look(|| "events".into(), answer.value, done.events())?;
+                self.edges(t, answer, &done.edges, table)?;
+                self.look(t, cycle, ask, table)?;
+            }
+            _ => {}
+        }
+        Ok(())
+    }
+
+    /// The register and the word that a write comes to.
+    fn merged(&self, t: usize, offset: u32, size: u32, value: u32, cycle: u64) -> (usize, u64) {
+        let i = (offset & !3) as usize / 4;
+        let old = if size == 4 || i == 5 { 0 } else { self.timers[t].line.read(i, cycle) as u32 };
+        (i, lane_write(old, offset, size, value) as u64)
+    }
+
+    fn clock(&mut self, hclk: u64, dividers: [u32; 6], cycle: u64, table: &mut Table) {
+        let (old_hclk, old) = self.tree.unwrap_or((hclk, [1; 6]));
+        self.tree = Some((hclk, dividers));
+        if f64::from_bits(old_hclk) == f64::from_bits(hclk) && old == dividers {
+            return;
+        }
+        for t in 0..self.timers.len() {
+            let div = self.divider(self.specs[t].bus);
+            let lost = self.due(t, cycle);
+            let f = &mut self.timers[t];
+            if f.line.t.on {
+                table.note("lost-update", lost.updates > 0, lost.updates > 0);
+                table.note("lost-compare", lost.matches > 0, lost.matches > 0);
+                f.stale.add("lost-compare", lost.events() > 0);
+                let inside = div != f.line.div && f.line.late(cycle).pre != 0;
+                table.note("clock-change-jump", inside, inside);
+            }
+            f.line.clock_change(div, cycle);
+        }
+    }
+
+    /// What a delivery at `cycle` would do.
+    fn due(&self, t: usize, cycle: u64) -> Delivered {
+        self.timers[t].line.clone().deliver(cycle, |_, _, _| {})
+    }
+
+    /// late-flags and clamp-down: a read that another rule would answer otherwise.
+    fn seen_late(&self, t: usize, i: usize, cycle: u64, table: &mut Table) {
+        let line = &self.timers[t].line;
+        let (mut delivered, late) = (line.clone(), line.late(cycle));
+        if delivered.deliver(cycle, |_, _, _| {}).events() > 0 {
+            table.note("late-flags", true, late.read(&RUST, i) != delivered.t.read(&RUST, i));
+        }
+        if i == CNT && delivered.t.shown != delivered.t.cnt {
+            table.note("clamp-down", true, true);
+        }
+    }
+
+    /// A write by both rules, from the state that the call finds with nothing due.
+    fn tried(&mut self, t: usize, i: usize, v: u64, cycle: u64, table: &mut Table) -> Result<(), String> {
+        let f = &mut self.timers[t];
+        let mut probe = f.line.clone();
+        let lost = probe.deliver(cycle, |_, _, _| {});
+        if lost.events() > 0 {
+            let syncs = synchronizes(i);
+            table.note("lost-update", syncs && lost.updates > 0, syncs && lost.updates > 0);
+            table.note("lost-compare", syncs && lost.matches > 0, syncs && lost.matches > 0);
+            table.note("late-flags", !syncs, !syncs);
+            f.stale.add("lost-compare", syncs);
+            f.stale.add("late-flags", !syncs);
+        }
+        // From here on with nothing due: the case of a late call is counted above.
+        let from = probe.t;
+        let does = |r: &Rules| {
+            let mut s = from;
+            s.write(r, i, v, &mut |_: &Timer, _| {});
+            s
+        };
+        table.writes += 1;
+        let met = cases::of_write(&RUST, &from, i, v);
+        table.plain_writes += met.none() as u64;
+        let (ours, manual) = (does(&RUST), does(&MANUAL));
+        let differ = if ours.same(&manual) { Met::default() } else { cases::blame(&RUST, met, does) };
+        table.count(met, differ);
+        if let Some(n) = differ.names().find(|n| !met.has(n)) {
+            return Err(format!("{n} makes a difference outside its case, register {i}, value {v:#x}: {from:x?}"));
+        }
+        if !ours.same(&manual) && met.none() {
+            return Err(format!("the write differs in no named case, register {i}, value {v:#x}: {from:x?}"));
+        }
+        if i == CR1 && (from.cr1 ^ ours.cr1) & DIR != 0 {
+            let late = probe.drives && (0..from.channels).any(|ch| ours.level(ch) != from.level(ch));
+            table.note("direction-late", late, late);
+            f.stale.add("direction-late", late);
+        }
+        f.stale.add("clamp-down", met.has("clamp-down") || ours.shown != ours.cnt);
+        Ok(())
+    }
+
+    fn deliver(&mut self, t: usize, cycle: u64, table: &mut Table) -> Result<Delivered, String> {
+        let f = &mut self.timers[t];
+        let mut probe = f.line.clone();
+        let at_write = probe.settle();
+        let before = at_write.events() > 0 && probe.step_cycle() < f.written;
+        table.note("match-before-write", before, before && !at_write.edges.is_empty());
+        let mut fault = None;
+        let Followed { line, stale, .. } = f;
+        let drives = line.drives;
+        let done = line.deliver(cycle, |before, after, out| {
+            table.steps += 1;
+            let met = cases::of_clock(&RUST, before);
+            let mut manual = *before;
+            manual.clock(&MANUAL, &mut |_: &Timer, _| {});
+            if met.none() {
+                table.plain_steps += 1;
+                if !after.same(&manual) {
+                    fault = Some(format!("the clock differs in no named case: {before:x?}"));
+                }
+            } else {
+                let does = |r: &Rules| {
+                    let mut s = *before;
+                    s.clock(r, &mut |_: &Timer, _| {});
+                    s
+                };
+                let differ = if after.same(&manual) { Met::default() } else { cases::blame(&RUST, met, does) };
+                table.count(met, differ);
+                if let Some(n) = differ.names().find(|n| !met.has(n)) {
+                    fault = Some(format!("{n} makes a difference outside its case: {before:x?}"));
+                }
+                let mut missed = Met::default();
+                missed.add("done-equality", met.has("done-equality"));
+                stale.also(missed);
+            }
+            // The levels driven are the machine's at every step.
+            let shows = !drives || (0..after.channels).all(|ch| after.level(ch) == out[ch]);
+            if shows {
+                *stale = Met::default();
+            } else if stale.none() {
+                fault = Some(format!("a level that is not the machine's: {out:?} {after:x?}"));
+            }
+        });
+        fault.map_or(Ok(done), Err)
+    }
+
+    /// The entries that a call made of this timer's outputs.
+    fn edges(&self, t: usize, answer: &Answer, edges: &[Edge], table: &mut Table) -> Result<(), String> {
+        let number = self.specs[t].number;
+        let pin = |ch: usize| self.routes.get(&signal(number, ch)).copied();
+        if (0..4).filter_map(pin).any(|p| self.odd.get(&p) == Some(&true)) {
+            return Ok(());
+        }
+        let wanted: Vec<Entry> = edges
+            .iter()
+            .filter_map(|e| Some(Entry { pin: pin(e.ch)? as u16, level: e.level as u8, cycle: e.cycle }))
+            .collect();
+        table.look(|| "entries".into(), &answer.entries, &wanted)
+    }
+
+    /// Every register at the call's cycle, and the pins that show the outputs.
+    fn look(&self, t: usize, cycle: u64, ask: &mut dyn FnMut(&Call) -> Answer, table: &mut Table) -> Result<(), String> {
+        let line = &self.timers[t].line;
+        let late = line.late(cycle);
+        for i in 0..18 {
+            let offset = 4 * i as u32;
+            let value = ask(&Call::Peek { timer: t as u32, offset, cycle }).value;
+            table.look(|| format!("{offset:#x} at {cycle}"), value, late.read(&RUST, i))?;
+        }
+        for ch in 0..line.t.channels {
+            let Some(&pin) = self.routes.get(&signal(self.specs[t].number, ch)) else { continue };
+            if self.odd.get(&pin) != Some(&true) {
+                let level = ask(&Call::Level { pin }).value;
+                table.look(|| format!("pin {pin}"), level, line.out[ch] as u64)?;
+            }
+        }
+        Ok(())
+    }
+}
+
+fn lane_read(reg: u32, offset: u32, size: u32) -> u32 {
+    let lane = reg >> (8 * (offset & 3));
+    match size {
+        4 => reg,
+        2 => lane & 0xffff,
+        _ => lane & 0xff,
+    }
+}
+
+fn lane_write(old: u32, offset: u32, size: u32, value: u32) -> u32 {
+    let shift = 8 * (offset & 3);
+    let mask = match size {
+        4 => return value,
+        2 => 0xffff_u32 << shift,
+        _ => 0xff << shift,
+    };
+    old & !mask | value << shift & mask
+}
