@@ -3,6 +3,7 @@
 //! same state: outside the named cases they must do the same, and inside a difference is counted under the case's name.
 
 use std::collections::BTreeMap;
+use std::fmt::{self, Display, Formatter};
 
 use crate::calls::{Answer, Call, Entry, TimerSpec};
 use crate::silicon::cases::{self, Met};
@@ -30,6 +31,20 @@ pub struct Table {
     pub left: u64,
 }
 
+impl Display for Table {
+    fn fmt(&self, f: &mut Formatter) -> fmt::Result {
+        let Self { lists, calls, looks, steps, plain_steps, writes, plain_writes, left, .. } = self;
+        writeln!(f, "{calls} calls in {lists} lists, {looks} looks, all equal by the Rust's rules; {left} deliveries answered 8.")?;
+        writeln!(f, "By the manual's: {plain_steps} of {steps} steps and {plain_writes} of {writes} writes met no case, all equal.\n")?;
+        writeln!(f, "| case | met | another state |\n|---|---|---|")?;
+        for name in cases::NAMES {
+            let [met, differs] = self.met.get(name).copied().unwrap_or_default();
+            writeln!(f, "| `{name}` | {met} | {differs} |")?;
+        }
+        Ok(())
+    }
+}
+
 impl Table {
     fn count(&mut self, met: Met, differ: Met) {
         for (names, k) in [(met, 0), (differ, 1)] {
@@ -42,6 +57,22 @@ impl Table {
         m.add(name, met);
         d.add(name, differs);
         self.count(m, d);
+    }
+
+    /// What is done by the Rust's rules, tried by the manual's: another state only in cases that are met.
+    fn tried(&mut self, what: &str, met: Met, does: impl Fn(&Rules) -> Timer) -> Result<(), String> {
+        let differ = if does(&RUST).same(&does(&MANUAL)) {
+            Met::default()
+        } else if met.none() {
+            return Err(format!("the {what} differs in no named case"));
+        } else {
+            cases::blame(&RUST, met, does)
+        };
+        self.count(met, differ);
+        match differ.names().find(|n| !met.has(n)) {
+            Some(n) => Err(format!("{n} makes a difference to the {what} outside its case")),
+            None => Ok(()),
+        }
     }
 
     /// Two things that must be the same.
@@ -59,6 +90,44 @@ struct Followed {
     stale: Met,
     /// A delivery was cut short.
     left: bool,
+}
+
+impl Followed {
+    /// Delivers, each step tried by the manual's rules as well, and the levels held to the machine's.
+    fn steps(&mut self, cycle: u64, table: &mut Table) -> Result<Delivered, String> {
+        let mut fault = None;
+        let Self { line, stale, .. } = self;
+        let drives = line.drives;
+        let done = line.deliver(cycle, |before, after, out| {
+            table.steps += 1;
+            let does = |r: &Rules| {
+                let mut s = *before;
+                s.clock(r, &mut |_: &Timer, _| {});
+                s
+            };
+            let met = cases::of_clock(&RUST, before);
+            table.plain_steps += met.none() as u64;
+            if let Err(e) = table.tried("clock", met, does) {
+                fault = Some(format!("{e}: {before:x?}"));
+            }
+            stale.add("done-equality", met.has("done-equality"));
+            let shows = !drives || (0..after.channels).all(|ch| after.level(ch) == out[ch]);
+            if shows {
+                *stale = Met::default();
+            } else if stale.none() {
+                fault = Some(format!("a level that is not the machine's: {out:?} {after:x?}"));
+            }
+        });
+        fault.map_or(Ok(done), Err)
+    }
+
+    /// Steps that a call without a delivery makes, no event being due.
+    fn quiet_steps(&mut self, cycle: u64, table: &mut Table) -> Result<(), String> {
+        let mut probe = Self { line: self.line.clone(), ..*self };
+        probe.steps(cycle, table)?;
+        self.stale = probe.stale;
+        Ok(())
+    }
 }
 
 /// A board's timers as machines.
@@ -121,7 +190,7 @@ impl Follow {
                     self.timers.push(Followed { line, written: 0, stale: Met::default(), left: false });
                 }
             }
-            Call::Clock { hclk, dividers, cycle, .. } => self.clock(hclk, dividers, cycle, table),
+            Call::Clock { hclk, dividers, cycle, .. } => self.clock(hclk, dividers, cycle, table)?,
             Call::Enable { word, value } => {
                 let before: Vec<bool> = (0..self.specs.len()).map(|t| self.open(t)).collect();
                 self.enable.insert(word, value);
@@ -219,11 +288,11 @@ impl Follow {
         (i, lane_write(old, offset, size, value) as u64)
     }
 
-    fn clock(&mut self, hclk: u64, dividers: [u32; 6], cycle: u64, table: &mut Table) {
+    fn clock(&mut self, hclk: u64, dividers: [u32; 6], cycle: u64, table: &mut Table) -> Result<(), String> {
         let (old_hclk, old) = self.tree.unwrap_or((hclk, [1; 6]));
         self.tree = Some((hclk, dividers));
         if f64::from_bits(old_hclk) == f64::from_bits(hclk) && old == dividers {
-            return;
+            return Ok(());
         }
         for t in 0..self.timers.len() {
             let div = self.divider(self.specs[t].bus);
@@ -233,11 +302,18 @@ impl Follow {
                 table.note("lost-update", lost.updates > 0, lost.updates > 0);
                 table.note("lost-compare", lost.matches > 0, lost.matches > 0);
                 f.stale.add("lost-compare", lost.events() > 0);
+                if lost.events() == 0 {
+                    f.quiet_steps(cycle, table)?;
+                }
+                let clamped = f.line.t.shown != f.line.t.cnt;
+                table.note("clamp-down", clamped, clamped);
+                f.stale.add("clamp-down", clamped);
                 let inside = div != f.line.div && f.line.late(cycle).pre != 0;
                 table.note("clock-change-jump", inside, inside);
             }
             f.line.clock_change(div, cycle);
         }
+        Ok(())
     }
 
     /// What a delivery at `cycle` would do.
@@ -260,17 +336,19 @@ impl Follow {
     /// A write by both rules, from the state that the call finds with nothing due.
     fn tried(&mut self, t: usize, i: usize, v: u64, cycle: u64, table: &mut Table) -> Result<(), String> {
         let f = &mut self.timers[t];
+        let syncs = synchronizes(i);
         let mut probe = f.line.clone();
         let lost = probe.deliver(cycle, |_, _, _| {});
         if lost.events() > 0 {
-            let syncs = synchronizes(i);
             table.note("lost-update", syncs && lost.updates > 0, syncs && lost.updates > 0);
             table.note("lost-compare", syncs && lost.matches > 0, syncs && lost.matches > 0);
             table.note("late-flags", !syncs, !syncs);
             f.stale.add("lost-compare", syncs);
             f.stale.add("late-flags", !syncs);
+        } else if syncs {
+            f.quiet_steps(cycle, table)?;
         }
-        // From here on with nothing due: the case of a late call is counted above.
+        // From here on with nothing due: what a late call loses is counted above.
         let from = probe.t;
         let does = |r: &Rules| {
             let mut s = from;
@@ -280,15 +358,8 @@ impl Follow {
         table.writes += 1;
         let met = cases::of_write(&RUST, &from, i, v);
         table.plain_writes += met.none() as u64;
-        let (ours, manual) = (does(&RUST), does(&MANUAL));
-        let differ = if ours.same(&manual) { Met::default() } else { cases::blame(&RUST, met, does) };
-        table.count(met, differ);
-        if let Some(n) = differ.names().find(|n| !met.has(n)) {
-            return Err(format!("{n} makes a difference outside its case, register {i}, value {v:#x}: {from:x?}"));
-        }
-        if !ours.same(&manual) && met.none() {
-            return Err(format!("the write differs in no named case, register {i}, value {v:#x}: {from:x?}"));
-        }
+        table.tried("write", met, does).map_err(|e| format!("{e}, register {i}, value {v:#x}: {from:x?}"))?;
+        let ours = does(&RUST);
         if i == CR1 && (from.cr1 ^ ours.cr1) & DIR != 0 {
             let late = probe.drives && (0..from.channels).any(|ch| ours.level(ch) != from.level(ch));
             table.note("direction-late", late, late);
@@ -304,43 +375,7 @@ impl Follow {
         let at_write = probe.settle();
         let before = at_write.events() > 0 && probe.step_cycle() < f.written;
         table.note("match-before-write", before, before && !at_write.edges.is_empty());
-        let mut fault = None;
-        let Followed { line, stale, .. } = f;
-        let drives = line.drives;
-        let done = line.deliver(cycle, |before, after, out| {
-            table.steps += 1;
-            let met = cases::of_clock(&RUST, before);
-            let mut manual = *before;
-            manual.clock(&MANUAL, &mut |_: &Timer, _| {});
-            if met.none() {
-                table.plain_steps += 1;
-                if !after.same(&manual) {
-                    fault = Some(format!("the clock differs in no named case: {before:x?}"));
-                }
-            } else {
-                let does = |r: &Rules| {
-                    let mut s = *before;
-                    s.clock(r, &mut |_: &Timer, _| {});
-                    s
-                };
-                let differ = if after.same(&manual) { Met::default() } else { cases::blame(&RUST, met, does) };
-                table.count(met, differ);
-                if let Some(n) = differ.names().find(|n| !met.has(n)) {
-                    fault = Some(format!("{n} makes a difference outside its case: {before:x?}"));
-                }
-                let mut missed = Met::default();
-                missed.add("done-equality", met.has("done-equality"));
-                stale.also(missed);
-            }
-            // The levels driven are the machine's at every step.
-            let shows = !drives || (0..after.channels).all(|ch| after.level(ch) == out[ch]);
-            if shows {
-                *stale = Met::default();
-            } else if stale.none() {
-                fault = Some(format!("a level that is not the machine's: {out:?} {after:x?}"));
-            }
-        });
-        fault.map_or(Ok(done), Err)
+        f.steps(cycle, table)
     }
 
     /// The entries that a call made of this timer's outputs.
