@@ -50,7 +50,7 @@ atMatch mode latched =
 abbrev pub ccmrByte : ℕ → ℕ → ℕ
 ccmrByte ch ccmr = field (8 * (ch % 2)) 8 ccmr
 
--- of that byte: CCxS = 0, "channel is configured as output", an input does nothing (docs/DIFFERENCES.md, input-capture); OCxPE; OCxM
+-- of that byte: CCxS = 0, "channel is configured as output", an input does nothing (docs/DIFFERENCES.md, input-capture), written at any time (ccs-locked); OCxPE; OCxM
 abbrev pub isOutput : ℕ → Bool
 isOutput byte = eqb (field 0 2 byte) 0
 
