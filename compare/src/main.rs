@@ -8,7 +8,7 @@ use std::time::{Duration, Instant};
 
 use compare::run::{CALLS, KINDS};
 use compare::{list, report, Port, Stats};
-use oracle::follow::Table;
+use oracle::follow::{report as report_cases, Table};
 
 fn main() -> ExitCode {
     let mut args: Vec<String> = std::env::args().skip(1).collect();
@@ -31,18 +31,18 @@ fn main() -> ExitCode {
     let start = Instant::now();
     let mut told = start;
     if machine {
-        let mut table = Table::default();
+        let mut tables = [Table::default(), Table::default()];
         for i in 0..lists {
-            if let Err(failure) = compare::machine::list(&mut port, seed.wrapping_add(i), &mut table) {
+            if let Err(failure) = compare::machine::list(&mut port, seed.wrapping_add(i), &mut tables) {
                 println!("{failure}");
                 return ExitCode::FAILURE;
             }
             if told.elapsed() > Duration::from_secs(30) {
                 told = Instant::now();
-                println!("{} calls, all equal so far", table.calls);
+                println!("{} calls, all equal so far", tables[0].calls + tables[1].calls);
             }
         }
-        println!("\n{table}\n{:.1} s", start.elapsed().as_secs_f64());
+        println!("\n{}\n{:.1} s", report_cases(&tables[0], &tables[1]), start.elapsed().as_secs_f64());
         return ExitCode::SUCCESS;
     }
     let mut stats = Stats::default();

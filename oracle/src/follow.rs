@@ -3,7 +3,6 @@
 //! same state: outside the named cases they must do the same, and inside a difference is counted under the case's name.
 
 use std::collections::BTreeMap;
-use std::fmt::{self, Display, Formatter};
 
 use crate::calls::{Answer, Call, Entry, TimerSpec};
 use crate::silicon::cases::{self, Met};
@@ -31,22 +30,27 @@ pub struct Table {
     pub left: u64,
 }
 
-impl Display for Table {
-    fn fmt(&self, f: &mut Formatter) -> fmt::Result {
-        let Self { lists, calls, looks, steps, plain_steps, writes, plain_writes, left, .. } = self;
-        writeln!(f, "{calls} calls in {lists} lists, {looks} looks, all equal by the Rust's rules; {left} deliveries answered 8.")?;
-        writeln!(f, "By the manual's: {plain_steps} of {steps} steps and {plain_writes} of {writes} writes met no case, all equal.\n")?;
-        writeln!(f, "| case | met | another state |\n|---|---|---|")?;
-        for name in cases::NAMES {
-            let [met, differs] = self.met.get(name).copied().unwrap_or_default();
-            writeln!(f, "| `{name}` | {met} | {differs} |")?;
-        }
-        Ok(())
+/// The cases met by lists in time and by lists with late calls, as a page's table.
+pub fn report(in_time: &Table, late: &Table) -> String {
+    let mut text = String::new();
+    for (what, t) in [("In time", in_time), ("With late calls", late)] {
+        let Table { lists, calls, looks, steps, plain_steps, writes, plain_writes, left, .. } = t;
+        text += &format!("{what}: {calls} calls in {lists} lists, {looks} looks, all equal by the Rust's rules; {left} deliveries answered 8.\n");
+        text += &format!("By the manual's rules: {plain_steps} of {steps} steps and {plain_writes} of {writes} writes met no case, all equal.\n");
     }
+    text += "\n| case | in time: met | another state | with late calls: met | another state |\n|---|---|---|---|---|\n";
+    for name in cases::NAMES {
+        let [[a, b], [c, d]] = [in_time, late].map(|t| t.met.get(name).copied().unwrap_or_default());
+        text += &format!("| `{name}` | {a} | {b} | {c} | {d} |\n");
+    }
+    text
 }
 
 impl Table {
     fn count(&mut self, met: Met, differ: Met) {
+        if met.none() && differ.none() {
+            return;
+        }
         for (names, k) in [(met, 0), (differ, 1)] {
             names.names().for_each(|n| self.met.entry(n).or_default()[k] += 1);
         }
@@ -59,9 +63,9 @@ impl Table {
         self.count(m, d);
     }
 
-    /// What is done by the Rust's rules, tried by the manual's: another state only in cases that are met.
-    fn tried(&mut self, what: &str, met: Met, does: impl Fn(&Rules) -> Timer) -> Result<(), String> {
-        let differ = if does(&RUST).same(&does(&MANUAL)) {
+    /// What is done by the Rust's rules (`ours`), tried by the manual's: another state only in cases that are met.
+    fn tried(&mut self, what: &str, met: Met, ours: &Timer, does: impl Fn(&Rules) -> Timer) -> Result<(), String> {
+        let differ = if does(&MANUAL).same(ours) {
             Met::default()
         } else if met.none() {
             return Err(format!("the {what} differs in no named case"));
@@ -107,7 +111,7 @@ impl Followed {
             };
             let met = cases::of_clock(&RUST, before);
             table.plain_steps += met.none() as u64;
-            if let Err(e) = table.tried("clock", met, does) {
+            if let Err(e) = table.tried("clock", met, after, does) {
                 fault = Some(format!("{e}: {before:x?}"));
             }
             stale.add("done-equality", met.has("done-equality"));
@@ -299,8 +303,14 @@ impl Follow {
             let lost = self.due(t, cycle);
             let f = &mut self.timers[t];
             if f.line.t.on {
-                table.note("lost-update", lost.updates > 0, lost.updates > 0);
-                table.note("lost-compare", lost.matches > 0, lost.matches > 0);
+                let (mut first, mut then) = (f.line.clone(), f.line.clone());
+                first.deliver(cycle, |_, _, _| {});
+                first.clock_change(div, cycle);
+                then.clock_change(div, cycle);
+                [&mut first, &mut then].map(|line| line.deliver(cycle, |_, _, _| {}));
+                let differs = !first.t.same(&then.t);
+                table.note("lost-update", lost.updates > 0, lost.updates > 0 && differs);
+                table.note("lost-compare", lost.matches > 0, lost.matches > 0 && differs);
                 f.stale.add("lost-compare", lost.events() > 0);
                 if lost.events() == 0 {
                     f.quiet_steps(cycle, table)?;
@@ -340,9 +350,16 @@ impl Follow {
         let mut probe = f.line.clone();
         let lost = probe.deliver(cycle, |_, _, _| {});
         if lost.events() > 0 {
-            table.note("lost-update", syncs && lost.updates > 0, syncs && lost.updates > 0);
-            table.note("lost-compare", syncs && lost.matches > 0, syncs && lost.matches > 0);
-            table.note("late-flags", !syncs, !syncs);
+            // Delivered before the write, and after it.
+            let (mut first, mut then) = (probe.clone(), f.line.clone());
+            first.write(i, v, cycle);
+            then.write(i, v, cycle);
+            first.settle();
+            then.deliver(cycle, |_, _, _| {});
+            let differs = !first.t.same(&then.t);
+            table.note("lost-update", syncs && lost.updates > 0, syncs && lost.updates > 0 && differs);
+            table.note("lost-compare", syncs && lost.matches > 0, syncs && lost.matches > 0 && differs);
+            table.note("late-flags", !syncs, !syncs && differs);
             f.stale.add("lost-compare", syncs);
             f.stale.add("late-flags", !syncs);
         } else if syncs {
@@ -358,8 +375,8 @@ impl Follow {
         table.writes += 1;
         let met = cases::of_write(&RUST, &from, i, v);
         table.plain_writes += met.none() as u64;
-        table.tried("write", met, does).map_err(|e| format!("{e}, register {i}, value {v:#x}: {from:x?}"))?;
         let ours = does(&RUST);
+        table.tried("write", met, &ours, does).map_err(|e| format!("{e}, register {i}, value {v:#x}: {from:x?}"))?;
         if i == CR1 && (from.cr1 ^ ours.cr1) & DIR != 0 {
             let late = probe.drives && (0..from.channels).any(|ch| ours.level(ch) != from.level(ch));
             table.note("direction-late", late, late);

@@ -35,21 +35,23 @@ pub struct Gen {
     left: u64,
     /// Planned calls are made no earlier: a board may start far out.
     start: u64,
-    /// One or two timers, calls that a stepped machine can follow.
+    /// One or two timers, calls that a stepped machine can follow; each call with nothing due that is not delivered.
     few: bool,
+    in_time: bool,
 }
 
 impl Gen {
     pub fn new(seed: u64) -> Self {
         let mut rng = Rng::new(seed);
         let left = rng.below(8); // a few calls meet the blank board
-        Self { rng, board: Board::new(), setup: Setup::default(), plan: VecDeque::new(), left, start: 0, few: false }
+        Self { rng, board: Board::new(), setup: Setup::default(), plan: VecDeque::new(), left, start: 0, few: false, in_time: false }
     }
 
     /// Lists for a machine that is stepped clock by clock: one or two timers, a pin to each channel, small prescalers, cycles near
-    /// each other, no call that is refused but with 7.
-    pub fn few_timers(seed: u64) -> Self {
-        Self { few: true, left: 0, ..Self::new(seed) }
+    /// each other, no call that is refused but with 7. In time: every write is followed by a delivery at its cycle, and
+    /// time goes on with deliveries alone.
+    pub fn few_timers(seed: u64, in_time: bool) -> Self {
+        Self { few: true, in_time, left: 0, ..Self::new(seed) }
     }
 
     /// The generator's board, as the calls so far left it.
@@ -61,6 +63,16 @@ impl Gen {
     pub fn step(&mut self) -> (Call, Answer) {
         let call = self.choose();
         let answer = self.board.call(&call);
+        if self.in_time {
+            let book = self.book();
+            let due = match call {
+                Call::Write { timer, .. } => timer..timer + 1,
+                // A shorter step may have passed already.
+                Call::Clock { .. } => 0..self.setup.timers.len() as u32,
+                _ => 0..0,
+            };
+            due.for_each(|timer| self.plan.push_front(Call::Deliver { timer, cycle: 0, book }));
+        }
         if let (Call::Setup(s), 0) = (&call, answer.number) {
             self.setup = s.clone();
             self.left = if self.rng.one_in(10) { self.rng.below(40) } else { 100 + self.rng.below(500) };
@@ -180,7 +192,7 @@ impl Gen {
     fn soon(&mut self) -> u64 {
         let last = self.board.last().max(self.start);
         if self.few {
-            return if self.rng.one_in(12) { last + self.rng.below(6) } else { last };
+            return if !self.in_time && self.rng.one_in(12) { last + self.rng.below(6) } else { last };
         }
         match self.rng.below(20) {
             0..=6 => last,
@@ -193,6 +205,9 @@ impl Gen {
     /// Any cycle, mostly a good one. A few lead far out, so that a board's life ends there.
     fn when(&mut self) -> u64 {
         let last = self.board.last();
+        if self.in_time {
+            return last;
+        }
         if self.few {
             let n = self.rng.below(100);
             let step = self.running().map_or(1, |t| self.board.view(t, last).tick).min(100);

@@ -92,6 +92,21 @@ fn readings() {
     assert!(asked > 60, "{asked}");
 }
 
+/// Reading 12 with each of the four registers: at 0, "even with reload 0", the counter is turned up.
+#[test]
+fn turned_up_at_zero() {
+    for (i, v) in [(CR1, ARPE | 0x21), (CNT, 0), (ARR, 3), (EGR, 0)] {
+        let mut line = Timeline::new(RULES, 1, 0xffff, true);
+        for (i, v, cycle) in [(CCR1, 9, 0), (ARR, 4, 0), (CR1, ARPE | 0x21, 0), (ARR, 0, 1)] {
+            line.write(i, v, cycle);
+        }
+        assert_eq!(line.deliver(4, |_, _, _| {}).events(), 1);
+        assert_eq!((cnt(&line.t), down(&line.t)), (0, 1));
+        line.write(i, v, 5);
+        assert_eq!((cnt(&line.t), down(&line.t)), (0, 0), "register {i}");
+    }
+}
+
 // ---- F-8, F-2, F-6, F-11 -----------------------------------------------------------------------
 
 /// Reload, compare, mode, then CR1; by manual mode, 1 cycle a step.
