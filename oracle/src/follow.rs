@@ -307,7 +307,9 @@ impl Follow {
                 first.deliver(cycle, |_, _, _| {});
                 first.clock_change(div, cycle);
                 then.clock_change(div, cycle);
-                [&mut first, &mut then].map(|line| line.deliver(cycle, |_, _, _| {}));
+                for line in [&mut first, &mut then] {
+                    line.deliver(cycle, |_, _, _| {});
+                }
                 let differs = !first.t.same(&then.t);
                 table.note("lost-update", lost.updates > 0, lost.updates > 0 && differs);
                 table.note("lost-compare", lost.matches > 0, lost.matches > 0 && differs);
@@ -318,8 +320,11 @@ impl Follow {
                 let clamped = f.line.t.shown != f.line.t.cnt;
                 table.note("clamp-down", clamped, clamped);
                 f.stale.add("clamp-down", clamped);
-                let inside = div != f.line.div && f.line.late(cycle).pre != 0;
-                table.note("clock-change-jump", inside, inside);
+                // What has passed of the step, in cycles, and in kernel clocks before and after.
+                let pre = f.line.late(cycle).pre;
+                let part = pre * f.line.div + (cycle - f.line.at) % f.line.div;
+                let inside = div != f.line.div && part != 0;
+                table.note("clock-change-jump", inside, inside && part / div != pre);
             }
             f.line.clock_change(div, cycle);
         }

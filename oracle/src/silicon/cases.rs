@@ -130,7 +130,8 @@ fn answers(r: &Rules, old: &Timer, after: &Timer, ours: &Timer, m: &mut Met) {
         let rust = ours.is_output(ch) && ours.equal(ch) && ours.going(r) && !ours.done[ch];
         let name = match (manual, ours.on) {
             (true, false) => "stopped-match",
-            (false, _) if old.done[ch] => "match-again",
+            // Downward a compare equal to the counter is done only by its match.
+            (false, _) if old.done[ch] && old.down() => "match-again",
             _ => "done-equality",
         };
         m.add(name, manual != rust);
