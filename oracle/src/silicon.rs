@@ -1,7 +1,7 @@
-//! RM0440's general-purpose timer as one machine that is stepped a kernel clock at a time: the executable side of the
-//! definitions in crates/rm0440/specs (Rules, State, Clock, Write, Cases), function by function under their names. Both
+//! RM0440's general-purpose timer as one machine that is stepped a kernel clock at a time: the definitions of
+//! crates/rm0440/specs (Rules, State, Clock, Write, Read, Level), function by function under their names, to be run. Both
 //! rules of a disagreement stand at the one place that it concerns. Sentences in quotation marks paraphrase the manual,
-//! from memory of its text or as document 01 and F-8 of document 02 give it.
+//! from memory of its text or as documents 01 and 02 give it; F-n is a request of document 02.
 
 pub mod cases;
 pub mod timeline;
@@ -37,7 +37,7 @@ rules! {
     // the counter
     reload_zero "reload-zero",
     above_reload "above-reload",
-    /// Not a field of the definition, whose state has the counter alone: the Rust reads another number than it counts by.
+    /// Only here: the definition's state has the counter alone, and the Rust reads another number than it counts by.
     clamp_down "clamp-down",
     centre_aligned "centre-aligned",
     start_delay "start-delay",
@@ -56,6 +56,7 @@ rules! {
     mode_change_latch "mode-change-latch",
     ccg_latches "ccg-latches",
     trigger_generation "trigger-generation",
+    /// Only here.
     ccs_locked "ccs-locked",
 }
 
@@ -428,8 +429,7 @@ impl Timer {
         self.done = std::array::from_fn(|ch| ch < self.channels && self.past(ch));
     }
 
-    /// Upward above the reload the Rust wraps at once. (The definition does not ask that the counter goes on: a counter
-    /// that a reload of 0 blocks would wrap in manual mode, against F-6.)
+    /// Upward above the reload the Rust wraps at once; a counter that a reload of 0 blocks stays (F-6).
     pub fn overrun(&self, r: &Rules) -> bool {
         !r.above_reload && self.going(r) && !self.centre(r) && !self.down() && self.arr < self.cnt
     }
@@ -442,8 +442,7 @@ impl Timer {
 
     fn answered(&mut self, r: &Rules, old: &Self, event: &mut impl Events) {
         if self.overrun(r) {
-            // The Rust wraps at the step that has been, not at the write: what has passed of the step stays. (The
-            // definition begins a whole step.)
+            // The Rust wraps at the step that has been, not at the write: what has passed of the step stays.
             let pre = self.pre;
             self.wrapped(r);
             self.pre = pre;
@@ -523,7 +522,7 @@ impl Timer {
         if v & 1 != 0 {
             self.generated(r);
         } else {
-            // Every write of EGR (reading 12); in the definition only one with UG.
+            // F-8 says it of every write of EGR (reading 12).
             let was = self.down();
             self.turned(r);
             if self.down() != was {
@@ -553,7 +552,7 @@ impl Timer {
             self.turned(r);
             self.resettled();
         } else {
-            // Turned here too (README-turning of the spike); the definition leaves it.
+            // F-8 says it of every write of ARR.
             let was = self.down();
             self.turned(r);
             if self.down() != was {
