@@ -7,10 +7,12 @@ use std::collections::BTreeMap;
 use crate::calls::{Answer, Call, Entry, TimerSpec};
 use crate::silicon::cases::{self, Met};
 use crate::silicon::timeline::{Delivered, Edge, Timeline};
-use crate::silicon::{synchronizes, Rules, Timer, CNT, CR1, DIR};
+use crate::silicon::{synchronizes, Rules, Timer, CNT, CR1, DIER, DIR};
 
 const RUST: Rules = Rules::rust();
 const MANUAL: Rules = Rules::manual();
+/// Kernel clocks to which the next event is looked for.
+const NEAR: u64 = 40;
 
 /// What was compared, and the cases met.
 #[derive(Clone, Debug, Default)]
@@ -138,6 +140,7 @@ impl Followed {
 #[derive(Default)]
 pub struct Follow {
     specs: Vec<TimerSpec>,
+    lines: u32,
     timers: Vec<Followed>,
     table: BTreeMap<u32, u32>,
     tree: Option<(u64, [u32; 6])>,
@@ -185,7 +188,7 @@ impl Follow {
         }
         match *call {
             Call::Setup(ref s) => {
-                *self = Self { specs: s.timers.clone(), table: s.signals.iter().copied().collect(), ..Self::default() };
+                *self = Self { specs: s.timers.clone(), lines: s.lines, table: s.signals.iter().copied().collect(), ..Self::default() };
                 let hz = s.hz;
                 self.tree = Some((hz, [1; 6]));
                 for t in &s.timers {
@@ -279,6 +282,7 @@ impl Follow {
                 table.look(|| "events".into(), answer.value, done.events())?;
                 self.edges(t, answer, &done.edges, table)?;
                 self.look(t, cycle, ask, table)?;
+                self.look_ahead(t, ask, table)?;
             }
             _ => {}
         }
@@ -412,6 +416,22 @@ impl Follow {
             .filter_map(|e| Some(Entry { pin: pin(e.ch)? as u16, level: e.level as u8, cycle: e.cycle }))
             .collect();
         table.look(|| "entries".into(), &answer.entries, &wanted)
+    }
+
+    /// After a delivery: the next event's cycle, where it is near, and the interrupt that the flags request.
+    fn look_ahead(&self, t: usize, ask: &mut dyn FnMut(&Call) -> Answer, table: &mut Table) -> Result<(), String> {
+        let line = &self.timers[t].line;
+        let booked = ask(&Call::Booked { timer: t as u32 }).value;
+        match line.next_event(NEAR) {
+            Some(cycle) => table.look(|| "booked".into(), booked, cycle)?,
+            None => table.look(|| format!("booked {booked}, nothing near"), false, booked <= line.at + NEAR * line.div)?,
+        }
+        let irq = self.specs[t].irq;
+        if self.specs.iter().filter(|s| s.irq == irq).count() == 1 && irq < self.lines {
+            let requests = line.t.sr & line.t.regs[DIER] & 0x1f != 0;
+            table.look(|| "interrupt".into(), ask(&Call::Line { irq }).value & 1, requests as u64)?;
+        }
+        Ok(())
     }
 
     /// Every register at the call's cycle, and the pins that show the outputs.

@@ -77,6 +77,7 @@ impl Rules {
 
 // Registers by offset / 4.
 pub const CR1: usize = 0;
+pub const DIER: usize = 3;
 pub const SR: usize = 4;
 pub const EGR: usize = 5;
 pub const CCMR1: usize = 6;

@@ -107,7 +107,7 @@ fn of_overflow(t: &Timer, m: &mut Met) {
 /// An output's compare is met that the Rust's record calls done, or with the counter not going on.
 fn missed(r: &Rules, t: &Timer, by_clock: bool, m: &mut Met) {
     for ch in 0..4 {
-        let missed = t.is_output(ch) && t.equal(ch) && !(t.going(r) && !t.done[ch]);
+        let missed = t.is_output(ch) && t.equal(ch) && (t.done[ch] || !t.going(r));
         let stopped = if by_clock { "one-pulse-last-match" } else { "stopped-match" };
         m.add(if t.on { "done-equality" } else { stopped }, missed);
     }

@@ -65,7 +65,8 @@ impl Timeline {
         let Self { rules, t, at, div, drives, out } = self;
         let mut n = cycle.saturating_sub(*at) / *div;
         while n > 0 {
-            let rest = if !t.on && !(rules.start_delay && t.cr1 & CEN != 0) {
+            let starts = rules.start_delay && t.cr1 & CEN != 0;
+            let rest = if !t.on && !starts {
                 n
             } else if t.on && t.blocked(rules) {
                 t.pre = 0;
