@@ -1,6 +1,7 @@
-//! The machine of `silicon` beside a board: every call that a board has answered is made of the machine too, by the Rust's rules, and
-//! all that can be seen of the timers must be equal. At every step and every write the manual's rules are tried from the
-//! same state: outside the named cases they must do the same, and inside a difference is counted under the case's name.
+//! The machine of `silicon` beside a board: every call that a board has answered is made of the machine too, by the Rust's rules (or
+//! manual mode's), and all that can be seen of the timers must be equal. At every step and every write the manual's rules are
+//! tried from the same state: outside the named cases they must do the same, and inside a difference is counted under the
+//! case's name.
 
 use std::collections::BTreeMap;
 
@@ -9,7 +10,6 @@ use crate::silicon::cases::{self, Met};
 use crate::silicon::timeline::{Delivered, Edge, Timeline};
 use crate::silicon::{synchronizes, Rules, Timer, CNT, CR1, DIER, DIR};
 
-const RUST: Rules = Rules::rust();
 const MANUAL: Rules = Rules::manual();
 /// Kernel clocks to which the next event is looked for.
 const NEAR: u64 = 40;
@@ -65,14 +65,14 @@ impl Table {
         self.count(m, d);
     }
 
-    /// What is done by the Rust's rules (`ours`), tried by the manual's: another state only in cases that are met.
-    fn tried(&mut self, what: &str, met: Met, ours: &Timer, does: impl Fn(&Rules) -> Timer) -> Result<(), String> {
+    /// What is done by rules `r` (`ours`), tried by the manual's: another state only in cases that are met.
+    pub fn tried(&mut self, r: &Rules, what: &str, met: Met, ours: &Timer, does: impl Fn(&Rules) -> Timer) -> Result<(), String> {
         let differ = if does(&MANUAL).same(ours) {
             Met::default()
         } else if met.none() {
             return Err(format!("the {what} differs in no named case"));
         } else {
-            cases::blame(&RUST, met, does)
+            cases::blame(r, met, does)
         };
         self.count(met, differ);
         match differ.names().find(|n| !met.has(n)) {
@@ -103,7 +103,7 @@ impl Followed {
     fn steps(&mut self, cycle: u64, table: &mut Table) -> Result<Delivered, String> {
         let mut fault = None;
         let Self { line, stale, .. } = self;
-        let drives = line.drives;
+        let (drives, r) = (line.drives, line.rules);
         let done = line.deliver(cycle, |before, after, out| {
             table.steps += 1;
             let does = |r: &Rules| {
@@ -111,9 +111,9 @@ impl Followed {
                 s.clock(r, &mut |_: &Timer, _| {});
                 s
             };
-            let met = cases::of_clock(&RUST, before);
+            let met = cases::of_clock(&r, before);
             table.plain_steps += met.none() as u64;
-            if let Err(e) = table.tried("clock", met, after, does) {
+            if let Err(e) = table.tried(&r, "clock", met, after, does) {
                 fault = Some(format!("{e}: {before:x?}"));
             }
             stale.add("done-equality", met.has("done-equality"));
@@ -139,6 +139,8 @@ impl Followed {
 /// A board's timers as machines.
 #[derive(Default)]
 pub struct Follow {
+    /// The timers that the next set-up has in manual mode, timer i at bit i.
+    pub manual: u32,
     specs: Vec<TimerSpec>,
     lines: u32,
     timers: Vec<Followed>,
@@ -188,12 +190,13 @@ impl Follow {
         }
         match *call {
             Call::Setup(ref s) => {
-                *self = Self { specs: s.timers.clone(), lines: s.lines, table: s.signals.iter().copied().collect(), ..Self::default() };
+                *self = Self { manual: self.manual, specs: s.timers.clone(), lines: s.lines, table: s.signals.iter().copied().collect(), ..Self::default() };
                 let hz = s.hz;
                 self.tree = Some((hz, [1; 6]));
-                for t in &s.timers {
+                for (k, t) in s.timers.iter().enumerate() {
+                    let rules = if self.manual >> k & 1 != 0 { Rules::manual_mode() } else { Rules::rust() };
                     let max = if t.width == 32 { 0xffff_ffff } else { 0xffff };
-                    let line = Timeline::new(RUST, t.channels as usize, max, (2..=4).contains(&t.number));
+                    let line = Timeline::new(rules, t.channels as usize, max, (2..=4).contains(&t.number));
                     self.timers.push(Followed { line, written: 0, stale: Met::default(), left: false });
                 }
             }
@@ -345,7 +348,7 @@ impl Follow {
         let line = &self.timers[t].line;
         let (mut delivered, late) = (line.clone(), line.late(cycle));
         if delivered.deliver(cycle, |_, _, _| {}).events() > 0 {
-            table.note("late-flags", true, late.read(&RUST, i) != delivered.t.read(&RUST, i));
+            table.note("late-flags", true, late.read(&line.rules, i) != delivered.t.read(&line.rules, i));
         }
         if i == CNT && delivered.t.shown != delivered.t.cnt {
             table.note("clamp-down", true, true);
@@ -355,7 +358,7 @@ impl Follow {
     /// A write by both rules, from the state that the call finds with nothing due.
     fn tried(&mut self, t: usize, i: usize, v: u64, cycle: u64, table: &mut Table) -> Result<(), String> {
         let f = &mut self.timers[t];
-        let syncs = synchronizes(i);
+        let (r, syncs) = (f.line.rules, synchronizes(i));
         let mut probe = f.line.clone();
         let lost = probe.deliver(cycle, |_, _, _| {});
         if lost.events() > 0 {
@@ -382,10 +385,10 @@ impl Follow {
             s
         };
         table.writes += 1;
-        let met = cases::of_write(&RUST, &from, i, v);
+        let met = cases::of_write(&r, &from, i, v);
         table.plain_writes += met.none() as u64;
-        let ours = does(&RUST);
-        table.tried("write", met, &ours, does).map_err(|e| format!("{e}, register {i}, value {v:#x}: {from:x?}"))?;
+        let ours = does(&r);
+        table.tried(&r, "write", met, &ours, does).map_err(|e| format!("{e}, register {i}, value {v:#x}: {from:x?}"))?;
         if i == CR1 && (from.cr1 ^ ours.cr1) & DIR != 0 {
             let late = probe.drives && (0..from.channels).any(|ch| ours.level(ch) != from.level(ch));
             table.note("direction-late", late, late);
@@ -441,7 +444,7 @@ impl Follow {
         for i in 0..18 {
             let offset = 4 * i as u32;
             let value = ask(&Call::Peek { timer: t as u32, offset, cycle }).value;
-            table.look(|| format!("{offset:#x} at {cycle}"), value, late.read(&RUST, i))?;
+            table.look(|| format!("{offset:#x} at {cycle}"), value, late.read(&line.rules, i))?;
         }
         for ch in 0..line.t.channels {
             let Some(&pin) = self.routes.get(&signal(self.specs[t].number, ch)) else { continue };

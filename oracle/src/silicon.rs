@@ -29,6 +29,14 @@ macro_rules! rules {
                 }
                 self
             }
+
+            /// The rule of this name is the manual's; false if there is none of it.
+            pub fn by_manual(&self, name: &str) -> bool {
+                match name {
+                    $($name => self.$field,)*
+                    _ => false,
+                }
+            }
         }
     };
 }

@@ -1,6 +1,10 @@
 //! The machine by the rules of manual mode: readings 1 to 25 of document 02, and F-8's sentences on centre-aligned counting.
 
 use oracle::calls::{parse, Call};
+use oracle::follow::Table;
+use oracle::gen::Gen;
+use oracle::rng::Rng;
+use oracle::silicon::cases;
 use oracle::silicon::timeline::{Edge, Timeline};
 use oracle::silicon::{Rules, Timer, ARPE, ARR, CCER, CCMR1, CCR1, CEN, CNT, CR1, DIR, EGR, OPM, PSC, SR, UDIS};
 
@@ -104,6 +108,61 @@ fn turned_up_at_zero() {
         assert_eq!((cnt(&line.t), down(&line.t)), (0, 1));
         line.write(i, v, 5);
         assert_eq!((cnt(&line.t), down(&line.t)), (0, 0), "register {i}");
+    }
+}
+
+/// Outside the cases that manual mode leaves to the Rust, its clocks and writes are the manual's, centre-aligned ones too.
+#[test]
+fn outside_the_cases() {
+    let (mut table, mut turns) = (Table::default(), 0);
+    for seed in 0..60 {
+        let (mut gen, mut rng, mut lines) = (Gen::few_timers(seed, true), Rng::new(seed), Vec::new());
+        for _ in 0..1_000 {
+            match gen.step().0 {
+                Call::Setup(s) => {
+                    let max = |width| if width == 32 { 0xffff_ffff } else { 0xffff };
+                    lines = s.timers.iter().map(|t| Timeline::new(RULES, t.channels as usize, max(t.width), true)).collect();
+                }
+                Call::Write { timer, offset, size: 4, value, cycle, .. } => {
+                    let (i, line) = (offset as usize / 4, &mut lines[timer as usize]);
+                    let cms = if i == CR1 && rng.one_in(2) { rng.below(4) << 5 } else { 0 };
+                    let v = value as u64 | cms;
+                    line.deliver(cycle, |_, _, _| {});
+                    if line.astray(i, v, cycle) {
+                        continue;
+                    }
+                    let from = line.t;
+                    let does = |r: &Rules| {
+                        let mut s = from;
+                        s.write(r, i, v, &mut |_: &Timer, _| {});
+                        s
+                    };
+                    let met = cases::of_write(&RULES, &from, i, v);
+                    table.plain_writes += met.none() as u64;
+                    table.tried(&RULES, "write", met, &does(&RULES), does).unwrap_or_else(|e| panic!("{e}: register {i}, {v:#x}, {from:x?}"));
+                    line.write(i, v, cycle);
+                }
+                Call::Deliver { timer, cycle, .. } => {
+                    lines[timer as usize].deliver(cycle, |before, after, _| {
+                        let does = |r: &Rules| {
+                            let mut s = *before;
+                            s.clock(r, &mut |_: &Timer, _| {});
+                            s
+                        };
+                        let met = cases::of_clock(&RULES, before);
+                        table.plain_steps += met.none() as u64;
+                        turns += (met.none() && before.down() != after.down()) as u64;
+                        table.tried(&RULES, "clock", met, after, does).unwrap_or_else(|e| panic!("{e}: {before:x?}"));
+                    });
+                }
+                Call::Reset { timer, cycle, .. } => drop(lines[timer as usize].reset(cycle)),
+                _ => {}
+            }
+        }
+    }
+    assert!(table.plain_steps > 100_000 && table.plain_writes > 2_000 && turns > 2_000, "{turns} {table:?}");
+    for switched in ["one-pulse", "one-pulse-udis", "reload-zero", "centre-aligned"] {
+        assert!(!table.met.contains_key(switched), "{switched}");
     }
 }
 

@@ -52,6 +52,18 @@ impl Met {
         self.0 |= other.0;
     }
 
+    /// Without the cases whose rule in `r` is the manual's.
+    fn left_by(mut self, r: &Rules) -> Self {
+        for name in NAMES {
+            let rule = match name {
+                "match-again" | "stopped-match" | "one-pulse-last-match" => "done-equality",
+                name => name,
+            };
+            self.0 &= !((r.by_manual(rule) as u32) << place(name));
+        }
+        self
+    }
+
     pub fn names(self) -> impl Iterator<Item = &'static str> {
         NAMES.into_iter().filter(move |name| self.has(name))
     }
@@ -79,7 +91,7 @@ fn centre_aligned(t: &Timer) -> bool {
     t.channels != 0 && cms(t.cr1) != 0
 }
 
-/// The cases of a clock that steps the counter, for rules `r`.
+/// The cases of a clock, of those that rules `r` leave to the Rust.
 pub fn of_clock(r: &Rules, t: &Timer) -> Met {
     let mut m = Met::default();
     m.add("reload-zero", t.on && t.arr == 0);
@@ -94,7 +106,7 @@ pub fn of_clock(r: &Rules, t: &Timer) -> Met {
         m.add("reload-zero", next.on && next.arr == 0);
         missed(r, &next, true, &mut m);
     }
-    m
+    if *r == Rules::rust() { m } else { m.left_by(r) }
 }
 
 /// The cases of an overflow or underflow.
@@ -138,7 +150,7 @@ fn answers(r: &Rules, old: &Timer, after: &Timer, ours: &Timer, m: &mut Met) {
     }
 }
 
-/// The cases of a write of `v` to register `i`, for rules `r`.
+/// The cases of a write of `v` to register `i`, of those that rules `r` leave to the Rust.
 pub fn of_write(r: &Rules, t: &Timer, i: usize, v: u64) -> Met {
     let mut m = Met::default();
     let mut after = *t;
@@ -198,14 +210,14 @@ pub fn of_write(r: &Rules, t: &Timer, i: usize, v: u64) -> Met {
         CCR1..=CCR4 if !t.preloads(i - CCR1) => answers(r, t, &after, &ours, &mut m),
         _ => {}
     }
-    m
+    m.left_by(r)
 }
 
 /// Which of the cases met make `does`, done by rules `r`, another than by the manual: those whose rule alone does so, else all.
 pub fn blame(r: &Rules, met: Met, does: impl Fn(&Rules) -> Timer) -> Met {
     let plain = does(r);
     let mut to = Met::default();
-    for name in Rules::NAMES.iter().copied().filter(|name| !does(&r.and(name)).same(&plain)) {
+    for name in Rules::NAMES.iter().copied().filter(|name| !r.by_manual(name) && !does(&r.and(name)).same(&plain)) {
         if name == "done-equality" {
             for n in ["done-equality", "match-again", "stopped-match", "one-pulse-last-match"] {
                 to.add(n, met.has(n));

@@ -178,9 +178,9 @@ impl Timeline {
         if !t.centre(&self.rules) || !t.going(&self.rules) {
             return n;
         }
-        let to_turn = if t.down() { t.cnt } else { t.arr - t.cnt };
+        let to_turn = if t.down() { t.cnt } else { t.arr.saturating_sub(t.cnt) };
         let step = t.psc + 1;
-        if t.pre + n >= to_turn * step { ((to_turn - 1) * step).saturating_sub(t.pre) } else { n }
+        if t.pre + n >= to_turn * step { (to_turn.saturating_sub(1) * step).saturating_sub(t.pre) } else { n }
     }
 
     // ---- calls ------------------------------------------------------------------------------
