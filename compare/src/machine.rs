@@ -14,7 +14,7 @@ use crate::shrink::shrink_by;
 /// The list of a seed: with late calls where it is odd, else in time. Where it fails, the list made small, in
 /// docs/CALLS.md's format.
 pub fn list(port: &mut Port, seed: u64, tables: &mut [Table; 2]) -> Result<(), String> {
-    let mut gen = Gen::few_timers(seed, seed % 2 == 0);
+    let mut gen = Gen::few_timers(seed, seed.is_multiple_of(2));
     let table = &mut tables[seed as usize % 2];
     let calls: Vec<Call> = (0..CALLS).map(|_| gen.step().0).collect();
     let Some((i, fault)) = fails(port, &calls, table) else {
