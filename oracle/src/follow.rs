@@ -8,11 +8,13 @@ use std::collections::BTreeMap;
 use crate::calls::{Answer, Call, Entry, TimerSpec};
 use crate::silicon::cases::{self, Met};
 use crate::silicon::timeline::{Delivered, Edge, Timeline};
-use crate::silicon::{synchronizes, Rules, Timer, CNT, CR1, DIER, DIR};
+use crate::silicon::{synchronizes, Rules, Timer, CCER, CNT, CR1, DIER, DIR};
 
 const MANUAL: Rules = Rules::manual();
 /// Kernel clocks to which the next event is looked for.
 const NEAR: u64 = 40;
+/// Steps that are too many to be made one by one.
+const FAR: u64 = 20_000;
 
 /// What was compared, and the cases met.
 #[derive(Clone, Debug, Default)]
@@ -28,7 +30,7 @@ pub struct Table {
     pub plain_writes: u64,
     /// By case: times met, times that it made a difference.
     pub met: BTreeMap<&'static str, [u64; 2]>,
-    /// Deliveries answered 8, after which a timer is followed no more.
+    /// Times that a timer was followed no more, up to its reset: a delivery answered 8, or steps too many.
     pub left: u64,
 }
 
@@ -37,7 +39,7 @@ pub fn report(in_time: &Table, late: &Table) -> String {
     let mut text = String::new();
     for (what, t) in [("In time", in_time), ("With late calls", late)] {
         let Table { lists, calls, looks, steps, plain_steps, writes, plain_writes, left, .. } = t;
-        text += &format!("{what}: {calls} calls in {lists} lists, {looks} looks, all equal by the Rust's rules; {left} deliveries answered 8.\n");
+        text += &format!("{what}: {calls} calls in {lists} lists, {looks} looks, all equal by the Rust's rules; {left} times a timer was left.\n");
         text += &format!("By the manual's rules: {plain_steps} of {steps} steps and {plain_writes} of {writes} writes met no case, all equal.\n");
     }
     text += "\n| case | in time: met | another state | with late calls: met | another state |\n|---|---|---|---|---|\n";
@@ -92,13 +94,27 @@ struct Followed {
     line: Timeline,
     /// The cycle of the last write.
     written: u64,
-    /// Why the outputs may not show the machine's levels.
-    stale: Met,
-    /// A delivery was cut short.
+    /// The outputs may not show the machine's levels: by direction-late, clamp-down, done-equality, a late call or a pin reset.
+    stale: bool,
+    /// Not followed, up to a reset.
     left: bool,
 }
 
 impl Followed {
+    /// It is not followed to this cycle.
+    fn far(&self, cycle: u64) -> bool {
+        let t = &self.line.t;
+        self.left || t.on && cycle.saturating_sub(self.line.at) / self.line.div / (t.psc + 1) > FAR
+    }
+
+    /// The same; then it is followed no more.
+    fn leave(&mut self, cut: bool, cycle: u64, table: &mut Table) -> bool {
+        let leaves = cut || self.far(cycle);
+        table.left += (leaves && !self.left) as u64;
+        self.left = leaves;
+        leaves
+    }
+
     /// Delivers, each step tried by the manual's rules as well, and the levels held to the machine's.
     fn steps(&mut self, cycle: u64, table: &mut Table) -> Result<Delivered, String> {
         let mut fault = None;
@@ -116,11 +132,11 @@ impl Followed {
             if let Err(e) = table.tried(&r, "clock", met, after, does) {
                 fault = Some(format!("{e}: {before:x?}"));
             }
-            stale.add("done-equality", met.has("done-equality"));
+            *stale |= met.has("done-equality");
             let shows = !drives || (0..after.channels).all(|ch| after.level(ch) == out[ch]);
             if shows {
-                *stale = Met::default();
-            } else if stale.none() {
+                *stale = false;
+            } else if !*stale {
                 fault = Some(format!("a level that is not the machine's: {out:?} {after:x?}"));
             }
         });
@@ -181,9 +197,12 @@ impl Follow {
     pub fn step(&mut self, call: &Call, answer: &Answer, ask: &mut dyn FnMut(&Call) -> Answer, table: &mut Table) -> Result<(), String> {
         table.calls += 1;
         if let (&Call::Write { timer, offset, size, value, cycle, .. }, 7) = (call, answer.number) {
-            let (i, v) = self.merged(timer as usize, offset, size, value, cycle);
             let f = &self.timers[timer as usize];
-            return if f.left { Ok(()) } else { table.look(|| "refusal 7".into(), true, f.line.astray(i, v, cycle)) };
+            if f.far(cycle) {
+                return Ok(());
+            }
+            let (i, v) = self.merged(timer as usize, offset, size, value, cycle);
+            return table.look(|| "refusal 7".into(), true, f.line.astray(i, v, cycle));
         }
         if !matches!(answer.number, 0 | 8) {
             return Ok(());
@@ -197,7 +216,7 @@ impl Follow {
                     let rules = if self.manual >> k & 1 != 0 { Rules::manual_mode() } else { Rules::rust() };
                     let max = if t.width == 32 { 0xffff_ffff } else { 0xffff };
                     let line = Timeline::new(rules, t.channels as usize, max, (2..=4).contains(&t.number));
-                    self.timers.push(Followed { line, written: 0, stale: Met::default(), left: false });
+                    self.timers.push(Followed { line, written: 0, stale: false, left: false });
                 }
             }
             Call::Clock { hclk, dividers, cycle, .. } => self.clock(hclk, dividers, cycle, table)?,
@@ -225,21 +244,26 @@ impl Follow {
             Call::ResetPins { .. } => {
                 self.routes.clear();
                 self.signals.clear();
+                // The outputs' signals fall, up to the next drive.
+                for f in &mut self.timers {
+                    f.line.out = [false; 4];
+                    f.stale = true;
+                }
             }
             Call::Read { timer, offset, size, cycle } => {
                 let t = timer as usize;
-                if self.timers[t].left {
+                if self.timers[t].far(cycle) {
                     return Ok(());
                 }
                 let i = (offset & !3) as usize / 4;
-                let word = if offset < 1 << 16 { self.timers[t].line.read(i, cycle) as u32 } else { 0 };
+                let word = self.timers[t].line.read(i, cycle) as u32;
                 let value = if self.open(t) { lane_read(word, offset, size) } else { 0 };
                 self.seen_late(t, i, cycle, table);
                 table.look(|| format!("read {offset:#x}"), answer.value, value as u64)?;
             }
             Call::Peek { timer, offset, cycle } => {
                 let t = timer as usize;
-                if self.timers[t].left {
+                if self.timers[t].far(cycle) {
                     return Ok(());
                 }
                 let i = (offset & !3) as usize / 4;
@@ -248,7 +272,7 @@ impl Follow {
             }
             Call::Write { timer, offset, size, value, cycle, .. } => {
                 let t = timer as usize;
-                if self.timers[t].left {
+                if self.timers[t].leave(false, cycle, table) {
                     return Ok(());
                 }
                 if self.open(t) {
@@ -266,19 +290,18 @@ impl Follow {
             Call::Reset { timer, cycle, .. } => {
                 let t = timer as usize;
                 let f = &mut self.timers[t];
-                f.left = false;
-                f.stale = Met::default();
+                let left = std::mem::take(&mut f.left);
+                f.stale = false;
                 let edges = f.line.reset(cycle);
-                self.edges(t, answer, &edges, table)?;
+                // What the outputs of a timer that was not followed fall from is not known.
+                if !left {
+                    self.edges(t, answer, &edges, table)?;
+                }
                 self.look(t, cycle, ask, table)?;
             }
             Call::Deliver { timer, cycle, .. } => {
                 let t = timer as usize;
-                if answer.number == 8 {
-                    self.timers[t].left = true;
-                    table.left += 1;
-                }
-                if self.timers[t].left {
+                if self.timers[t].leave(answer.number == 8, cycle, table) {
                     return Ok(());
                 }
                 let done = self.deliver(t, cycle, table)?;
@@ -307,6 +330,10 @@ impl Follow {
         }
         for t in 0..self.timers.len() {
             let div = self.divider(self.specs[t].bus);
+            if self.timers[t].leave(false, cycle, table) {
+                self.timers[t].line.div = div;
+                continue;
+            }
             let lost = self.due(t, cycle);
             let f = &mut self.timers[t];
             if f.line.t.on {
@@ -320,13 +347,13 @@ impl Follow {
                 let differs = !first.t.same(&then.t);
                 table.note("lost-update", lost.updates > 0, lost.updates > 0 && differs);
                 table.note("lost-compare", lost.matches > 0, lost.matches > 0 && differs);
-                f.stale.add("lost-compare", lost.events() > 0);
+                f.stale |= lost.events() > 0;
                 if lost.events() == 0 {
                     f.quiet_steps(cycle, table)?;
                 }
                 let clamped = f.line.t.shown != f.line.t.cnt;
                 table.note("clamp-down", clamped, clamped);
-                f.stale.add("clamp-down", clamped);
+                f.stale |= clamped;
                 // What has passed of the step, in cycles, and in kernel clocks before and after.
                 let pre = f.line.late(cycle).pre;
                 let part = pre * f.line.div + (cycle - f.line.at) % f.line.div;
@@ -372,11 +399,12 @@ impl Follow {
             table.note("lost-update", syncs && lost.updates > 0, syncs && lost.updates > 0 && differs);
             table.note("lost-compare", syncs && lost.matches > 0, syncs && lost.matches > 0 && differs);
             table.note("late-flags", !syncs, !syncs && differs);
-            f.stale.add("lost-compare", syncs);
-            f.stale.add("late-flags", !syncs);
+            f.stale = true;
         } else if syncs {
             f.quiet_steps(cycle, table)?;
         }
+        // CCER drives by the count of its own cycle, and the steps to it are still to be delivered.
+        f.stale |= i == CCER && f.line.at < cycle;
         // From here on with nothing due: what a late call loses is counted above.
         let from = probe.t;
         let does = |r: &Rules| {
@@ -392,9 +420,9 @@ impl Follow {
         if i == CR1 && (from.cr1 ^ ours.cr1) & DIR != 0 {
             let late = probe.drives && (0..from.channels).any(|ch| ours.level(ch) != from.level(ch));
             table.note("direction-late", late, late);
-            f.stale.add("direction-late", late);
+            f.stale |= late;
         }
-        f.stale.add("clamp-down", met.has("clamp-down") || ours.shown != ours.cnt);
+        f.stale |= met.has("clamp-down") || ours.shown != ours.cnt;
         Ok(())
     }
 

@@ -23,6 +23,21 @@ fn random_lists() {
     }
 }
 
+/// Lists of any kind, with short books, far cycles and pins set at will, as far as a machine can be stepped through them.
+#[test]
+fn wild_lists() {
+    let mut table = Table::default();
+    for seed in 2_000..2_025 {
+        let (mut gen, mut follow) = (Gen::new(seed), Follow::new());
+        for k in 0..1_000 {
+            let (call, answer) = gen.step();
+            if let Err(fault) = follow.step(&call, &answer, &mut |q| gen.ask(q), &mut table) {
+                panic!("seed {seed}, call {k}: {call} # {answer} # {fault}");
+            }
+        }
+    }
+}
+
 /// The list of each line of docs/DIFFERENCES.md that the machine knows meets its case, and the manual's rule gives another state.
 #[test]
 fn lists_meet_their_cases() {
