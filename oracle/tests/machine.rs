@@ -1,6 +1,6 @@
 //! The figures that the definitions of crates/rm0440 are computed to give (proofs/Figures), of the machine that is run.
 
-use oracle::silicon::{Rules, Timer, ARR, CCER, CCMR1, CCR1, CNT, CR1, EGR, PSC, SR};
+use oracle::silicon::{cases, Rules, Timer, ARR, CCER, CCMR1, CCR1, CNT, CR1, EGR, PSC, SR};
 
 const MANUAL: Rules = Rules::manual();
 const RUST: Rules = Rules::rust();
@@ -122,4 +122,19 @@ fn part_steps() {
     assert_eq!(over(MANUAL, cnt, 5, again(MANUAL)), [0, 0, 0, 1, 1]);
     assert_eq!(over(RUST, cnt, 5, again(RUST)), [0, 0, 0, 1, 1]);
     assert_eq!(over(Rules { start_delay: false, ..MANUAL }, cnt, 4, again(Rules { start_delay: false, ..MANUAL })), [0, 0, 1, 1]);
+}
+
+/// The rules' names are the fields of the definition's record, but for two that are only here, and lines of docs/DIFFERENCES.md.
+#[test]
+fn names() {
+    let root = std::path::Path::new(env!("CARGO_MANIFEST_DIR")).join("..");
+    let page = std::fs::read_to_string(root.join("docs/DIFFERENCES.md")).unwrap();
+    for name in cases::NAMES.iter().chain(Rules::NAMES) {
+        assert!(page.contains(&format!("\n| `{name}` |")), "{name} is no line");
+    }
+    let Ok(record) = std::fs::read_to_string(root.join("crates/rm0440/specs/Rules.antt")) else { return };
+    let fields: Vec<&str> = record.lines().filter_map(|l| l.strip_prefix("  pub ")?.strip_suffix(" : Bool")).collect();
+    assert!(fields.iter().all(|f| Rules::NAMES.contains(f)), "{fields:?}");
+    let only_here = |n: &&&str| !fields.contains(*n) && !["clamp-down", "ccs-locked"].contains(*n);
+    assert_eq!(Rules::NAMES.iter().find(only_here), None, "no field of the record");
 }
