@@ -1,4 +1,5 @@
 //! `compare COUNT [SEED]`: at least COUNT random calls through the library and the oracle, from fresh seeds or from SEED on.
+//! `compare machine COUNT [SEED]`: the same with the library and RM0440's machine; prints the table of the cases met.
 
 use std::collections::hash_map::RandomState;
 use std::hash::{BuildHasher, Hasher};
@@ -7,23 +8,44 @@ use std::time::{Duration, Instant};
 
 use compare::run::{CALLS, KINDS};
 use compare::{list, report, Port, Stats};
+use oracle::follow::{report as report_cases, Table};
 
 fn main() -> ExitCode {
-    let args: Option<Vec<u64>> = std::env::args().skip(1).map(|a| a.parse().ok()).collect();
+    let mut args: Vec<String> = std::env::args().skip(1).collect();
+    let machine = args.first().is_some_and(|a| a == "machine");
+    if machine {
+        args.remove(0);
+    }
+    let args: Option<Vec<u64>> = args.iter().map(|a| a.parse().ok()).collect();
     let (count, seed) = match args.as_deref() {
         Some(&[count]) => (count, fresh()),
         Some(&[count, seed]) => (count, seed),
         _ => {
-            eprintln!("usage: compare COUNT [SEED]");
+            eprintln!("usage: compare [machine] COUNT [SEED]");
             return ExitCode::FAILURE;
         }
     };
     let lists = count.div_ceil(CALLS);
     println!("{lists} lists of {CALLS} calls, seeds {seed} to {}", seed.wrapping_add(lists).wrapping_sub(1));
     let mut port = Port::new();
-    let mut stats = Stats::default();
     let start = Instant::now();
     let mut told = start;
+    if machine {
+        let mut tables = [Table::default(), Table::default()];
+        for i in 0..lists {
+            if let Err(failure) = compare::machine::list(&mut port, seed.wrapping_add(i), &mut tables) {
+                println!("{failure}");
+                return ExitCode::FAILURE;
+            }
+            if told.elapsed() > Duration::from_secs(30) {
+                told = Instant::now();
+                println!("{} calls, all equal so far", tables[0].calls + tables[1].calls);
+            }
+        }
+        println!("\n{}\n{:.1} s", report_cases(&tables[0], &tables[1]), start.elapsed().as_secs_f64());
+        return ExitCode::SUCCESS;
+    }
+    let mut stats = Stats::default();
     for i in 0..lists {
         if let Err(failure) = list(&mut port, seed.wrapping_add(i), CALLS, &mut stats) {
             println!("{}", report(&mut port, *failure));

@@ -27,7 +27,12 @@ pub fn fails(port: &mut Port, calls: &[Call]) -> Option<(usize, Fault)> {
 
 /// A smaller list that fails too; the list itself if it does not fail again.
 pub fn shrink(port: &mut Port, calls: Vec<Call>) -> Vec<Call> {
-    let mut s = Shrinker { port, calls, end: Instant::now() + PATIENCE };
+    shrink_by(&mut |calls| fails(port, calls).map(|(i, _)| i), calls)
+}
+
+/// The same for any failure: `fails` finds the call of a list that shows it.
+pub fn shrink_by(fails: &mut dyn FnMut(&[Call]) -> Option<usize>, calls: Vec<Call>) -> Vec<Call> {
+    let mut s = Shrinker { fails, calls, end: Instant::now() + PATIENCE };
     let whole = s.calls.clone();
     s.attempt(whole);
     loop {
@@ -62,7 +67,7 @@ pub fn report(port: &mut Port, f: Failure) -> String {
 }
 
 struct Shrinker<'a> {
-    port: &'a mut Port,
+    fails: &'a mut dyn FnMut(&[Call]) -> Option<usize>,
     /// The smallest list so far.
     calls: Vec<Call>,
     end: Instant,
@@ -78,8 +83,8 @@ impl Shrinker<'_> {
         if self.late() {
             return false;
         }
-        match fails(self.port, &calls) {
-            Some((i, _)) => {
+        match (self.fails)(&calls) {
+            Some(i) => {
                 calls.truncate(i + 1);
                 self.calls = calls;
                 true

@@ -35,13 +35,23 @@ pub struct Gen {
     left: u64,
     /// Planned calls are made no earlier: a board may start far out.
     start: u64,
+    /// One or two timers, calls that a stepped machine can follow; each call with nothing due that is not delivered.
+    few: bool,
+    in_time: bool,
 }
 
 impl Gen {
     pub fn new(seed: u64) -> Self {
         let mut rng = Rng::new(seed);
         let left = rng.below(8); // a few calls meet the blank board
-        Self { rng, board: Board::new(), setup: Setup::default(), plan: VecDeque::new(), left, start: 0 }
+        Self { rng, board: Board::new(), setup: Setup::default(), plan: VecDeque::new(), left, start: 0, few: false, in_time: false }
+    }
+
+    /// Lists for a machine that is stepped clock by clock: one or two timers, a pin to each channel, small prescalers, cycles near
+    /// each other, no call that is refused but with 7. In time: every write is followed by a delivery at its cycle, and
+    /// time goes on with deliveries alone.
+    pub fn few_timers(seed: u64, in_time: bool) -> Self {
+        Self { few: true, in_time, left: 0, ..Self::new(seed) }
     }
 
     /// The generator's board, as the calls so far left it.
@@ -53,6 +63,16 @@ impl Gen {
     pub fn step(&mut self) -> (Call, Answer) {
         let call = self.choose();
         let answer = self.board.call(&call);
+        if self.in_time {
+            let book = self.book();
+            let due = match call {
+                Call::Write { timer, .. } => timer..timer + 1,
+                // A shorter step may have passed already.
+                Call::Clock { .. } => 0..self.setup.timers.len() as u32,
+                _ => 0..0,
+            };
+            due.for_each(|timer| self.plan.push_front(Call::Deliver { timer, cycle: 0, book }));
+        }
         if let (Call::Setup(s), 0) = (&call, answer.number) {
             self.setup = s.clone();
             self.left = if self.rng.one_in(10) { self.rng.below(40) } else { 100 + self.rng.below(500) };
@@ -83,6 +103,9 @@ impl Gen {
             return Call::Setup(self.good_setup());
         }
         self.left -= 1;
+        if self.few {
+            return self.choose_few();
+        }
         if self.rng.one_in(5_000) {
             return self.heavy();
         }
@@ -108,11 +131,69 @@ impl Gen {
         }
     }
 
+    fn choose_few(&mut self) -> Call {
+        match self.rng.below(1000) {
+            0..=459 => {
+                // All timers are served in time, mostly.
+                let call = self.deliver();
+                if let (&Call::Deliver { timer, book, .. }, 2) = (&call, self.setup.timers.len()) {
+                    self.plan.push_back(Call::Deliver { timer: 1 - timer, cycle: 0, book });
+                }
+                call
+            }
+            460..=829 => self.aimed_write(),
+            830..=844 => {
+                self.pilot();
+                self.choose()
+            }
+            845..=944 => Call::Read { timer: self.timer(), offset: self.register(), size: 4, cycle: self.when() },
+            945..=969 => Call::Peek { timer: self.timer(), offset: self.register(), cycle: self.when() },
+            970..=974 => Call::Reset { timer: self.timer(), cycle: self.when(), book: self.book() },
+            975..=979 => {
+                let (sys, hclk, mut dividers) = self.board.tree();
+                dividers[4] = self.rng.pick(&[1, 1, 2, 3]);
+                Call::Clock { sys, hclk, dividers, cycle: self.when() }
+            }
+            980..=984 => {
+                // A closed gate opens again before long.
+                let word = self.rng.pick(&self.setup.timers).word;
+                for _ in 0..self.rng.below(4) {
+                    let call = self.aimed_write();
+                    self.plan.push_back(call);
+                }
+                self.plan.push_back(Call::Enable { word, value: u32::MAX });
+                Call::Enable { word, value: 0 }
+            }
+            _ => match self.first_booked() {
+                // Delivered at the very cycle of a write, as a program that is in time has it.
+                Some(t) => Call::Deliver { timer: t as u32, cycle: self.board.last(), book: self.book() },
+                None => Call::Next,
+            },
+        }
+    }
+
+    /// One or two timers, mostly with channels; function 1 of pin k is the k-th channel.
+    fn few_setup(&mut self) -> Setup {
+        let lines = 8;
+        let mut s = Setup { hz: 16e6f64.to_bits(), vcc: 3.3f64.to_bits(), pins: 8, lines, len: 128, ..Setup::default() };
+        for k in 0..1 + self.rng.small(2) {
+            let number = self.rng.pick(&[2, 3]) + 2 * k;
+            let channels = self.rng.pick(&[4, 4, 4, 2, 1, 3, 0]);
+            s.timers.push(TimerSpec { number, width: self.rng.pick(&[16, 32]), channels, bus: 1, word: 3, bit: k, irq: k });
+        }
+        let channels: Vec<u32> = s.timers.iter().flat_map(|t| (0..t.channels).map(|c| 16 * (t.number + 10) + c + 2)).collect();
+        s.signals.extend((0..).zip(channels).map(|(pin, signal)| (pin * 16 + 1, signal)));
+        s
+    }
+
     // ---- small choices --------------------------------------------------------------------
 
     /// A cycle as a program would have it.
     fn soon(&mut self) -> u64 {
         let last = self.board.last().max(self.start);
+        if self.few {
+            return if !self.in_time && self.rng.one_in(12) { last + self.rng.below(6) } else { last };
+        }
         match self.rng.below(20) {
             0..=6 => last,
             7..=17 => last + self.rng.below(12),
@@ -124,6 +205,14 @@ impl Gen {
     /// Any cycle, mostly a good one. A few lead far out, so that a board's life ends there.
     fn when(&mut self) -> u64 {
         let last = self.board.last();
+        if self.in_time {
+            return last;
+        }
+        if self.few {
+            let n = self.rng.below(100);
+            let step = self.running().map_or(1, |t| self.board.view(t, last).tick).min(100);
+            return last + if n < 60 { 0 } else if n < 90 { self.rng.below(2 * step) } else { self.rng.below(30 * step) };
+        }
         match self.rng.below(1000) {
             0..=449 => last + self.rng.below(30),
             450..=649 => last,
@@ -156,6 +245,9 @@ impl Gen {
     }
 
     fn timer(&mut self) -> u32 {
+        if self.few {
+            return self.rng.small(self.board.specs().len() as u32);
+        }
         self.index(self.board.specs().len() as u32, &[8, 9, 255, 256, 1 << 16, u32::MAX])
     }
 
@@ -173,6 +265,9 @@ impl Gen {
     }
 
     fn book(&mut self) -> u64 {
+        if self.few {
+            return 400_008;
+        }
         match self.rng.below(40) {
             0..=19 => 4 + self.rng.below(9),
             20..=34 => 13 + self.rng.below(100),
@@ -251,6 +346,9 @@ impl Gen {
     }
 
     fn good_setup(&mut self) -> Setup {
+        if self.few {
+            return self.few_setup();
+        }
         let n = match self.rng.below(10) {
             0..=3 => 1 + self.rng.below(2),
             4..=7 => 2 + self.rng.below(3),
@@ -375,6 +473,13 @@ impl Gen {
 
     /// After a set-up: open the gates, route the pins, start some timers, as a program does first.
     fn prepare(&mut self) {
+        if self.few {
+            self.plan.push_back(Call::Enable { word: 3, value: u32::MAX });
+            let pins = self.setup.signals.clone();
+            let pin = |(entry, _)| Call::Pin { pin: entry / 16, mode: 2, open_drain: 0, out: 0, pullup: 0, pulldown: 0, function: 1, cycle: 0, book: 4 };
+            self.plan.extend(pins.into_iter().map(pin));
+            return (0..self.setup.timers.len()).for_each(|_| self.pilot());
+        }
         for t in self.setup.timers.clone() {
             let value = if self.rng.one_in(12) { self.value() } else { u32::MAX };
             self.plan.push_back(Call::Enable { word: t.word, value });
@@ -552,7 +657,7 @@ impl Gen {
             _ => return Call::Deliver { timer: t as u32, cycle: self.near(), book },
         };
         // A booking far out is seldom worth the jump: the other timers would fall far behind.
-        let far = cycle > last + 20_000 && !self.rng.one_in(30);
+        let far = if self.few { cycle > last + 4_000 } else { cycle > last + 20_000 && !self.rng.one_in(30) };
         let cycle = if far { last + self.rng.below(100) } else { cycle.max(last) };
         if self.due(t, cycle) > MANY {
             return self.catch_up(t as u32);

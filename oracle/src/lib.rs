@@ -2,9 +2,11 @@
 
 pub mod board;
 pub mod calls;
+pub mod follow;
 pub mod gen;
 pub mod rng;
 pub mod samples;
+pub mod silicon;
 
 use std::io::{self, BufRead, Write};
 

@@ -108,7 +108,7 @@ withRunning t on = withCount t (record {
   running = on;
 })
 
--- one-pulse ends with the period; the Rust leaves CEN set (docs/DIFFERENCES.md, one-pulse, one-pulse-udis)
+-- one-pulse ends with the period; the Rust leaves CEN set (docs/DIFFERENCES.md, one-pulse, one-pulse-udis), and matches nothing where it stops (one-pulse-last-match)
 unfoldable pub ended : Timer → Timer
 ended t = withRunning t (runsOn (OPM (t .regs .cr1)) (t .count .running))
 
@@ -168,6 +168,7 @@ ranFrom t now tick = withCount t (record {
 unfoldable pub started : Timer → ℕ → ℕ → Timer
 started t now div = recomputed (ranFrom t now (stepCycles (t .count .«psc_act») div))
 
+-- CEN from 1 to 0: the part of a step that has passed is dropped with the next start (docs/DIFFERENCES.md, stop-phase)
 unfoldable pub stopped : Timer → ℕ → Timer
 stopped t now = withRunning (synced t now) false
 

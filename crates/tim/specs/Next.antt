@@ -41,7 +41,7 @@ consider t ch best = cond (compares t ch) (nearer (compareSteps t ch) ch best) b
 unfoldable pub nextSteps : Timer → Ahead
 nextSteps t = consider t 3 (consider t 2 (consider t 1 (consider t 0 (record { steps = updateSteps t; next = Update }))))
 
--- "the next event, or none when the timer is stopped", with the cycle at which it is due
+-- "the next event, or none when the timer is stopped", with the cycle at which it is due, that of a step also where a write made it (docs/DIFFERENCES.md, stopped-match, match-before-write)
 unfoldable pub nextEvent : Timer → Due
 nextEvent t =
     cond (t .count .running) (At (t .count .base + nextSteps t .steps * t .count .tick) (nextSteps t .next)) Stopped

@@ -1,0 +1,29 @@
+//! The library beside RM0440's machine: fixed seeds, for the gate.
+
+use compare::machine::list;
+use compare::Port;
+use oracle::follow::{report, Table};
+use oracle::silicon::cases;
+
+/// Lists of the gate.
+const LISTS: u64 = 240;
+
+#[test]
+fn random_lists() {
+    let (mut port, mut tables) = (Port::new(), [Table::default(), Table::default()]);
+    for seed in 0..LISTS {
+        if let Err(failure) = list(&mut port, seed, &mut tables) {
+            panic!("{failure}");
+        }
+    }
+    let [in_time, late] = &tables;
+    // A case that made no difference says nothing of its rule; lists in time lose nothing.
+    for name in cases::NAMES {
+        let made = |t: &Table| t.met.get(name).map_or(0, |m| m[1]);
+        let lost = ["lost-update", "lost-compare", "late-flags"].contains(&name);
+        assert!(made(late) > 0 && (made(in_time) > 0) != lost, "{name}\n{}", report(in_time, late));
+    }
+    for t in &tables {
+        assert!(t.plain_steps > t.steps / 2 && t.plain_writes > t.writes / 2, "{}", report(in_time, late));
+    }
+}
