@@ -112,15 +112,15 @@ module _ (w : List ℕ) (x : List Float) (i offset size value cycle v : ℕ)
   on-merged-book s s₁ k m = subst (λ (z : ℕ). Holds (writtenBy (view w x) i (register offset) z cycle .entries) s s₁ k) e m
 
 -- a whole write of a register
-module _ (w : List ℕ) (x : List Float) (i off v cycle : ℕ) (e : register off ≡ off) where
-  whole-by : writtenOn (view w x) i off 4 v cycle ≡ writtenBy (view w x) i off v cycle
+module _ (w : List ℕ) (x : List Float) (i off size v cycle : ℕ) (e : register off ≡ off) (z : size ≡ 4) where
+  whole-by : writtenOn (view w x) i off size v cycle ≡ writtenBy (view w x) i off v cycle
   unfolding laneWrite
-  whole-by = ap (λ (k : ℕ). writtenBy (view w x) i k v cycle) e
+  whole-by = ap (λ (n : ℕ). writtenOn (view w x) i off n v cycle) z ∙ ap (λ (k : ℕ). writtenBy (view w x) i k v cycle) e
 
-  pub as-whole : (r : Answer) (w₁ : List ℕ) (x₁ : List Float) → Answers (writtenOn (view w x) i off 4 v cycle) r w w₁ x x₁ → Answers (writtenBy (view w x) i off v cycle) r w w₁ x x₁
+  pub as-whole : (r : Answer) (w₁ : List ℕ) (x₁ : List Float) → Answers (writtenOn (view w x) i off size v cycle) r w w₁ x x₁ → Answers (writtenBy (view w x) i off v cycle) r w w₁ x x₁
   as-whole r w₁ x₁ m = subst (λ (o : Outcome). Answers o r w w₁ x x₁) whole-by m
 
-  pub as-whole-book : (s s₁ : Lent) (k : ℕ) → Holds (writtenOn (view w x) i off 4 v cycle .entries) s s₁ k → Holds (writtenBy (view w x) i off v cycle .entries) s s₁ k
+  pub as-whole-book : (s s₁ : Lent) (k : ℕ) → Holds (writtenOn (view w x) i off size v cycle .entries) s s₁ k → Holds (writtenBy (view w x) i off v cycle .entries) s s₁ k
   as-whole-book s s₁ k m = subst (λ (o : Outcome). Holds (o .entries) s s₁ k) whole-by m
 
 -- a whole write is its value

@@ -340,19 +340,21 @@ fn write_any(
     )
 }
 
-// A whole write of the value v to register off: by its short way, or as any other write.
+// A whole write of the value v to register off: by its short way, or as any other write. The size is passed on and not written as 4: with a
+// constant there `write_any` would be compiled in.
 fn write_quick(
     words: &mut [u64; WORDS],
     reals: &mut [f64; REALS],
     i: usize,
     off: u32,
+    size: u32,
     v: u32,
     cycle: u64,
     pins: &mut [u8],
     levels: &mut [u8],
     cycles: &mut [u64],
 ) -> u64
-    requires { ⌜ (i < 8) × (register off ≡ off) × (cycle ≤ 4611686018427387904) ⌝ }
+    requires { ⌜ (i < 8) × (register off ≡ off) × (cycle ≤ 4611686018427387904) × (size ≡ 4) ⌝ }
     requires { ⌜ Room 4 (slices (now pins) (now levels) (now cycles)) ⌝ }
     ensures { λ r. ⌜ Answers (writtenBy (view (now (words .entry)) (now (reals .entry))) i off v cycle) (answerOf r) (now (words .entry)) (now (words .exit)) (now (reals .entry)) (now (reals .exit)) ⌝ }
     ensures { λ r. ⌜ Holds (writtenBy (view (now (words .entry)) (now (reals .entry))) i off v cycle .entries) (slices (now (pins .entry)) (now (levels .entry)) (now (cycles .entry))) (slices (now (pins .exit)) (now (levels .exit)) (now (cycles .exit))) (answerOf r .count) ⌝ }
@@ -362,7 +364,7 @@ fn write_quick(
         0x0c => write_dier(words, i, v, cycle),
         0x10 => write_sr(words, i, v, cycle),
         0x34..=0x40 => write_compare(words, reals, i, off, v, cycle, pins, levels, cycles),
-        _ => write_any(words, reals, i, off, 4, v, cycle, pins, levels, cycles),
+        _ => write_any(words, reals, i, off, size, v, cycle, pins, levels, cycles),
     }
 }
 
@@ -399,6 +401,7 @@ fn write_on(
             reals,
             i,
             offset / 4 * 4,
+            size,
             value,
             cycle,
             pins,

@@ -18,7 +18,7 @@ mul-write-quick : tie.Need-mul-write-quick
 mul-write-quick c = search needs
 
 write-quick-requires : tie.Need-write-quick-requires
-write-quick-requires c κs = let s = c .before .before .before .before .before .before .before .before .before .before in ((s .pre .0 .0, aligned (s .args .offset), s .pre .0 .2), s .pre .1)
+write-quick-requires c κs = let s = c .before .before .before .before .before .before .before .before .before .before in ((s .pre .0 .0, aligned (s .args .offset), s .pre .0 .2, eqb-true (s .args .size) 4 (sym (c .before .before .before .before .before .before .quick .ensures) ∙ c .before .before .before .before .before .if1 .taken)), s .pre .1)
 
 same-length : tie.Need-same-length
 same-length c = search needs

@@ -20,7 +20,7 @@ write-compare-requires : tie.Need-write-compare-requires
 write-compare-requires c κs = let s = c .before .before .before .before .before .before .before .before .before .before .before in ((s .pre .0 .0, ccr-in (s .args .off) (omega (arith, c .before .before .before .before .before .before .if1 .left)) (omega (arith, c .before .before .before .before .before .if2 .taken)), omega (arith, s .pre .0 .2)), s .pre .1)
 
 write-any-requires : tie.Need-write-any-requires
-write-any-requires c κs = let s = c .before .before .before .before .before .before .before .before .before .before in ((s .pre .0 .0, omega arith, s .pre .0 .2), s .pre .1)
+write-any-requires c κs = let s = c .before .before .before .before .before .before .before .before .before .before in ((s .pre .0 .0, omega (arith, s .pre .0 .3), s .pre .0 .2), s .pre .1)
 
 same-length : tie.Need-same-length
 same-length c = search needs
@@ -74,7 +74,7 @@ returns-5 : tie.Need-returns-5
 returns-5 c =
     let f = c .before .before .before .before .before .before .write-any .ensures in
     let s = c .before .before .before .before .before .before .before .before .before .before .before .before .before .before .before .before .before in
-    (as-whole (s .args .words .now) (s .args .reals .now) (s .args .i) (s .args .off) (s .args .v) (s .args .cycle) (s .pre .0 .1) _ _ _ (f .0), as-whole-book (s .args .words .now) (s .args .reals .now) (s .args .i) (s .args .off) (s .args .v) (s .args .cycle) (s .pre .0 .1) _ _ _ (f .1))
+    (as-whole (s .args .words .now) (s .args .reals .now) (s .args .i) (s .args .off) (s .args .size) (s .args .v) (s .args .cycle) (s .pre .0 .1) (s .pre .0 .3) _ _ _ (f .0), as-whole-book (s .args .words .now) (s .args .reals .now) (s .args .i) (s .args .off) (s .args .size) (s .args .v) (s .args .cycle) (s .pre .0 .1) (s .pre .0 .3) _ _ _ (f .1))
 
 pub write-quick-spec : {M : Type 1} → statement M
 write-quick-spec =
