@@ -35,10 +35,10 @@ use Rattle.follows.proofs.Standing.{either-sync}
 use Rattle.follows.proofs.Lasting.{left-updated, left-compared, left-retimed, left-reset}
 use Rattle.machine.specs.Board.{Board, Pads, timerAt, noTimer, withTimer, withPads, withLast, withClocks, filled, freshBoard, firstBoard, one}
 use Rattle.machine.specs.Sys as Sys
-use Rattle.machine.specs.Deliver.{Run, dividerOf, lineSettled, rebooked, turn, turnOf, dueBy, mostEvents, delivered, settled}
+use Rattle.machine.specs.Deliver.{Run, dividerOf, lineSettled, rebooked, turn, turnOf, dueBy, mostEvents, delivered, afterDelivery}
 use Rattle.machine.specs.Deliver as D
-use Rattle.machine.specs.Call.{Setup, Call, setUp, clockTree, enable, setPin, drivePin, resetPins, read, write, peek, resetTimer, deliver, queryBooked, queryNext, queryLevel, queryVolts, queryLine, queryTime, clearPending, Outcome}
-use Rattle.machine.specs.Step.{absent, oddSize, astray, bookFull, withinLimits, clockOn, register, present, written, counterAstray, followed, timerReset, deliveredTo, timerRetimed, allRetimed, treeSet, step, boardAfter}
+use Rattle.machine.specs.Call.{Setup, Call, setUp, clockTree, enable, setPin, drivePin, resetPins, read, write, peek, resetTimer, deliver, queryBooked, queryNext, queryLevel, queryVolts, queryLine, queryTime, clearPending, Outcome, Question, reading, peeking, booked, next, level, volts, line, time, BookCall, pinSetting, outsideDrive, pinReset, writing, resetting, delivery, ask, lend}
+use Rattle.machine.specs.Step.{absent, oddSize, cycleAstray, bookFull, withinLimits, clockOn, register, present, written, counterAstray, followed, timerReset, deliveredTo, timerRetimed, allRetimed, treeSet, step, boardAfter}
 use Rattle.machine.specs.Sound.{Sound, SoundPads}
 use Rattle.machine.proofs.Routing.{either, by-test}
 use Rattle.machine.proofs.Reach.{inst-written, run-good, sound-step, sound-first}
@@ -82,8 +82,8 @@ turn-left t p (At x Update) div now e o = left-updated t div (o .timed) x now (l
 turn-left t p (At x (Compare ch)) div now e o = left-compared t div (o .timed) ch now (o .based)
 turn-left t p Stopped div now e o = o
 
-run-left : (f now div left : ℕ) (t : Timer) (p : Pads) → Left div now t → Left div now (D.run f now div left t p .timer)
-unfolding D.run
+run-left : (f now div left : ℕ) (t : Timer) (p : Pads) → Left div now t → Left div now (D.handled f now div left t p .timer)
+unfolding D.handled
 run-left zero now div left t p o = o
 run-left (suc f) now div left t p o =
     by-test (λ (r : Run). Left div now (r .timer)) (dueBy (nextEvent t) now)
@@ -96,7 +96,7 @@ run-left (suc f) now div left t p o =
 abbrev Good : Outcome → Type 0
 Good o = Timers (o .board)
 
-pub not-astray : (b : Board) (cycle : ℕ) → astray b cycle ≡ false → b .counts .last ≤ cycle
+pub not-astray : (b : Board) (cycle : ℕ) → cycleAstray b cycle ≡ false → b .counts .last ≤ cycle
 not-astray b cycle e = go (ltb 4611686018427387904 cycle) (ltb cycle (b .counts .last)) refl e
   where
     go : (x y : Bool) → ltb cycle (b .counts .last) ≡ y → x || y ≡ false → b .counts .last ≤ cycle
@@ -133,11 +133,11 @@ module _ (b : Board) (s : Sound b) (h : Timers b) where
       let w = written b (timerAt b i) offset size value cycle in
       by-test Good (absent i (b .counts .timers)) (λ _. h)
       (λ a. either Good (oddSize size) h
-      (by-test Good (astray b cycle) (λ _. h)
+      (by-test Good (cycleAstray b cycle) (λ _. h)
       (λ e.
       let le = not-astray b cycle e in
       let l = present-timer b i a in
-      either Good (bookFull places) h
+      either Good (bookFull 4 places) h
       (either Good (clockOn b (timerAt b i))
       (either Good (counterAstray (register offset) (w .timer)) h
       (by-followed i cycle w
@@ -153,11 +153,11 @@ module _ (b : Board) (s : Sound b) (h : Timers b) where
 
   -- a delivery
   kept-deliver : (i cycle places : ℕ) → i < b .counts .timers → b .counts .last ≤ cycle → Good (deliveredTo b i cycle places)
-  unfolding deliveredTo delivered settled rebooked lineSettled
+  unfolding deliveredTo delivered afterDelivery rebooked lineSettled
   kept-deliver i cycle places l le =
       let o = h i l in
       let r = run-good mostEvents cycle (dividerOf b (timerAt b i)) places (timerAt b i .inst) (timerAt b i) (b .pads) (record { inst = refl; pads = s .pads }) in
-      by-timer b cycle i (D.run mostEvents cycle (dividerOf b (timerAt b i)) places (timerAt b i) (b .pads) .timer) s (later b cycle le h) (r .inst)
+      by-timer b cycle i (D.handled mostEvents cycle (dividerOf b (timerAt b i)) places (timerAt b i) (b .pads) .timer) s (later b cycle le h) (r .inst)
       (run-left mostEvents cycle (dividerOf b (timerAt b i)) places (timerAt b i) (b .pads) (record { timed = o .timed; based = omega (arith, o .based) }))
 
 -- ---- the clock tree
@@ -304,7 +304,7 @@ kept-fresh hz vcc pins lines is table i l =
 
 module _ (b : Board) (s : Sound b) (h : Timers b) where
   -- a call that leaves timers and tree, and moves the last cycle on
-  moves-on : (cycle : ℕ) → astray b cycle ≡ false → By cycle b
+  moves-on : (cycle : ℕ) → cycleAstray b cycle ≡ false → By cycle b
   moves-on cycle e = later b cycle (not-astray b cycle e) h
 
   kept-setUp : (u : Setup) → Good (step b (setUp u))
@@ -314,7 +314,7 @@ module _ (b : Board) (s : Sound b) (h : Timers b) where
   kept-clockTree : (t : ClockTree) (cycle : ℕ) → Good (step b (clockTree t cycle))
   unfolding step
   kept-clockTree t cycle =
-      by-test Good (not (good t)) (λ _. h) (λ g. by-test Good (astray b cycle) (λ _. h) (λ e. kept-tree b s h t cycle (not-false (good t) g) (not-astray b cycle e)))
+      by-test Good (not (good t)) (λ _. h) (λ g. by-test Good (cycleAstray b cycle) (λ _. h) (λ e. kept-tree b s h t cycle (not-false (good t) g) (not-astray b cycle e)))
 
   kept-enable : (word value : ℕ) → Good (step b (enable word value))
   unfolding step
@@ -323,36 +323,36 @@ module _ (b : Board) (s : Sound b) (h : Timers b) where
   kept-setPin : (pin mode od out pu pd f cycle places : ℕ) → Good (step b (setPin pin mode od out pu pd f cycle places))
   unfolding step
   kept-setPin pin mode od out pu pd f cycle places =
-      either Good (absent pin (b .counts .pins)) h (by-test Good (astray b cycle) (λ _. h) (λ e. either Good (bookFull places) h (moves-on cycle e)))
+      either Good (absent pin (b .counts .pins)) h (by-test Good (cycleAstray b cycle) (λ _. h) (λ e. either Good (bookFull 4 places) h (moves-on cycle e)))
 
   kept-drivePin : (pin : ℕ) (x : ExtDrive) (cycle places : ℕ) → Good (step b (drivePin pin x cycle places))
   unfolding step
   kept-drivePin pin x cycle places =
-      either Good (absent pin (b .counts .pins)) h (by-test Good (astray b cycle) (λ _. h) (λ e. either Good (bookFull places) h (moves-on cycle e)))
+      either Good (absent pin (b .counts .pins)) h (by-test Good (cycleAstray b cycle) (λ _. h) (λ e. either Good (bookFull 4 places) h (moves-on cycle e)))
 
   kept-resetPins : (cycle places : ℕ) → Good (step b (resetPins cycle places))
   unfolding step
-  kept-resetPins cycle places = by-test Good (astray b cycle) (λ _. h) (λ e. either Good (ltb places (b .counts .pins)) h (moves-on cycle e))
+  kept-resetPins cycle places = by-test Good (cycleAstray b cycle) (λ _. h) (λ e. either Good (ltb places (b .counts .pins)) h (moves-on cycle e))
 
   kept-read : (i offset size cycle : ℕ) → Good (step b (read i offset size cycle))
   unfolding step
-  kept-read i offset size cycle = either Good (absent i (b .counts .timers)) h (either Good (oddSize size) h (either Good (astray b cycle) h h))
+  kept-read i offset size cycle = either Good (absent i (b .counts .timers)) h (either Good (oddSize size) h (either Good (cycleAstray b cycle) h h))
 
   kept-peek : (i offset cycle : ℕ) → Good (step b (peek i offset cycle))
   unfolding step
-  kept-peek i offset cycle = either Good (absent i (b .counts .timers)) h (either Good (astray b cycle) h h)
+  kept-peek i offset cycle = either Good (absent i (b .counts .timers)) h (either Good (cycleAstray b cycle) h h)
 
   kept-resetTimer : (i cycle places : ℕ) → Good (step b (resetTimer i cycle places))
   unfolding step
   kept-resetTimer i cycle places =
       by-test Good (absent i (b .counts .timers)) (λ _. h)
-      (λ a. by-test Good (astray b cycle) (λ _. h) (λ e. either Good (bookFull places) h (kept-reset b s h i cycle (present-timer b i a) (not-astray b cycle e))))
+      (λ a. by-test Good (cycleAstray b cycle) (λ _. h) (λ e. either Good (bookFull 4 places) h (kept-reset b s h i cycle (present-timer b i a) (not-astray b cycle e))))
 
   kept-delivery : (i cycle places : ℕ) → Good (step b (deliver i cycle places))
   unfolding step
   kept-delivery i cycle places =
       by-test Good (absent i (b .counts .timers)) (λ _. h)
-      (λ a. by-test Good (astray b cycle) (λ _. h) (λ e. either Good (bookFull places) h (kept-deliver b s h i cycle places (present-timer b i a) (not-astray b cycle e))))
+      (λ a. by-test Good (cycleAstray b cycle) (λ _. h) (λ e. either Good (bookFull 4 places) h (kept-deliver b s h i cycle places (present-timer b i a) (not-astray b cycle e))))
 
   kept-query : (i : ℕ) → Good (step b (queryBooked i))
   unfolding step
@@ -364,27 +364,33 @@ module _ (b : Board) (s : Sound b) (h : Timers b) where
 
   kept-rest : (x : ℕ) → Good (step b queryNext) × Good (step b (queryLine x)) × Good (step b (queryTime x)) × Good (step b (clearPending x))
   unfolding step
-  kept-rest x = (h, h, either Good (astray b x) h h, h)
+  kept-rest x = (h, h, either Good (cycleAstray b x) h h, h)
+
+  kept-asked : (q : Question) → Timers (step b (ask q) .board)
+  kept-asked (reading timer offset size cycle) = kept-read timer offset size cycle
+  kept-asked (peeking timer offset cycle) = kept-peek timer offset cycle
+  kept-asked (booked timer) = kept-query timer
+  kept-asked next = kept-rest 0 .0
+  kept-asked (level pin) = kept-pin pin .0
+  kept-asked (volts pin) = kept-pin pin .1
+  kept-asked (line irq) = kept-rest irq .1
+  kept-asked (time cycle) = kept-rest cycle .2
+
+  kept-lent : (k : BookCall) (cycle places : ℕ) → Timers (step b (lend k cycle places) .board)
+  kept-lent (pinSetting pin mode od out pu pd f) cycle places = kept-setPin pin mode od out pu pd f cycle places
+  kept-lent (outsideDrive pin e) cycle places = kept-drivePin pin e cycle places
+  kept-lent pinReset cycle places = kept-resetPins cycle places
+  kept-lent (writing timer offset size value) cycle places = kept-write b s h timer offset size value cycle places
+  kept-lent (resetting timer) cycle places = kept-resetTimer timer cycle places
+  kept-lent (delivery timer) cycle places = kept-delivery timer cycle places
 
   pub kept-step : (c : Call) → Timers (step b c .board)
   kept-step (setUp u) = kept-setUp u
   kept-step (clockTree t cycle) = kept-clockTree t cycle
   kept-step (enable word value) = kept-enable word value
-  kept-step (setPin pin mode od out pu pd f cycle places) = kept-setPin pin mode od out pu pd f cycle places
-  kept-step (drivePin pin e cycle places) = kept-drivePin pin e cycle places
-  kept-step (resetPins cycle places) = kept-resetPins cycle places
-  kept-step (read timer offset size cycle) = kept-read timer offset size cycle
-  kept-step (write timer offset size value cycle places) = kept-write b s h timer offset size value cycle places
-  kept-step (peek timer offset cycle) = kept-peek timer offset cycle
-  kept-step (resetTimer timer cycle places) = kept-resetTimer timer cycle places
-  kept-step (deliver timer cycle places) = kept-delivery timer cycle places
-  kept-step (queryBooked timer) = kept-query timer
-  kept-step queryNext = kept-rest 0 .0
-  kept-step (queryLevel pin) = kept-pin pin .0
-  kept-step (queryVolts pin) = kept-pin pin .1
-  kept-step (queryLine irq) = kept-rest irq .1
-  kept-step (queryTime cycle) = kept-rest cycle .2
   kept-step (clearPending irq) = kept-rest irq .3
+  kept-step (ask q) = kept-asked q
+  kept-step (lend k cycle places) = kept-lent k cycle places
 
 pub kept-run : (b : Board) (cs : List Call) → Sound b → Timers b → Timers (boardAfter b cs)
 unfolding boardAfter

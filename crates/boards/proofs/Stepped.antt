@@ -24,11 +24,11 @@ use Rattle.follows.specs.Follows.{Delivered, between, Call}
 use Rattle.follows.proofs.Theorem.{follows}
 use Rattle.machine.specs.Board.{Board, Pads, timerAt, withTimer, withPads, withLast, firstBoard}
 use Rattle.machine.specs.Sys as Sys
-use Rattle.machine.specs.Deliver.{Run, dividerOf, lineSettled, rebooked, turn, turnOf, dueBy, run, stop, mostEvents, delivered, settled}
+use Rattle.machine.specs.Deliver.{Run, dividerOf, lineSettled, rebooked, turn, turnOf, dueBy, handled, stop, mostEvents, delivered, afterDelivery}
 use Rattle.machine.specs.Deliver as D
 use Rattle.machine.specs.Call as C
 use Rattle.machine.specs.Call.{Outcome, served}
-use Rattle.machine.specs.Step.{refuseIf, absent, oddSize, astray, bookFull, clockOn, register, present, written, counterAstray, followed, deliveredTo, step, boardAfter}
+use Rattle.machine.specs.Step.{refuseIf, absent, oddSize, cycleAstray, bookFull, clockOn, register, present, written, counterAstray, followed, deliveredTo, step, boardAfter}
 use Rattle.machine.specs.Sound.{Sound}
 use Rattle.machine.proofs.Routing.{either}
 use Rattle.machine.proofs.Reach.{sound-after}
@@ -70,13 +70,13 @@ nothing-left : (q : Bool) → _≡_ {A = ℕ} (cond q 8 0) 0 → q ≡ false
 nothing-left true z = absurd (never 7 z)
 nothing-left false z = refl
 
-run-same : (f now div left : ℕ) (t : Timer) (p : Pads) → run f now div left t p .number ≡ 0 → Handled f now div t (run f now div left t p)
-unfolding run S.deliver
+run-same : (f now div left : ℕ) (t : Timer) (p : Pads) → handled f now div left t p .number ≡ 0 → Handled f now div t (handled f now div left t p)
+unfolding handled S.deliver
 run-same zero now div left t p z = (refl, sym (due-same (nextEvent t) now) ∙ nothing-left (dueBy (nextEvent t) now) z)
 run-same (suc f) now div left t p z =
     let u = turnOf t p (nextEvent t) div in
-    one-run f now div t p (run f now div (left - length (u .entries)) (u .timer) (u .pads)) (u .entries) (dueBy (nextEvent t) now) (ltb left 4) refl
-    (λ y. subst (λ (v : Timer). Handled f now div v (run f now div (left - length (u .entries)) (u .timer) (u .pads))) (turn-same t p (nextEvent t) div)
+    one-run f now div t p (handled f now div (left - length (u .entries)) (u .timer) (u .pads)) (u .entries) (dueBy (nextEvent t) now) (ltb left 4) refl
+    (λ y. subst (λ (v : Timer). Handled f now div v (handled f now div (left - length (u .entries)) (u .timer) (u .pads))) (turn-same t p (nextEvent t) div)
     (run-same f now div (left - length (u .entries)) (u .timer) (u .pads) y)) z
 
 -- ---- a call answered 0
@@ -94,7 +94,7 @@ peel false n b o ne z = record { test = refl; is = refl; number = z }
 module _ (b : Board) (s : Sound b) (i cycle : ℕ) (l : i < b .counts .timers) where
   -- its timer, after a delivery and after a write
   delivered-timer : (places : ℕ) → timerAt (deliveredTo b i cycle places .board) i ≡ delivered b i cycle places .timer
-  unfolding deliveredTo settled rebooked lineSettled
+  unfolding deliveredTo afterDelivery rebooked lineSettled
   delivered-timer places = at-place b i (delivered b i cycle places .timer) (s .timers) (s .few-timers) l
 
   followed-timer : (w : Written) → timerAt (followed b i cycle w .board) i ≡ w .timer
@@ -113,9 +113,9 @@ module _ (b : Board) (s : Sound b) (i cycle : ℕ) (l : i < b .counts .timers) w
   delivers-so : (places : ℕ) → step b (C.deliver i cycle places) .number ≡ 0 → (step b (C.deliver i cycle places) ≡ deliveredTo b i cycle places) × (deliveredTo b i cycle places .number ≡ 0)
   unfolding step
   delivers-so places z =
-      let p1 = peel (absent i (b .counts .timers)) 2 b (refuseIf (astray b cycle) 5 b (refuseIf (bookFull places) 6 b (deliveredTo b i cycle places))) (λ e. omega arith) z in
-      let p2 = peel (astray b cycle) 5 b (refuseIf (bookFull places) 6 b (deliveredTo b i cycle places)) (λ e. omega arith) (p1 .number) in
-      let p3 = peel (bookFull places) 6 b (deliveredTo b i cycle places) (λ e. omega arith) (p2 .number) in
+      let p1 = peel (absent i (b .counts .timers)) 2 b (refuseIf (cycleAstray b cycle) 5 b (refuseIf (bookFull 4 places) 6 b (deliveredTo b i cycle places))) (λ e. omega arith) z in
+      let p2 = peel (cycleAstray b cycle) 5 b (refuseIf (bookFull 4 places) 6 b (deliveredTo b i cycle places)) (λ e. omega arith) (p1 .number) in
+      let p3 = peel (bookFull 4 places) 6 b (deliveredTo b i cycle places) (λ e. omega arith) (p2 .number) in
       (p1 .is ∙ p2 .is ∙ p3 .is, p3 .number)
 
   handled : (places : ℕ) → deliveredTo b i cycle places .number ≡ 0 → Handled mostEvents cycle (divOf b i) (timerAt b i) (delivered b i cycle places)
@@ -126,14 +126,14 @@ module _ (b : Board) (s : Sound b) (i cycle : ℕ) (l : i < b .counts .timers) w
   w offset size value = written b (timerAt b i) offset size value cycle
 
   writes-so : (offset size value places : ℕ) → clockOn b (timerAt b i) ≡ true → step b (C.write i offset size value cycle places) .number ≡ 0
-      → (step b (C.write i offset size value cycle places) ≡ followed b i cycle (w offset size value)) × (astray b cycle ≡ false)
+      → (step b (C.write i offset size value cycle places) ≡ followed b i cycle (w offset size value)) × (cycleAstray b cycle ≡ false)
   unfolding step
   writes-so offset size value places on z =
       let o4 = cond (clockOn b (timerAt b i)) (refuseIf (counterAstray (register offset) (w offset size value .timer)) 7 b (followed b i cycle (w offset size value))) (served 0 (withLast b cycle)) in
-      let p1 = peel (absent i (b .counts .timers)) 2 b (refuseIf (oddSize size) 3 b (refuseIf (astray b cycle) 5 b (refuseIf (bookFull places) 6 b o4))) (λ e. omega arith) z in
-      let p2 = peel (oddSize size) 3 b (refuseIf (astray b cycle) 5 b (refuseIf (bookFull places) 6 b o4)) (λ e. omega arith) (p1 .number) in
-      let p3 = peel (astray b cycle) 5 b (refuseIf (bookFull places) 6 b o4) (λ e. omega arith) (p2 .number) in
-      let p4 = peel (bookFull places) 6 b o4 (λ e. omega arith) (p3 .number) in
+      let p1 = peel (absent i (b .counts .timers)) 2 b (refuseIf (oddSize size) 3 b (refuseIf (cycleAstray b cycle) 5 b (refuseIf (bookFull 4 places) 6 b o4))) (λ e. omega arith) z in
+      let p2 = peel (oddSize size) 3 b (refuseIf (cycleAstray b cycle) 5 b (refuseIf (bookFull 4 places) 6 b o4)) (λ e. omega arith) (p1 .number) in
+      let p3 = peel (cycleAstray b cycle) 5 b (refuseIf (bookFull 4 places) 6 b o4) (λ e. omega arith) (p2 .number) in
+      let p4 = peel (bookFull 4 places) 6 b o4 (λ e. omega arith) (p3 .number) in
       let on4 : o4 ≡ refuseIf (counterAstray (register offset) (w offset size value .timer)) 7 b (followed b i cycle (w offset size value)) =
       ap (λ (c : Bool). cond c (refuseIf (counterAstray (register offset) (w offset size value .timer)) 7 b (followed b i cycle (w offset size value))) (served 0 (withLast b cycle))) on in
       let p5 = peel (counterAstray (register offset) (w offset size value .timer)) 7 b (followed b i cycle (w offset size value)) (λ e. omega arith) (ap (λ (o : Outcome). o .number) (sym on4) ∙ p4 .number) in
