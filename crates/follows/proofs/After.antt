@@ -65,7 +65,7 @@ module _ (m : Bool) (t : Timer) (c div : ℕ) where
   unfolding C.reloaded
   cr1-reloaded = go (UDIS (t .regs .cr1))
     where
-      go : (u : Bool) → cond u t (C.withFlag (C.loaded t) 1) .regs .cr1 ≡ t .regs .cr1
+      go : (u : Bool) → cond u t (C.withFlag (C.loaded t) C.UIF) .regs .cr1 ≡ t .regs .cr1
       go true = refl
       go false = refl
 
@@ -73,7 +73,7 @@ module _ (m : Bool) (t : Timer) (c div : ℕ) where
   unfolding C.reloaded
   running-reloaded = go (UDIS (t .regs .cr1))
     where
-      go : (u : Bool) → cond u t (C.withFlag (C.loaded t) 1) .count .running ≡ t .count .running
+      go : (u : Bool) → cond u t (C.withFlag (C.loaded t) C.UIF) .count .running ≡ t .count .running
       go true = refl
       go false = refl
 

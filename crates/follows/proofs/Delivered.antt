@@ -107,16 +107,22 @@ module _ (t : Timer) (div : ℕ) (w : Timed t div) (h : Within t) where
   unfolding level T.output
   drives c ch = refl
 
-  -- it is that at the reference up to the next event, unless a compare is met that the record calls done (done-equality)
+  -- from the k-th step on it stays up to the next event, unless a compare is met that the record calls done (done-equality)
+  pub steady : t .count .running ≡ true → (ch : ℕ) → ch < 4 → (k : ℕ)
+      → ((j : ℕ) → k ≤ j → suc j < nextSteps t .steps → getD (t .chan .«cc_done») ch false ≡ true → isOutput t ch ≡ true → Leap.onward (raw t) (suc j) ≡ ccrAct t ch → ⊥)
+      → (c : ℕ) → t .count .base ≤ c → dueBy (nextEvent t) c ≡ false → k ≤ clocksAt t div c / per t → level (seen t div c) ch ≡ T.output t ch (Leap.onward (raw t) k)
+  steady r ch l k kept c b d le =
+      let y = on-course t div w r h in
+      let same : Port.nextSteps false t .steps ≡ nextSteps t .steps = ap (λ (a : Ahead). a .steps) (next-is t) in
+      let early : clocksAt t div c / per t < Port.nextSteps false t .steps = none-due false t div y c b (due-is t c d) in
+      ap (λ (s : M.Timer). level s ch) (sym (seen-is t div c))
+      ∙ Output.level-at false t div y ch l c early
+      ∙ Output.from-step false t div y ch l k (clocksAt t div c / per t) le early (λ j q z. kept j q (rw (sym same) z))
+
   pub stays : t .count .running ≡ true → (ch : ℕ) → ch < 4
       → ((j : ℕ) → suc j < nextSteps t .steps → getD (t .chan .«cc_done») ch false ≡ true → isOutput t ch ≡ true → Leap.onward (raw t) (suc j) ≡ ccrAct t ch → ⊥)
       → (c : ℕ) → t .count .base ≤ c → dueBy (nextEvent t) c ≡ false → level (seen t div c) ch ≡ T.output t ch (t .count .cnt0)
-  stays r ch l kept c b d =
-      let y = on-course t div w r h in
-      let same : Port.nextSteps false t .steps ≡ nextSteps t .steps = ap (λ (a : Ahead). a .steps) (next-is t) in
-      ap (λ (s : M.Timer). level s ch) (sym (seen-is t div c))
-      ∙ Output.level-stays false t div y ch l (λ j q. kept j (rw (sym same) q)) c (none-due false t div y c b (due-is t c d))
-      ∙ ap (T.output t ch) (go (down t) (t .count .cnt0))
+  stays r ch l kept c b d = steady r ch l 0 (λ j q. kept j) c b d (omega arith) ∙ ap (T.output t ch) (go (down t) (t .count .cnt0))
     where
       go : (d : Bool) (v : ℕ) → cond d (v - 0) (v + 0) ≡ v
       go true v = omega arith

@@ -28,7 +28,7 @@ abbrev fresh : Timer → ℕ → ℕ → Timer
 fresh y now div = T.recomputedAfterUpdate (T.restarted (T.loaded y) now div)
 
 abbrev ugSr : Timer → ℕ
-ugSr y = cond (UDIS (y .regs .cr1) || URS (y .regs .cr1)) (y .regs .sr) (bitOr (y .regs .sr) 1)
+ugSr y = cond (UDIS (y .regs .cr1) || URS (y .regs .cr1)) (y .regs .sr) (bitOr (y .regs .sr) T.UIF)
 
 abbrev pub flaggedUg : Timer → ℕ → ℕ → Timer
 flaggedUg y now div = R.withSr (fresh y now div) (ugSr y)
@@ -37,8 +37,8 @@ pub flagged : (y : Timer) (now div : ℕ) → T.generated y now div ≡ flaggedU
 unfolding T.generated T.restarted T.recomputedAfterUpdate
 flagged y now div = go (UDIS (y .regs .cr1)) (URS (y .regs .cr1))
   where
-    go : (u v : Bool) → cond v (fresh y now div) (cond u (fresh y now div) (T.withFlag (fresh y now div) 1))
-        ≡ R.withSr (fresh y now div) (cond (u || v) (y .regs .sr) (bitOr (y .regs .sr) 1))
+    go : (u v : Bool) → cond v (fresh y now div) (cond u (fresh y now div) (T.withFlag (fresh y now div) T.UIF))
+        ≡ R.withSr (fresh y now div) (cond (u || v) (y .regs .sr) (bitOr (y .regs .sr) T.UIF))
     go true true = refl
     go true false = refl
     go false true = refl

@@ -24,8 +24,8 @@ module _ (t : Timer) (div : ℕ) (w : Timed t div) where
   unfolding T.updated T.reloaded T.restarted T.recomputedAfterUpdate T.ended
   timed-updated x = record { pos = w .pos; timed = refl; halted = halted (UDIS (t .regs .cr1)); sized = refl }
     where
-      halted : (u : Bool) → CEN (cond u t (T.withFlag (T.loaded t) 1) .regs .cr1) ≡ false
-          → cond (OPM (cond u t (T.withFlag (T.loaded t) 1) .regs .cr1)) false (cond u t (T.withFlag (T.loaded t) 1) .count .running) ≡ false
+      halted : (u : Bool) → CEN (cond u t (T.withFlag (T.loaded t) T.UIF) .regs .cr1) ≡ false
+          → cond (OPM (cond u t (T.withFlag (T.loaded t) T.UIF) .regs .cr1)) false (cond u t (T.withFlag (T.loaded t) T.UIF) .count .running) ≡ false
       halted true e = stops (OPM (t .regs .cr1)) (t .count .running) (w .halted e)
       halted false e = stops (OPM (t .regs .cr1)) (t .count .running) (w .halted e)
 
@@ -61,7 +61,7 @@ updated-within t x div r = go (UDIS (t .regs .cr1))
     either true a = le-refl a
     either false a = omega arith
 
-    go : (u : Bool) → T.restarted (cond u t (T.withFlag (T.loaded t) 1)) x div .count .cnt0 ≤ T.restarted (cond u t (T.withFlag (T.loaded t) 1)) x div .count .«arr_act»
+    go : (u : Bool) → T.restarted (cond u t (T.withFlag (T.loaded t) T.UIF)) x div .count .cnt0 ≤ T.restarted (cond u t (T.withFlag (T.loaded t) T.UIF)) x div .count .«arr_act»
     go true = either (down t) (t .count .«arr_act»)
     go false = either (down t) (t .regs .arr)
 

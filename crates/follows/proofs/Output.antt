@@ -3,7 +3,7 @@ use Prim.Native.Nat.{ℕ, zero, suc, _+_, _-_, _*_, _/_, _%_, _≤_, _<_}
 use mathlib.Core.Path.{_≡_, refl, sym, ap, _∙_}
 use mathlib.Core.Bool.{Bool, true, false, cond, not, _&&_, _||_}
 use mathlib.Core.Logic.{_⊎_, inl, inr}
-use native.Mathlib.Nat.{eq-or-lt-of-le}
+use native.Mathlib.Nat.{eq-or-lt-of-le, le-of-suc-le-suc}
 use native.Mathlib.Omega.{arith}
 use lib.Dec.{eqb, ltb, leb}
 use lib.ListN.{getD}
@@ -52,13 +52,6 @@ step-level c a false x v j h ne = go (ltb (x + j) v) refl
         by (inl q) = absurd (ne (omega arith))
         by (inr q) = lt-ltb (x + suc j) v (omega arith)
 
--- so up to the first match or turn it stays
-pub way-level : (c : Bool) (a : ℕ) (d : Bool) (x v k : ℕ) → k < turnSteps c a d x → ((j : ℕ) → j < k → cond d (x - suc j) (x + suc j) ≡ v → ⊥)
-    → Out.pwm1 d (cond d (x - k) (x + k)) v ≡ Out.pwm1 d (cond d (x - 0) (x + 0)) v
-way-level c a d x v zero h ne = refl
-way-level c a d x v (suc j) h ne =
-    step-level c a d x v j h (ne j (omega arith)) ∙ way-level c a d x v j (omega arith) (λ i l. ne i (omega arith))
-
 output-at : (t : Timer) (p j ch : ℕ) → level (Leap.at (raw t) p j) ch ≡ C.output t ch (Leap.onward (raw t) j)
 unfolding level C.output
 output-at t p j ch = refl
@@ -71,37 +64,48 @@ unequal true true true h p q = absurd (let z : _≡_ {A = ℕ} 0 1 = cc in omega
 unequal false e d h p q = absurd (let z : _≡_ {A = ℕ} 0 1 = cc in omega arith)
 
 module _ (m : Bool) (t : Timer) (div : ℕ) (w : Runs m t div) (ch : ℕ) (four : ch < 4) where
-  -- no compare is met that the record calls done (done-equality)
-  abbrev pub Kept : Type 0
-  Kept = (j : ℕ) → suc j < nextSteps m t .steps → getD (t .chan .«cc_done») ch false ≡ true → T.isOutput t ch ≡ true → Leap.onward (raw t) (suc j) ≡ T.ccrAct t ch → ⊥
+  -- at the step after j no compare is met that the record calls done (done-equality)
+  abbrev pub Kept : ℕ → Type 0
+  Kept j = getD (t .chan .«cc_done») ch false ≡ true → T.isOutput t ch ≡ true → Leap.onward (raw t) (suc j) ≡ T.ccrAct t ch → ⊥
 
-  apart : Kept → T.isOutput t ch ≡ true → (j : ℕ) → suc j < nextSteps m t .steps → Leap.onward (raw t) (suc j) ≡ T.ccrAct t ch → ⊥
-  apart k o j h = go (getD (t .chan .«cc_done») ch false) refl
+  apart : (j : ℕ) → suc j < nextSteps m t .steps → Kept j → T.isOutput t ch ≡ true → Leap.onward (raw t) (suc j) ≡ T.ccrAct t ch → ⊥
+  apart j h k o = go (getD (t .chan .«cc_done») ch false) refl
     where
       go : (d : Bool) → getD (t .chan .«cc_done») ch false ≡ d → Leap.onward (raw t) (suc j) ≡ T.ccrAct t ch → ⊥
-      go true e = k j h e o
+      go true e = k e o
       go false e =
           let s : suc j < next (manualMode m) (raw t) .steps = rw (ap (λ (a : Ahead). a .steps) (next-same m t div w)) at h in
           let n : meets (manualMode m) (Leap.at (raw t) 0 (suc j)) ch ≡ false = not-yet (manualMode m) (raw t) refl refl (w .free) (suc j) s ch four in
           eqb-false _ _ (unequal (T.isOutput t ch) (eqb (Leap.onward (raw t) (suc j)) (T.ccrAct t ch)) (getD (t .chan .«cc_done») ch false)
           (sym (meets-is (manualMode m) (raw t) refl refl (w .free) (suc j) ch) ∙ n) o e)
 
-  steps-same : Kept → (k : ℕ) → k < nextSteps m t .steps → C.output t ch (Leap.onward (raw t) k) ≡ C.output t ch (Leap.onward (raw t) 0)
+  -- a step before the next event keeps the level
+  one-step : (j : ℕ) → suc j < nextSteps m t .steps → Kept j → C.output t ch (Leap.onward (raw t) (suc j)) ≡ C.output t ch (Leap.onward (raw t) j)
   unfolding C.output Out.ocref
-  steps-same kept k h = go (T.isOutput t ch) refl
+  one-step j h k = go (T.isOutput t ch) refl
     where
       go : (o : Bool) → T.isOutput t ch ≡ o
-          → Out.level (cond o (Out.CCxE ch (t .regs .ccer)) false) (Out.CCxP ch (t .regs .ccer)) (C.ocref t ch (Leap.onward (raw t) k))
-          ≡ Out.level (cond o (Out.CCxE ch (t .regs .ccer)) false) (Out.CCxP ch (t .regs .ccer)) (C.ocref t ch (Leap.onward (raw t) 0))
+          → Out.level (cond o (Out.CCxE ch (t .regs .ccer)) false) (Out.CCxP ch (t .regs .ccer)) (C.ocref t ch (Leap.onward (raw t) (suc j)))
+          ≡ Out.level (cond o (Out.CCxE ch (t .regs .ccer)) false) (Out.CCxP ch (t .regs .ccer)) (C.ocref t ch (Leap.onward (raw t) j))
       go false e = refl
       go true e =
           ap (λ (p : Bool). Out.level (Out.CCxE ch (t .regs .ccer)) (Out.CCxP ch (t .regs .ccer))
           (cond (eqb (T.ocMode t ch) 4) false (cond (eqb (T.ocMode t ch) 5) true (cond (eqb (T.ocMode t ch) 6) p (cond (eqb (T.ocMode t ch) 7) (not p) (getD (t .chan .oc) ch false))))))
-          (way-level (centre m t) (t .count .«arr_act») (T.down t) (t .count .cnt0) (T.ccrAct t ch) k (omega (arith, best m t div w .by-update))
-          (λ j l. apart kept e j (omega arith)))
+          (step-level (centre m t) (t .count .«arr_act») (T.down t) (t .count .cnt0) (T.ccrAct t ch) j (omega (arith, best m t div w .by-update)) (apart j h k e))
 
-  -- at every cycle before the next event the machine's level is that at the reference
-  pub level-stays : Kept → (c : ℕ) → clocksAt t div c / per t < nextSteps m t .steps → level (seen m t div c) ch ≡ C.output t ch (Leap.onward (raw t) 0)
-  level-stays kept c h =
+  -- from step k on, up to the next event
+  pub from-step : (k j : ℕ) → k ≤ j → j < nextSteps m t .steps → ((i : ℕ) → k ≤ i → suc i < nextSteps m t .steps → Kept i)
+      → C.output t ch (Leap.onward (raw t) j) ≡ C.output t ch (Leap.onward (raw t) k)
+  from-step k zero le h kept = let e : k ≡ 0 = omega arith in rw e
+  from-step k (suc j) le h kept = go (λ (l : k ≤ j). from-step k j l (omega arith) kept) (eq-or-lt-of-le le)
+    where
+      go : (k ≤ j → C.output t ch (Leap.onward (raw t) j) ≡ C.output t ch (Leap.onward (raw t) k)) → (k ≡ suc j) ⊎ (k < suc j)
+          → C.output t ch (Leap.onward (raw t) (suc j)) ≡ C.output t ch (Leap.onward (raw t) k)
+      go ih (inl e) = rw e
+      go ih (inr l) = one-step j h (kept j (le-of-suc-le-suc l) h) ∙ ih (le-of-suc-le-suc l)
+
+  -- the machine's level at a cycle before the next event
+  pub level-at : (c : ℕ) → clocksAt t div c / per t < nextSteps m t .steps → level (seen m t div c) ch ≡ C.output t ch (Leap.onward (raw t) (clocksAt t div c / per t))
+  level-at c h =
       ap (λ (s : M.Timer). level s ch) (seen-at m t div w c (clocksAt t div c) refl (omega (arith, best m t div w .by-update)))
-      ∙ output-at t (clocksAt t div c % per t) (clocksAt t div c / per t) ch ∙ steps-same kept (clocksAt t div c / per t) h
+      ∙ output-at t (clocksAt t div c % per t) (clocksAt t div c / per t) ch

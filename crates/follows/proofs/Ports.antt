@@ -261,14 +261,14 @@ module _ (t : Timer) (div : ℕ) (w : Timed t div) (now : ℕ) where
 
     ccer-left : (v : ℕ) → L (R.ccerWritten t v now)
     unfolding R.ccerWritten
-    ccer-left v = stored-left (t .regs .cr2) (t .regs .smcr) (t .regs .dier) (t .regs .sr) (bitAnd v (keptMask 8)) (t .regs .psc)
+    ccer-left v = stored-left (t .regs .cr2) (t .regs .smcr) (t .regs .dier) (t .regs .sr) v (t .regs .psc)
 
     channel-left : (off v : ℕ) → L (R.channelWritten t off v now)
     unfolding R.channelWritten
     channel-left off v =
         five (eqb (t .inst .channels) 0) (eqb off 0x18) (eqb off 0x1c) (eqb off 0x20) (R.isCcr off)
-        (R.only t) (R.ccmrWritten t 0 v now) (R.ccmrWritten t 1 v now) (R.ccerWritten t v now) (R.ccrWritten t (R.ccrChannel off) v now) (R.only t)
-        (record { timed = w; based = b }) (ccmr-left 0 v) (ccmr-left 1 v) (ccer-left v) (ccr-left (R.ccrChannel off) v) (record { timed = w; based = b })
+        (R.only t) (R.ccmrWritten t 0 (R.kept 6 v) now) (R.ccmrWritten t 1 (R.kept 7 v) now) (R.ccerWritten t (R.kept 8 v) now) (R.ccrWritten t (R.ccrChannel off) (R.kept (off / 4) v) now) (R.only t)
+        (record { timed = w; based = b }) (ccmr-left 0 (R.kept 6 v)) (ccmr-left 1 (R.kept 7 v)) (ccer-left (R.kept 8 v)) (ccr-left (R.ccrChannel off) (R.kept (off / 4) v)) (record { timed = w; based = b })
 
     nine : (c0 c1 c2 c3 c4 c5 c6 c7 c8 : Bool) (p0 p1 p2 p3 p4 p5 p6 p7 p8 p9 : Written)
         → L p0 → L p1 → L p2 → L p3 → L p4 → L p5 → L p6 → L p7 → L p8 → L p9
@@ -285,16 +285,16 @@ module _ (t : Timer) (div : ℕ) (w : Timed t div) (now : ℕ) where
     unfolding R.regWritten
     left off v =
         nine (eqb off 0x00) (eqb off 0x04) (eqb off 0x08) (eqb off 0x0c) (eqb off 0x10) (eqb off 0x14) (eqb off 0x24) (eqb off 0x28) (eqb off 0x2c)
-        (R.booked (R.cr1Written t v now div)) (R.only (R.withCr2 t v)) (R.only (R.withSmcr t v)) (R.lined (R.withDier t (bitAnd v (keptMask 3))))
-        (R.lined (R.withSr t (R.keptSr (t .regs .sr) v))) (R.generated (R.egrWritten t v now div) now) (R.counted (R.cntWritten t v now))
-        (R.only (R.withPsc t (bitAnd v (keptMask 10)))) (R.arrWritten t v now) (R.channelWritten t off v now)
+        (R.booked (R.cr1Written t v now div)) (R.only (R.withCr2 t (R.kept 1 v))) (R.only (R.withSmcr t (R.kept 2 v))) (R.lined (R.withDier t (R.kept 3 v)))
+        (R.lined (R.withSr t (R.keptSr (t .regs .sr) v))) (R.generated (R.egrWritten t v now div) now) (R.counted (R.cntWritten t (R.kept 9 v) now))
+        (R.only (R.withPsc t (R.kept 10 v))) (R.arrWritten t (R.kept 11 v) now) (R.channelWritten t off v now)
         (subst (Left div now) (sym (cr1-port v)) (cr1-fine v .left))
-        (stored-left v (t .regs .smcr) (t .regs .dier) (t .regs .sr) (t .regs .ccer) (t .regs .psc))
-        (stored-left (t .regs .cr2) v (t .regs .dier) (t .regs .sr) (t .regs .ccer) (t .regs .psc))
-        (stored-left (t .regs .cr2) (t .regs .smcr) (bitAnd v (keptMask 3)) (t .regs .sr) (t .regs .ccer) (t .regs .psc))
+        (stored-left (R.kept 1 v) (t .regs .smcr) (t .regs .dier) (t .regs .sr) (t .regs .ccer) (t .regs .psc))
+        (stored-left (t .regs .cr2) (R.kept 2 v) (t .regs .dier) (t .regs .sr) (t .regs .ccer) (t .regs .psc))
+        (stored-left (t .regs .cr2) (t .regs .smcr) (R.kept 3 v) (t .regs .sr) (t .regs .ccer) (t .regs .psc))
         (stored-left (t .regs .cr2) (t .regs .smcr) (t .regs .dier) (R.keptSr (t .regs .sr) v) (t .regs .ccer) (t .regs .psc))
         (subst (Left div now) (sym (egr-port v)) (egr-fine v .left))
-        (subst (Left div now) (sym (cnt-port v)) (cnt-fine v .left))
-        (stored-left (t .regs .cr2) (t .regs .smcr) (t .regs .dier) (t .regs .sr) (t .regs .ccer) (bitAnd v (keptMask 10)))
-        (subst (Left div now) (sym (arr-port v)) (arr-fine v (ARPE (y .regs .cr1)) .left))
+        (subst (Left div now) (sym (cnt-port (R.kept 9 v))) (cnt-fine (R.kept 9 v) .left))
+        (stored-left (t .regs .cr2) (t .regs .smcr) (t .regs .dier) (t .regs .sr) (t .regs .ccer) (R.kept 10 v))
+        (subst (Left div now) (sym (arr-port (R.kept 11 v))) (arr-fine (R.kept 11 v) (ARPE (y .regs .cr1)) .left))
         (channel-left off v)

@@ -73,13 +73,13 @@ module _ (m : Bool) (t : Timer) (j c div : ℕ) (runs : t .count .running ≡ tr
   kept = C.restarted (turned m t) c div
 
   abbrev fresh : Timer
-  fresh = C.restarted (turned m (C.withFlag (C.loaded t) 1)) c div
+  fresh = C.restarted (turned m (C.withFlag (C.loaded t) C.UIF)) c div
 
   kept-is : restarted r (Leap.at (raw t) 0 j) ≡ raw kept
   kept-is = restart-machine m t (Leap.onward (raw t) j) c div runs
 
   fresh-is : restarted r (M.flag 0 (loaded (Leap.at (raw t) 0 j))) ≡ raw fresh
-  fresh-is = restart-machine m (C.withFlag (C.loaded t) 1) (Leap.onward (raw t) j) c div runs
+  fresh-is = restart-machine m (C.withFlag (C.loaded t) C.UIF) (Leap.onward (raw t) j) c div runs
 
   pulse : (o : Bool) (y : Timer) (s : M.Timer) → s ≡ raw y → allAhead (pulseEnded r o s) ≡ raw (ended m o (C.recomputedAfterUpdate y))
   pulse o y s e = ap (λ (z : M.Timer). allAhead (pulseEnded r o z)) e ∙ ended-raw m o y
@@ -105,7 +105,7 @@ module _ (m : Bool) (t : Timer) (j c div : ℕ) (runs : t .count .running ≡ tr
     where
       go : (u : Bool) → allAhead (cond u (cond m (restarted r (Leap.at (raw t) 0 j)) (pulseEnded r (OPM (t .regs .cr1)) (restarted r (Leap.at (raw t) 0 j))))
           (pulseEnded r (OPM (t .regs .cr1)) (restarted r (M.flag 0 (loaded (Leap.at (raw t) 0 j))))))
-          ≡ raw (ended m (OPM (t .regs .cr1) && not (m && u)) (C.recomputedAfterUpdate (C.restarted (turned m (cond u t (C.withFlag (C.loaded t) 1))) c div)))
+          ≡ raw (ended m (OPM (t .regs .cr1) && not (m && u)) (C.recomputedAfterUpdate (C.restarted (turned m (cond u t (C.withFlag (C.loaded t) C.UIF))) c div)))
       go true = under m (OPM (t .regs .cr1))
       go false = plain m (OPM (t .regs .cr1))
 

@@ -1,5 +1,5 @@
 -- A write of any register at a cycle where nothing is due is the machine's, by the Rust's rules. Assumes nothing.
-use Prim.Native.Nat.{ℕ, _≤_}
+use Prim.Native.Nat.{ℕ, _≤_, _/_}
 use mathlib.Core.Path.{_≡_, refl, sym, ap, _∙_, subst}
 use mathlib.Core.Bool.{Bool, true, false, cond}
 use mathlib.Core.Logic.{_⊎_, inl, inr}
@@ -165,17 +165,17 @@ module _ (t : Timer) (div : ℕ) (w : Timed t div) (h : Within t) (now : ℕ) (b
   unchanged : Ok s t
   unchanged = record { same = sym (matched-none rust s mute); settled = inr d }
 
-  ccer : (v : ℕ) → Ok (W.stored 8 (bitAnd v (keptMask 8)) s) (R.ccerWritten t v now .timer)
+  ccer : (v : ℕ) → Ok (W.stored 8 v s) (R.ccerWritten t v now .timer)
   unfolding cntAt R.ccerWritten
-  ccer v = stored (t .regs .cr2) (t .regs .smcr) (t .regs .dier) (t .regs .sr) (bitAnd v (keptMask 8)) (t .regs .psc)
+  ccer v = stored (t .regs .cr2) (t .regs .smcr) (t .regs .dier) (t .regs .sr) v (t .regs .psc)
 
   channel : (off v : ℕ) → Goes (writeChannel rust off v s) (R.channelWritten t off v now)
   unfolding writeChannel R.channelWritten
   channel off v =
       five (eqb (t .inst .channels) 0) (eqb off 0x18) (eqb off 0x1c) (eqb off 0x20) (isCcr off)
-      s (writeCcmr rust 0 v s) (writeCcmr rust 1 v s) (W.stored 8 (bitAnd v (keptMask 8)) s) (writeCcr rust (ccrChannel off) v s) s
-      (R.only t) (R.ccmrWritten t 0 v now) (R.ccmrWritten t 1 v now) (R.ccerWritten t v now) (R.ccrWritten t (R.ccrChannel off) v now) (R.only t)
-      (λ k. unchanged) (λ k. ccmr 0 v) (λ k. ccmr 1 v) (λ k. ccer v) (λ k. ccr (ccrChannel off) v) (λ k. unchanged)
+      s (writeCcmr rust 0 (R.kept 6 v) s) (writeCcmr rust 1 (R.kept 7 v) s) (W.stored 8 (R.kept 8 v) s) (writeCcr rust (ccrChannel off) (R.kept (off / 4) v) s) s
+      (R.only t) (R.ccmrWritten t 0 (R.kept 6 v) now) (R.ccmrWritten t 1 (R.kept 7 v) now) (R.ccerWritten t (R.kept 8 v) now) (R.ccrWritten t (R.ccrChannel off) (R.kept (off / 4) v) now) (R.only t)
+      (λ k. unchanged) (λ k. ccmr 0 (R.kept 6 v)) (λ k. ccmr 1 (R.kept 7 v)) (λ k. ccer (R.kept 8 v)) (λ k. ccr (ccrChannel off) (R.kept (off / 4) v)) (λ k. unchanged)
 
   -- CR2, SMCR, DIER, SR and PSC
   cr2 : (v : ℕ) → Ok (W.stored 1 v s) (R.withCr2 t v)
@@ -213,9 +213,9 @@ module _ (t : Timer) (div : ℕ) (w : Timed t div) (h : Within t) (now : ℕ) (b
   unfolding write R.regWritten
   writes off v =
       nine (eqb off 0x00) (eqb off 0x04) (eqb off 0x08) (eqb off 0x0c) (eqb off 0x10) (eqb off 0x14) (eqb off 0x24) (eqb off 0x28) (eqb off 0x2c)
-      (writeCr1 rust v s) (W.stored 1 v s) (W.stored 2 v s) (W.stored 3 (bitAnd v (keptMask 3)) s) (W.writeSr v s) (writeEgr rust v s) (writeCnt rust v s)
-      (W.stored 10 (bitAnd v (keptMask 10)) s) (writeArr rust v s) (writeChannel rust off v s)
-      (R.booked (R.cr1Written t v now div)) (R.only (R.withCr2 t v)) (R.only (R.withSmcr t v)) (R.lined (R.withDier t (bitAnd v (keptMask 3))))
-      (R.lined (R.withSr t (R.keptSr (t .regs .sr) v))) (R.generated (R.egrWritten t v now div) now) (R.counted (R.cntWritten t v now))
-      (R.only (R.withPsc t (bitAnd v (keptMask 10)))) (R.arrWritten t v now) (R.channelWritten t off v now)
-      (cr1 v) (λ k. cr2 v) (λ k. smcr v) (λ k. dier (bitAnd v (keptMask 3))) (λ k. sr v) (λ k. egr v) (cnt v) (λ k. psc (bitAnd v (keptMask 10))) (arr v) (channel off v)
+      (writeCr1 rust v s) (W.stored 1 (R.kept 1 v) s) (W.stored 2 (R.kept 2 v) s) (W.stored 3 (R.kept 3 v) s) (W.writeSr v s) (writeEgr rust v s) (writeCnt rust (R.kept 9 v) s)
+      (W.stored 10 (R.kept 10 v) s) (writeArr rust (R.kept 11 v) s) (writeChannel rust off v s)
+      (R.booked (R.cr1Written t v now div)) (R.only (R.withCr2 t (R.kept 1 v))) (R.only (R.withSmcr t (R.kept 2 v))) (R.lined (R.withDier t (R.kept 3 v)))
+      (R.lined (R.withSr t (R.keptSr (t .regs .sr) v))) (R.generated (R.egrWritten t v now div) now) (R.counted (R.cntWritten t (R.kept 9 v) now))
+      (R.only (R.withPsc t (R.kept 10 v))) (R.arrWritten t (R.kept 11 v) now) (R.channelWritten t off v now)
+      (cr1 v) (λ k. cr2 (R.kept 1 v)) (λ k. smcr (R.kept 2 v)) (λ k. dier (R.kept 3 v)) (λ k. sr v) (λ k. egr v) (cnt (R.kept 9 v)) (λ k. psc (R.kept 10 v)) (arr (R.kept 11 v)) (channel off v)

@@ -1,5 +1,5 @@
 -- Outside the named cases a write by rules r is the manual's: EGR, and any register. Assumes nothing.
-use Prim.Native.Nat.{ℕ, zero, suc, _+_, _-_, _≤_, _<_}
+use Prim.Native.Nat.{ℕ, zero, suc, _+_, _-_, _≤_, _<_, _/_}
 use mathlib.Core.Path.{_≡_, refl, sym, ap, _∙_}
 use mathlib.Core.Bool.{Bool, true, false, cond, not, _&&_, _||_}
 use mathlib.Core.List.{List, [], _∷_}
@@ -13,7 +13,7 @@ use Rattle.rm0440.specs.Output as Out
 use Rattle.rm0440.specs.Rules.{Rules, manual}
 use Rattle.rm0440.specs.State.{Timer, reg, inTurn, mode, isOutput, down, centre, withShadows, withCount, withMatches, withSr, withBit, ccFlags, flag}
 use Rattle.rm0440.specs.Clock.{loaded, pulseEnded, allAhead, latched, matched}
-use Rattle.rm0440.specs.Write.{turned, generated, generatedCc, writeEgr, isCcr, ccrChannel, writeChannel, write}
+use Rattle.rm0440.specs.Write.{turned, generated, generatedCc, writeEgr, isCcr, ccrChannel, writeChannel, write, kept}
 use Rattle.rm0440.specs.Cases as C
 use Rattle.rm0440.specs.Cases.{settled, some, missed}
 use Rattle.rm0440.specs.WriteCases as W
@@ -153,10 +153,10 @@ channel-same : (r : Rules) (off v : ℕ) (t : Timer) → OutsideWrite r off v t 
 unfolding writeChannel
 channel-same r off v t o =
     arms (eqb (t .channels) 0) (λ e. refl) (
-    arms (eqb off 0x18) (λ e. ccmr-same r 0 v t (o .ccmr1 e)) (
-    arms (eqb off 0x1c) (λ e. ccmr-same r 1 v t (o .ccmr2 e)) (
+    arms (eqb off 0x18) (λ e. ccmr-same r 0 (kept 6 v) t (o .ccmr1 e)) (
+    arms (eqb off 0x1c) (λ e. ccmr-same r 1 (kept 7 v) t (o .ccmr2 e)) (
     arms (eqb off 0x20) (λ e. refl) (
-    arms (isCcr off) (λ e. ccr-same r (ccrChannel off) v t (o .ccr e)) refl))))
+    arms (isCcr off) (λ e. ccr-same r (ccrChannel off) (kept (off / 4) v) t (o .ccr e)) refl))))
 
 pub write-same : (r : Rules) (off v : ℕ) (t : Timer) → OutsideWrite r off v t → write r off v t ≡ write manual off v t
 unfolding write
@@ -167,6 +167,6 @@ write-same r off v t o =
     arms (eqb off 0x0c) (λ e. refl) (
     arms (eqb off 0x10) (λ e. refl) (
     arms (eqb off 0x14) (λ e. egr-same r v t (o .egr e)) (
-    arms (eqb off 0x24) (λ e. cnt-same r v t (o .cnt e)) (
+    arms (eqb off 0x24) (λ e. cnt-same r (kept 9 v) t (o .cnt e)) (
     arms (eqb off 0x28) (λ e. refl) (
-    arms (eqb off 0x2c) (λ e. arr-same r v t (o .arr e)) (channel-same r off v t o)))))))))
+    arms (eqb off 0x2c) (λ e. arr-same r (kept 11 v) t (o .arr e)) (channel-same r off v t o)))))))))

@@ -175,32 +175,36 @@ stored i v t = withRegs t (t .cr1) (t .sr) (set (t .regs) i v)
 
 -- CCR1 to CCR4
 abbrev pub isCcr : ℕ → Bool
-isCcr off = leb 0x34 off && leb off 0x43
+isCcr off = leb 0x34 off && leb off 0x40
 
 abbrev pub ccrChannel : ℕ → ℕ
 ccrChannel off = (off - 0x34) / 4
+
+-- the bits that a register keeps of a write, by offset / 4
+abbrev pub kept : ℕ → ℕ → ℕ
+kept i v = bitAnd v (keptMask i)
 
 -- a basic timer has none of these
 unfoldable pub writeChannel : Rules → ℕ → ℕ → Timer → Timer
 writeChannel r off v t =
     cond (eqb (t .channels) 0) t
-    (cond (eqb off 0x18) (writeCcmr r 0 v t)
-    (cond (eqb off 0x1c) (writeCcmr r 1 v t)
-    (cond (eqb off 0x20) (stored 8 (bitAnd v (keptMask 8)) t)
-    (cond (isCcr off) (writeCcr r (ccrChannel off) v t) t))))
+    (cond (eqb off 0x18) (writeCcmr r 0 (kept 6 v) t)
+    (cond (eqb off 0x1c) (writeCcmr r 1 (kept 7 v) t)
+    (cond (eqb off 0x20) (stored 8 (kept 8 v) t)
+    (cond (isCcr off) (writeCcr r (ccrChannel off) (kept (off / 4) v) t) t))))
 
 -- CR2, SMCR, DIER and PSC are only stored; PSC acts at the next update
 unfoldable pub write : Rules → ℕ → ℕ → Timer → Timer
 write r off v t =
     cond (eqb off 0x00) (writeCr1 r v t)
-    (cond (eqb off 0x04) (stored 1 v t)
-    (cond (eqb off 0x08) (stored 2 v t)
-    (cond (eqb off 0x0c) (stored 3 (bitAnd v (keptMask 3)) t)
+    (cond (eqb off 0x04) (stored 1 (kept 1 v) t)
+    (cond (eqb off 0x08) (stored 2 (kept 2 v) t)
+    (cond (eqb off 0x0c) (stored 3 (kept 3 v) t)
     (cond (eqb off 0x10) (writeSr v t)
     (cond (eqb off 0x14) (writeEgr r v t)
-    (cond (eqb off 0x24) (writeCnt r v t)
-    (cond (eqb off 0x28) (stored 10 (bitAnd v (keptMask 10)) t)
-    (cond (eqb off 0x2c) (writeArr r v t) (writeChannel r off v t)))))))))
+    (cond (eqb off 0x24) (writeCnt r (kept 9 v) t)
+    (cond (eqb off 0x28) (stored 10 (kept 10 v) t)
+    (cond (eqb off 0x2c) (writeArr r (kept 11 v) t) (writeChannel r off v t)))))))))
 
 -- "TIMx reset": the registers at their reset values, the reload at the largest count
 unfoldable pub reset : Timer → Timer

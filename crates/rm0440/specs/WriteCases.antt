@@ -2,7 +2,7 @@
 use mathlib.Core.Bool.{Bool, true, false, cond, not, _&&_, _||_}
 use mathlib.Core.Path.{_≡_}
 use mathlib.Core.List.{List, [], _∷_}
-use Prim.Native.Nat.{ℕ, _+_}
+use Prim.Native.Nat.{ℕ, _+_, _/_}
 use lib.Dec.{eqb, ltb}
 use lib.Bits.{bitAnd}
 use lib.ListN.{getD}
@@ -12,7 +12,7 @@ use Rattle.rm0440.specs.Rules.{Rules, manual}
 use Rattle.rm0440.specs.State.{Timer, reg, ccrOf, byte, mode, isOutput, CMS}
 use Rattle.rm0440.specs.Clock.{equal, going}
 use Rattle.rm0440.specs.Level.{ocref}
-use Rattle.rm0440.specs.Write.{keptCr1, newCr1, leftCr1, generated, generatedCc, leftCnt, leftArr, storedCcmr, leftCcmr, leftCcr, isCcr, ccrChannel}
+use Rattle.rm0440.specs.Write.{keptCr1, newCr1, leftCr1, generated, generatedCc, leftCnt, leftArr, storedCcmr, leftCcmr, leftCcr, isCcr, ccrChannel, kept}
 use Rattle.rm0440.specs.Cases.{settled, some, missed, above-reload, centre-aligned}
 
 abbrev pub differ : Bool → Bool → Bool
@@ -130,8 +130,8 @@ pub record OutsideCcmr (r : Rules) (i v : ℕ) (t : Timer) : Type 0 where
 pub record OutsideWrite (r : Rules) (off v : ℕ) (t : Timer) : Type 0 where
   pub cr1 : eqb off 0x00 ≡ true → OutsideCr1 r v t
   pub egr : eqb off 0x14 ≡ true → OutsideEgr r v t
-  pub cnt : eqb off 0x24 ≡ true → OutsideCnt r v t
-  pub arr : eqb off 0x2c ≡ true → ARPE (t .cr1) ≡ false → OutsideArr r v t
-  pub ccmr1 : eqb off 0x18 ≡ true → OutsideCcmr r 0 v t
-  pub ccmr2 : eqb off 0x1c ≡ true → OutsideCcmr r 1 v t
-  pub ccr : isCcr off ≡ true → Out.OCxPE (byte t (ccrChannel off)) ≡ false → Answers r t (leftCcr (ccrChannel off) v t)
+  pub cnt : eqb off 0x24 ≡ true → OutsideCnt r (kept 9 v) t
+  pub arr : eqb off 0x2c ≡ true → ARPE (t .cr1) ≡ false → OutsideArr r (kept 11 v) t
+  pub ccmr1 : eqb off 0x18 ≡ true → OutsideCcmr r 0 (kept 6 v) t
+  pub ccmr2 : eqb off 0x1c ≡ true → OutsideCcmr r 1 (kept 7 v) t
+  pub ccr : isCcr off ≡ true → Out.OCxPE (byte t (ccrChannel off)) ≡ false → Answers r t (leftCcr (ccrChannel off) (kept (off / 4) v) t)
