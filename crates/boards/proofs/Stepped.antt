@@ -24,7 +24,7 @@ use Rattle.follows.specs.Follows.{Delivered, between, Call}
 use Rattle.follows.proofs.Theorem.{follows}
 use Rattle.machine.specs.Board.{Board, Pads, timerAt, withTimer, withPads, withLast, firstBoard}
 use Rattle.machine.specs.Sys as Sys
-use Rattle.machine.specs.Deliver.{Run, dividerOf, lineSettled, rebooked, turn, turnOf, dueBy, handled, stop, mostEvents, delivered, afterDelivery}
+use Rattle.machine.specs.Deliver.{Run, dividerOf, lineSettled, rebooked, turn, turnOf, dueBy, handled as run, stop, mostEvents, delivered, afterDelivery}
 use Rattle.machine.specs.Deliver as D
 use Rattle.machine.specs.Call as C
 use Rattle.machine.specs.Call.{Outcome, served}
@@ -70,13 +70,13 @@ nothing-left : (q : Bool) → _≡_ {A = ℕ} (cond q 8 0) 0 → q ≡ false
 nothing-left true z = absurd (never 7 z)
 nothing-left false z = refl
 
-run-same : (f now div left : ℕ) (t : Timer) (p : Pads) → handled f now div left t p .number ≡ 0 → Handled f now div t (handled f now div left t p)
-unfolding handled S.deliver
+run-same : (f now div left : ℕ) (t : Timer) (p : Pads) → run f now div left t p .number ≡ 0 → Handled f now div t (run f now div left t p)
+unfolding run S.deliver
 run-same zero now div left t p z = (refl, sym (due-same (nextEvent t) now) ∙ nothing-left (dueBy (nextEvent t) now) z)
 run-same (suc f) now div left t p z =
     let u = turnOf t p (nextEvent t) div in
-    one-run f now div t p (handled f now div (left - length (u .entries)) (u .timer) (u .pads)) (u .entries) (dueBy (nextEvent t) now) (ltb left 4) refl
-    (λ y. subst (λ (v : Timer). Handled f now div v (handled f now div (left - length (u .entries)) (u .timer) (u .pads))) (turn-same t p (nextEvent t) div)
+    one-run f now div t p (run f now div (left - length (u .entries)) (u .timer) (u .pads)) (u .entries) (dueBy (nextEvent t) now) (ltb left 4) refl
+    (λ y. subst (λ (v : Timer). Handled f now div v (run f now div (left - length (u .entries)) (u .timer) (u .pads))) (turn-same t p (nextEvent t) div)
     (run-same f now div (left - length (u .entries)) (u .timer) (u .pads) y)) z
 
 -- ---- a call answered 0

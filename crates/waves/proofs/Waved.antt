@@ -29,7 +29,7 @@ use Rattle.gpio.specs.Gpio.{bit}
 use Rattle.book.specs.Book.{Entry, entriesOf}
 use Rattle.machine.specs.Board.{Pads}
 use Rattle.machine.specs.Sys.{driver, driveOutputs}
-use Rattle.machine.specs.Deliver.{applied, countAt, turn, turnOf, Run, run, stop, dueBy}
+use Rattle.machine.specs.Deliver.{applied, countAt, turn, turnOf, Run, handled as run, stop, dueBy}
 use Rattle.machine.specs.Deliver as D
 use Rattle.machine.proofs.Routing.{by-test}
 use Rattle.machine.proofs.Reach.{inst-applied}

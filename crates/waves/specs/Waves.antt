@@ -15,7 +15,7 @@ use Rattle.gpio.specs.Gpio.{bit}
 use Rattle.machine.specs.Board.{Pads, gpioAt, routeOf}
 use Rattle.machine.specs.Sys.{driver}
 use Rattle.machine.specs.Sound.{SoundPads}
-use Rattle.machine.specs.Deliver.{run}
+use Rattle.machine.specs.Deliver.{handled}
 use Rattle.accuracy.specs.Claim.{levelAt}
 use Rattle.follows.specs.Seen.{clocksAt, per, seen}
 use Rattle.follows.specs.Follows.{Call, Delivered, between}
@@ -51,6 +51,6 @@ pub record Pilot (t : Timer) (div a ch pin : ℕ) (p : Pads) : Type 0 where
 -- a delivery answered 0 at cycle now: at every cycle from a to now the record has the machine's level
 abbrev pub Waves : Type 0
 Waves =
-    (events places now : ℕ) (t : Timer) (div a ch pin : ℕ) (p : Pads) → Pilot t div a ch pin p → run events now div places t p .number ≡ 0
+    (events places now : ℕ) (t : Timer) (div a ch pin : ℕ) (p : Pads) → Pilot t div a ch pin p → handled events now div places t p .number ≡ 0
     → (c : ℕ) → a ≤ c → c ≤ now
-    → levelAt pin (run events now div places t p .entries) (shown p pin) c ≡ bit (level (clocks rust (between t div a c) (seen t div a)) ch)
+    → levelAt pin (handled events now div places t p .entries) (shown p pin) c ≡ bit (level (clocks rust (between t div a c) (seen t div a)) ch)
