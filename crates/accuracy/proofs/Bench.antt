@@ -32,7 +32,8 @@ use Rattle.machine.specs.Deliver.{lineSettled, rebooked, turn, settled}
 use Rattle.machine.specs.Deliver as D
 use Rattle.machine.specs.Call.{Call, Setup, setUp, enable, setPin, write, Outcome}
 use Rattle.machine.specs.Step.{fresh, instsGood, entriesBelow, withinLimits, written, followed, step, run, boardAfter}
-use Rattle.accuracy.specs.Claim.{Pilot, Steady, Window, steadyCall, steady, covered, joined, levelAt, highs, board₀, board₁, timer₁, signal, firstUpdate, cyclesOf, periodOf, highOf}
+use Rattle.book.specs.Level.{levelAt, highs}
+use Rattle.accuracy.specs.Claim.{Pilot, Steady, Window, steadyCall, steady, covered, joined, board₀, board₁, timer₁, signal, firstUpdate, cyclesOf, periodOf, highOf}
 use Rattle.accuracy.proofs.Tests.{both-left, both-right}
 use Rattle.accuracy.proofs.Quick.{delivery, few, suffice, joined-last, steady-last, covered-last}
 

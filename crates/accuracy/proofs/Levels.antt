@@ -10,7 +10,7 @@ use Rattle.gpio.specs.declared.Change.{Change}
 use Rattle.gpio.specs.declared.Change.the-variants.{Same, Level}
 use Rattle.book.specs.Book.{Entry, entryOf}
 use Rattle.machine.specs.Sound.{Elsewhere}
-use Rattle.accuracy.specs.Claim.{levelAt}
+use Rattle.book.specs.Level.{levelAt}
 
 pub level-append : (pin : ℕ) (es fs : List Entry) (l c : ℕ) → levelAt pin (es ++ fs) l c ≡ levelAt pin fs (levelAt pin es l c) c
 unfolding levelAt

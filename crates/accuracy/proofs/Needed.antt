@@ -28,7 +28,8 @@ use Rattle.machine.specs.Deliver.{lineSettled, rebooked, turn, settled}
 use Rattle.machine.specs.Deliver as D
 use Rattle.machine.specs.Call.{Call, setPin, write}
 use Rattle.machine.specs.Step.{fresh, instsGood, entriesBelow, withinLimits, written, followed, step, run, boardAfter}
-use Rattle.accuracy.specs.Claim.{Within, steadyCall, steady, joined, levelAt, highs, board₁, signal}
+use Rattle.book.specs.Level.{levelAt, highs}
+use Rattle.accuracy.specs.Claim.{Within, steadyCall, steady, joined, board₁, signal}
 use Rattle.accuracy.proofs.Tests.{never}
 use Rattle.accuracy.proofs.Quick.{suffice}
 use Rattle.accuracy.proofs.Bench.{wire, prepared, plain, usual, Trial, pilot, testsBy, tests, passed, Seen, seenBy, seen, board₂, entries, trial-tests, trial-seen}

@@ -15,7 +15,7 @@ use Rattle.machine.specs.Board.{Board, Pads, timerAt}
 use Rattle.machine.specs.Call.{Outcome}
 use Rattle.machine.specs.Sound.{Sound, SoundPads, Held}
 use Rattle.machine.proofs.Reach.{Spared, Calm, Rest}
-use Rattle.accuracy.specs.Claim.{levelAt}
+use Rattle.book.specs.Level.{levelAt}
 use Rattle.accuracy.proofs.Levels.{Silent, level-append}
 use Rattle.accuracy.proofs.Aim.{Aim, signalOf, due, Fixed, Phase, coming, inPeriod}
 use Rattle.accuracy.proofs.Drive.{wired-held, shown}

@@ -21,7 +21,7 @@ use Rattle.machine.specs.Board.{Pads}
 use Rattle.machine.specs.Sys.{driver, driveOutputs}
 use Rattle.machine.specs.Deliver.{applied, countAt, turn, turnOf, Run, run, stop, dueBy}
 use Rattle.machine.proofs.Routing.{by-test}
-use Rattle.accuracy.specs.Claim.{levelAt}
+use Rattle.book.specs.Level.{levelAt}
 use Rattle.accuracy.proofs.Wave.{wave}
 use Rattle.accuracy.proofs.Levels.{level-append}
 use Rattle.accuracy.proofs.Aim.{Aim, period, high, signalOf, Fixed, due, Phase, Goes}

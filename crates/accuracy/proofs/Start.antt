@@ -16,7 +16,8 @@ use Rattle.words.specs.declared.Gpio.{Gpio}
 use Rattle.gpio.specs.Gpio.{alternateMode}
 use Rattle.machine.specs.Deliver.{dividerOf}
 use Rattle.machine.specs.Sound.{Sound}
-use Rattle.accuracy.specs.Claim.{Settings, firstUpdate, cyclesOf, levelAt}
+use Rattle.book.specs.Level.{levelAt}
+use Rattle.accuracy.specs.Claim.{Settings, firstUpdate, cyclesOf}
 use Rattle.accuracy.proofs.Aim.{Aim, Fixed, due, coming}
 use Rattle.accuracy.proofs.One.{steps-upto}
 use Rattle.accuracy.proofs.Record.{Told}
