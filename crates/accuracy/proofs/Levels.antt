@@ -1,14 +1,15 @@
--- A pin's level at a cycle, over entries put one after the other. Assumes nothing.
+-- A pin's level at a cycle, and the order of its cycles, over entries put one after the other. Assumes nothing.
 use Prim.Native.Nat.{ℕ, _≤_, _<_}
 use mathlib.Core.Path.{_≡_, refl, sym, _∙_}
 use mathlib.Core.Bool.{Bool, true, false, cond, _&&_}
 use mathlib.Core.List.{List, [], _∷_, _++_}
+use native.Mathlib.Nat.{le-refl, le-trans}
 use lib.Dec.{eqb, leb}
 use borrow.Author.Tests.{eqb-true, eq-eqb, ne-eqb, le-leb, lt-leb}
 use Rattle.gpio.specs.Gpio.{changed}
 use Rattle.gpio.specs.declared.Change.{Change}
 use Rattle.gpio.specs.declared.Change.the-variants.{Same, Level}
-use Rattle.book.specs.Book.{Entry, entryOf}
+use Rattle.book.specs.Book.{Entry, Changes, entryOf, entriesOf}
 use Rattle.machine.specs.Sound.{Elsewhere}
 use Rattle.book.specs.Level.{levelAt}
 
@@ -55,3 +56,46 @@ module _ (pin : ℕ) where
         before = λ l c h. rw (eq-eqb pin pin refl, lt-leb at c h);
         since = λ c h. rw (eq-eqb pin pin refl, le-leb at c h);
       }
+
+-- ---- the pin's cycles never fall: from c on, to d at most
+
+unfoldable pub Upward : ℕ → ℕ → List Entry → ℕ → Type 0
+Upward pin c [] d = c ≤ d
+Upward pin c (e ∷ es) d = (e .pin ≡ pin → c ≤ e .cycle) × Upward pin (cond (eqb (e .pin) pin) (e .cycle) c) es d
+
+module _ (pin : ℕ) where
+  upward-sooner : (a c : ℕ) (es : List Entry) (d : ℕ) → a ≤ c → Upward pin c es d → Upward pin a es d
+  unfolding Upward
+  upward-sooner a c [] d le h = le-trans le h
+  upward-sooner a c (e ∷ es) d le h = (λ x. le-trans le (h .0 x), go (eqb (e .pin) pin) (upward-sooner a c es d le) (h .1))
+    where
+      go : (b : Bool) → (Upward pin c es d → Upward pin a es d) → Upward pin (cond b (e .cycle) c) es d → Upward pin (cond b (e .cycle) a) es d
+      go true f k = k
+      go false f k = f k
+
+  pub upward-later : (c : ℕ) (es : List Entry) (d d₁ : ℕ) → d ≤ d₁ → Upward pin c es d → Upward pin c es d₁
+  unfolding Upward
+  upward-later c [] d d₁ le h = le-trans h le
+  upward-later c (e ∷ es) d d₁ le h = (h .0, upward-later (cond (eqb (e .pin) pin) (e .cycle) c) es d d₁ le (h .1))
+
+  pub upward-then : (c : ℕ) (es : List Entry) (m : ℕ) (fs : List Entry) (d : ℕ) → Upward pin c es m → Upward pin m fs d → Upward pin c (es ++ fs) d
+  unfolding Upward
+  upward-then c [] m fs d h k = upward-sooner c m fs d h k
+  upward-then c (e ∷ es) m fs d h k = (h .0, upward-then (cond (eqb (e .pin) pin) (e .cycle) c) es m fs d (h .1) k)
+
+  upward-entry : (at : ℕ) (m : Change) → Upward pin at (entryOf at m) at
+  unfolding Upward entryOf
+  upward-entry at Same = le-refl at
+  upward-entry at (Level q v) = (λ x. le-refl at, go (eqb q pin))
+    where
+      go : (b : Bool) → cond b at at ≤ at
+      go true = le-refl at
+      go false = le-refl at
+
+  -- the entries of one event
+  pub upward-entries : (at : ℕ) (cs : Changes) → Upward pin at (entriesOf at cs) at
+  unfolding entriesOf
+  upward-entries at cs =
+      upward-then at (entryOf at (cs .a)) at _ at (upward-entry at (cs .a))
+      (upward-then at (entryOf at (cs .b)) at _ at (upward-entry at (cs .b))
+      (upward-then at (entryOf at (cs .c)) at _ at (upward-entry at (cs .c)) (upward-entry at (cs .d))))
