@@ -160,7 +160,7 @@ module _ (s : Shift) (es : List Entry) (e : Entry) where
         small = λ c. subst (λ (x : ℕ). x ≤ 1) (sym (lv c)) (h .small c);
       }
 
--- ---- one entry more: its own pin
+  -- ---- one entry more: its own pin
 
   module _ (t : Track) (told : Told s es (e .pin) t) (order : cycleBefore (e .pin) es 0 ≤ e .cycle) (bit : e .level ≤ 1) where
     abbrev was : ℕ → ℕ
@@ -212,7 +212,7 @@ module _ (s : Shift) (es : List Entry) (e : Entry) where
         (told .edges ∙ ap (λ (x : ℕ). x % 18446744073709551616) (rw none (omega arith)))
 
     -- "An entry that repeats its pin's level is no edge."
-    repeats : e .level ≡ t .level → Told s grown (e .pin) (passed t (e .cycle))
+    pub repeats : e .level ≡ t .level → Told s grown (e .pin) (passed t (e .cycle))
     repeats v = quiet (λ c h. same c (leb (e .cycle) c) refl h) (edge (ltb (s .from) (e .cycle)) (ltb (e .cycle) (s .to)) refl)
       where
         same : (c : ℕ) (b : Bool) → leb (e .cycle) c ≡ b → c ≤ lastCycle s → is c ≡ was c
@@ -227,7 +227,7 @@ module _ (s : Shift) (es : List Entry) (e : Entry) where
         edge true true h = rw (eq-eqb (e .level) level₀ (v ∙ at-end (within s (e .cycle) (rw h)))) refl
 
     -- an entry at to or later
-    too-late : counts (s .from) (s .to) (e .cycle) ≡ false → Told s grown (e .pin) (passed t (e .cycle))
+    pub too-late : counts (s .from) (s .to) (e .cycle) ≡ false → Told s grown (e .pin) (passed t (e .cycle))
     too-late h =
         let o = beyond s (e .cycle) h in
         quiet (λ c le. before c (omega (arith, o .2))) (rw (le-ltb (e .cycle) (s .to) (o .0)) (no (ltb (s .from) (e .cycle))))
@@ -243,7 +243,7 @@ module _ (s : Shift) (es : List Entry) (e : Entry) where
         omega arith
 
     -- an entry that changes the level
-    turns : (e .level ≡ t .level → ⊥) → counts (s .from) (s .to) (e .cycle) ≡ true → s .from ≤ s .to → s .to < 18446744073709551616
+    pub turns : (e .level ≡ t .level → ⊥) → counts (s .from) (s .to) (e .cycle) ≡ true → s .from ≤ s .to → s .to < 18446744073709551616
         → Told s grown (e .pin) (turned (s .from) (s .to) t (e .level) (e .cycle))
     turns n h fwd fits =
         let k : e .cycle ≤ lastCycle s = within s (e .cycle) h in
@@ -257,7 +257,7 @@ module _ (s : Shift) (es : List Entry) (e : Entry) where
             let v : e .level ≡ 1 = eqb-true (e .level) 1 x in
             let z : level₀ ≡ 0 = omega (arith, told .small (lastCycle s), told .level) in
             let r : highIn s grown (e .pin) ≡ highIn s es (e .pin) + (s .from + (s .to - s .from) - max (e .cycle) (s .from)) =
-                highs-turned was is (s .from) (e .cycle) (s .to - s .from) (λ c lo. sym (before c lo)) (λ c hi. told .stays c (omega arith) ∙ z) (λ c hi. since c hi ∙ v) in
+            highs-turned was is (s .from) (e .cycle) (s .to - s .from) (λ c lo. sym (before c lo)) (λ c hi. told .stays c (omega arith) ∙ z) (λ c hi. since c hi ∙ v) in
             let q : s .from + (s .to - s .from) ≡ s .to = omega arith in
             let m : highIn s grown (e .pin) ≤ s .to - s .from = highs-most is (s .from) (s .to - s .from) in
             let w : t .high + rest (s .from) (s .to) (e .cycle) ≡ highIn s grown (e .pin) = sym (r ∙ rw (q, told .high)) in
@@ -266,7 +266,7 @@ module _ (s : Shift) (es : List Entry) (e : Entry) where
             let v : e .level ≡ 0 = omega (arith, eqb-false (e .level) 1 x) in
             let z : level₀ ≡ 1 = omega (arith, told .small (lastCycle s), told .level) in
             let r : highIn s es (e .pin) ≡ highIn s grown (e .pin) + (s .from + (s .to - s .from) - max (e .cycle) (s .from)) =
-                highs-turned is was (s .from) (e .cycle) (s .to - s .from) (λ c lo. before c lo) (λ c hi. since c hi ∙ v) (λ c hi. told .stays c (omega arith) ∙ z) in
+            highs-turned is was (s .from) (e .cycle) (s .to - s .from) (λ c lo. before c lo) (λ c hi. since c hi ∙ v) (λ c hi. told .stays c (omega arith) ∙ z) in
             let q : s .from + (s .to - s .from) ≡ s .to = omega arith in
             let w : t .high ≡ highIn s grown (e .pin) + rest (s .from) (s .to) (e .cycle) = told .high ∙ r ∙ rw q in
             omega (arith, w)

@@ -9,7 +9,7 @@ use Rattle.book.specs.Book.{Entry, Lent}
 use Rattle.book.specs.Level.{levelAt}
 use Rattle.shift.specs.declared.Track.{Track}
 use Rattle.shift.specs.declared.Summary.{Summary}
-use Rattle.shift.specs.Shift.{Shift, levelBefore, levelIn, highIn, edges, lastCycle, cycleBefore, numberOf, Figures, figuresAt}
+use Rattle.shift.specs.Shift.{Shift, levelOf, levelBefore, levelIn, highIn, edges, lastCycle, cycleBefore, numberOf, Figures, figuresAt}
 
 -- ---- a pin's track: the cycle of its last entry, its level at the end of the shift and its high cycles if no entry follows, its edges
 
@@ -50,6 +50,15 @@ trackAt w pin = track (getD w (4 * pin) 0) (getD w (4 * pin + 1) 0) (getD w (4 *
 unfoldable pub putTrack : List ℕ → ℕ → Track → List ℕ
 putTrack w pin t = set (set (set (set w (4 * pin) (t .last)) (4 * pin + 1) (t .level)) (4 * pin + 2) (t .high)) (4 * pin + 3) (t .edges)
 
+-- a pin before its first entry
+abbrev pub freshTrack : ℕ → ℕ → ℕ → Track
+freshTrack from to l = track 0 l (cond (eqb l 1) (to - from) 0) 0
+
+-- the first n pins of a shift that begins
+pub record Fresh (words : List ℕ) (from to n : ℕ) (w : List ℕ) : Type 0 where
+  pub long : length w ≡ 515
+  pub each : (pin : ℕ) → pin < n → trackAt w pin ≡ freshTrack from to (levelOf words pin)
+
 abbrev pub fromOf : List ℕ → ℕ
 fromOf w = getD w 512 0
 
@@ -78,6 +87,13 @@ fed w (e ∷ es) = fed (entered w e) es
 
 abbrev pub figuresOf : List ℕ → Track → Figures
 figuresOf w t = record { high = t .high; low = toOf w - fromOf w - t .high; edges = t .edges }
+
+unfoldable pub putFigures : List ℕ → ℕ → Figures → List ℕ
+putFigures f pin x = set (set (set f (3 * pin) (x .high)) (3 * pin + 1) (x .low)) (3 * pin + 2) (x .edges)
+
+-- the figures of the first n pins
+abbrev pub Written : List ℕ → ℕ → List ℕ → Type 0
+Written w n f = (length f ≡ 384) × ((pin : ℕ) → pin < n → figuresAt f pin ≡ figuresOf w (trackAt w pin))
 
 -- of n pins, those whose level is 1
 unfoldable pub highTracks : List ℕ → ℕ → ℕ
