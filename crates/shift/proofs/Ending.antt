@@ -1,23 +1,23 @@
 -- What the end of a shift writes is its report. Assumes nothing.
 use mathlib.Core.Path.{_≡_, refl, sym, ap, subst, _∙_}
-use mathlib.Core.Bool.{Bool, true, false, cond, not, _&&_, _||_}
+use mathlib.Core.Bool.{Bool, true, false, cond}
 use mathlib.Core.List.{List, [], _∷_, _++_}
 use mathlib.Core.Logic.{_⊎_, inl, inr}
-use Prim.Native.Nat.{ℕ, zero, suc, _+_, _-_, _*_, _/_, _%_, _^_, _≤_, _<_}
-use native.Mathlib.Nat.{mod-eq-of-lt, lt-of-lt-of-le, pow-suc, add-zero, add-suc}
+use Prim.Native.Nat.{ℕ, zero, suc, _+_, _-_, _*_, _%_, _^_, _≤_, _<_}
+use native.Mathlib.Nat.{mod-eq-of-lt, lt-of-lt-of-le, pow-suc, add-zero}
 use native.Mathlib.Numerals.{add-one}
 use native.Mathlib.Omega.{arith}
-use lib.Count.{ones, onesIn, ones-cat, ones-le}
-use lib.Dec.{eqb, ltb, leb}
+use lib.Count.{ones, onesIn, ones-cat}
+use lib.Dec.{eqb, ltb}
 use lib.ListN.{length, getD, set, length-set}
 use lib.Pow.{pow-mono}
 use lib.Seq.{getD-set-same, getD-set-other}
-use borrow.Author.Tests.{eqb-true, eqb-false, ltb-true, ltb-false, eq-eqb, ne-eqb}
+use borrow.Author.Tests.{eqb-true, eqb-false}
 use Rattle.book.specs.Book.{Entry, Lent, places}
 use Rattle.shift.specs.declared.Track.{Track}
 use Rattle.shift.specs.declared.Summary.{Summary}
-use Rattle.shift.specs.Shift.{Shift, levelOf, levelBefore, levelIn, highIn, isEdge, edges, lastCycle, highPins, outOfOrder, numberOf, entriesFrom, entriesIn, Figures, figures, figuresAt, Reports}
-use Rattle.shift.specs.Kept.{track, trackAt, freshTrack, Fresh, putTrack, fromOf, toOf, numberIn, entered, fed, figuresOf, putFigures, Written, highTracks, numberGiven, Ended, Told, Stands}
+use Rattle.shift.specs.Shift.{Shift, levelOf, levelBefore, isEdge, edges, highPins, outOfOrder, numberOf, entriesFrom, entriesIn, Figures, figures, figuresAt, Reports}
+use Rattle.shift.specs.Kept.{trackAt, freshTrack, Fresh, putTrack, numberIn, entered, fed, figuresOf, putFigures, Written, highTracks, numberGiven, Ended, Told, Stands}
 use Rattle.shift.proofs.Standing.{put-length, put-same, put-apart, byTests, stands-fed}
 
 -- ---- edges fit a word

@@ -1,16 +1,14 @@
 -- Theorems about the report. Assumes nothing.
-use mathlib.Core.Path.{_≡_, refl, sym, ap, subst, _∙_}
-use mathlib.Core.Bool.{Bool, true, false, cond, not, _&&_, _||_}
+use mathlib.Core.Path.{_≡_, refl, _∙_}
 use mathlib.Core.List.{List, [], _∷_, _++_, append-assoc, append-nil}
-use Prim.Native.Nat.{ℕ, zero, suc, _+_, _-_, _≤_, _<_}
+use Prim.Native.Nat.{ℕ, _+_, _-_, _<_}
 use native.Mathlib.Omega.{arith}
-use lib.Dec.{eqb, leb}
 use lib.ListN.{length}
 use borrow.Author.Tests.{ne-eqb}
 use Rattle.book.specs.Book.{Entry, Lent}
-use Rattle.book.specs.Level.{levelAt, highs}
+use Rattle.book.specs.Level.{levelAt}
 use Rattle.shift.specs.declared.Summary.{Summary}
-use Rattle.shift.specs.Shift.{Shift, levelBefore, levelIn, highIn, isEdge, edges, figures, Figures, entriesIn, Reports}
+use Rattle.shift.specs.Shift.{Shift, levelBefore, levelIn, highIn, edges, figures, entriesIn, Reports}
 use Rattle.shift.specs.Kept.{fed, Ended, Stands}
 use Rattle.shift.proofs.Laws.{highs-same, highs-most}
 use Rattle.shift.proofs.Standing.{highs-still, stands-fed}

@@ -2,20 +2,17 @@
 use mathlib.Core.Path.{_≡_, refl, sym, ap, subst, _∙_}
 use mathlib.Core.Bool.{Bool, true, false, cond, not, _&&_, _||_}
 use mathlib.Core.List.{List, [], _∷_, _++_, append-assoc, append-nil}
-use Prim.Native.Nat.{ℕ, zero, suc, _+_, _-_, _*_, _/_, _%_, _^_, _≤_, _<_, max}
+use Prim.Native.Nat.{ℕ, zero, suc, _+_, _-_, _%_, _≤_, _<_, max}
 use mathlib.Core.Logic.{_⊎_, inl, inr}
 use native.Mathlib.Nat.{mod-eq-of-lt, add-suc}
-use native.Mathlib.Numerals.{add-one}
 use native.Mathlib.Omega.{arith}
 use lib.Dec.{eqb, ltb, leb}
-use lib.ListN.{length, getD, set, length-set}
-use lib.Seq.{getD-set-same, getD-set-other}
-use borrow.Author.Tests.{eqb-true, eqb-false, ltb-true, ltb-false, leb-true, leb-false, eq-eqb, ne-eqb, lt-ltb, le-ltb, le-leb, lt-leb}
+use borrow.Author.Tests.{eqb-true, eqb-false, ltb-true, ltb-false, leb-true, leb-false, eq-eqb, ne-eqb, le-ltb, le-leb, lt-leb}
 use Rattle.book.specs.Book.{Entry}
 use Rattle.book.specs.Level.{levelAt, highs}
 use Rattle.shift.specs.declared.Track.{Track}
-use Rattle.shift.specs.Shift.{Shift, levelBefore, levelIn, highIn, isEdge, edges, lastCycle, cycleBefore, astray, outOfOrder, numberOf}
-use Rattle.shift.specs.Kept.{track, counts, rest, turned, passed, took, trackAt, putTrack, fromOf, toOf, numberIn, strays, entered, fed, latest, Told, Stands}
+use Rattle.shift.specs.Shift.{Shift, levelBefore, levelIn, highIn, isEdge, edges, lastCycle, cycleBefore, astray, outOfOrder}
+use Rattle.shift.specs.Kept.{counts, rest, turned, passed, latest, Told}
 
 -- ---- one entry more in each definition
 

@@ -1,20 +1,20 @@
 -- The words stand for a shift and its entries: as it begins, and with every entry more. Assumes nothing.
 use mathlib.Core.Path.{_≡_, refl, sym, ap, subst, _∙_}
-use mathlib.Core.Bool.{Bool, true, false, cond, not, _&&_, _||_}
+use mathlib.Core.Bool.{Bool, true, false, cond, not, _||_}
 use mathlib.Core.List.{List, [], _∷_, _++_, append-assoc, append-nil}
 use mathlib.Core.Logic.{_⊎_, inl, inr}
-use Prim.Native.Nat.{ℕ, zero, suc, _+_, _-_, _*_, _/_, _%_, _^_, _≤_, _<_, max}
+use Prim.Native.Nat.{ℕ, zero, suc, _+_, _-_, _*_, _/_, _%_, _^_, _≤_, _<_}
 use native.Mathlib.Nat.{mod-lt}
 use native.Mathlib.Omega.{arith}
-use lib.Dec.{eqb, ltb, leb}
+use lib.Dec.{eqb, ltb}
 use lib.ListN.{length, getD, set, length-set}
 use lib.Seq.{getD-set-same, getD-set-other}
-use borrow.Author.Tests.{eqb-true, eqb-false, ltb-true, ltb-false, leb-true, leb-false, eq-eqb, ne-eqb, lt-ltb, le-ltb, le-leb, lt-leb}
+use borrow.Author.Tests.{eqb-true, eqb-false, ltb-true, ltb-false}
 use Rattle.book.specs.Book.{Entry}
 use Rattle.book.specs.Level.{levelAt, highs}
 use Rattle.shift.specs.declared.Track.{Track}
-use Rattle.shift.specs.Shift.{Shift, levelOf, levelBefore, levelIn, highIn, edges, lastCycle, cycleBefore, astray, outOfOrder, numberOf}
-use Rattle.shift.specs.Kept.{track, counts, turned, passed, took, trackAt, putTrack, freshTrack, Fresh, fromOf, toOf, numberIn, strays, entered, fed, latest, Told, Stands}
+use Rattle.shift.specs.Shift.{Shift, levelOf, levelBefore, edges, cycleBefore, astray, outOfOrder, numberOf}
+use Rattle.shift.specs.Kept.{counts, turned, passed, took, trackAt, putTrack, freshTrack, Fresh, fromOf, toOf, numberIn, strays, entered, fed, latest, Told, Stands}
 use Rattle.shift.proofs.Laws.{order-more, told-other, repeats, too-late, turns}
 
 -- ---- the words

@@ -1,17 +1,12 @@
-use Prim.Native.Nat.{ℕ, _≤_, _<_, _-_}
-use mathlib.Core.Path.{_∙_, sym, ap, refl, subst, _≡_}
+-- The pins so far are fresh.
+use Prim.Native.Nat.{ℕ, _≤_, _-_}
+use mathlib.Core.Path.{_∙_, ap}
 use native.Mathlib.Omega.{arith}
 use borrow.Author.Needs.{needs}
 use Rattle.shift.specs.Kept.{freshTrack, Fresh}
 use Rattle.shift.proofs.Ending.{fresh-more}
 use Rattle.shift.proofs.begin_pins.Statement.{statement}
 use Rattle.shift.proofs.begin_pins.Tie as tie
-use Rattle.shift.proofs.begin_pins.Reads as reads
-use Rattle.shift.proofs.begin_pins.Lts as lts
-use Rattle.shift.proofs.fresh.Reads as fresh-reads
-use Rattle.shift.proofs.level_of.Reads as level-of-reads
-use Rattle.shift.proofs.sized.Reads as sized-reads
-use Rattle.shift.proofs.store.Reads as store-reads
 
 abbrev Inv-loop : tie.InvT-loop
 Inv-loop kept₀ words from to pin₀ kept pin = (pin ≤ 128) × Fresh words from to pin kept
@@ -19,50 +14,32 @@ Inv-loop kept₀ words from to pin₀ kept pin = (pin ≤ 128) × Fresh words fr
 abbrev μ-loop : tie.MeasureT-loop
 μ-loop kept₀ words from to pin₀ kept pin = 128 - pin
 
--- src/lib.rt:205:5
 sized-requires : tie.Need-sized-requires Inv-loop μ-loop
-sized-requires c κs =
-    search needs
+sized-requires c κs = search needs
 
--- src/lib.rt:207:5
 loop-holds : tie.Need-loop-holds Inv-loop μ-loop
-loop-holds c =
-    (omega arith, record { long = c .sized .ensures; each = λ p h. absurd (omega arith) })
+loop-holds c = (omega arith, record { long = c .sized .ensures; each = λ p h. absurd (omega arith) })
 
--- src/lib.rt:208:13
 level-of-requires : tie.Need-level-of-requires Inv-loop μ-loop
-level-of-requires c κs =
-    omega arith
+level-of-requires c κs = omega arith
 
--- src/lib.rt:209:13
 fresh-requires : tie.Need-fresh-requires Inv-loop μ-loop
-fresh-requires c κs =
-    search needs
+fresh-requires c κs = search needs
 
--- src/lib.rt:210:9
 store-requires : tie.Need-store-requires Inv-loop μ-loop
-store-requires c κs =
-    omega arith
+store-requires c κs = omega arith
 
--- src/lib.rt:211:9
 add-pin : tie.Need-add-pin Inv-loop μ-loop
-add-pin c =
-    omega arith
+add-pin c = omega arith
 
--- src/lib.rt:207:5
 loop-less : tie.Need-loop-less Inv-loop μ-loop
-loop-less c =
-    omega arith
+loop-less c = omega arith
 
--- src/lib.rt:207:5
 loop-again : tie.Need-loop-again Inv-loop μ-loop
-loop-again c =
-    (omega arith, fresh-more (c .before .before .before .before .before .before .before .before .args .words .now) (c .before .before .before .before .before .before .before .before .args .from) (c .before .before .before .before .before .before .before .before .args .to) (c .before .before .before .before .before .loop .pin) _ _ _ (c .before .before .before .before .loop-test .taken) (c .before .before .before .before .before .loop .inv .1) (c .before .before .fresh .ensures ∙ ap (λ (l : ℕ). freshTrack (c .before .before .before .before .before .before .before .before .args .from) (c .before .before .before .before .before .before .before .before .args .to) l) (c .before .before .before .level-of .ensures)) (c .store .ensures))
+loop-again c = (omega arith, fresh-more (c .before .before .before .before .before .before .before .before .args .words .now) (c .before .before .before .before .before .before .before .before .args .from) (c .before .before .before .before .before .before .before .before .args .to) (c .before .before .before .before .before .loop .pin) _ _ _ (c .before .before .before .before .loop-test .taken) (c .before .before .before .before .before .loop .inv .1) (c .before .before .fresh .ensures ∙ ap (λ (l : ℕ). freshTrack (c .before .before .before .before .before .before .before .before .args .from) (c .before .before .before .before .before .before .before .before .args .to) l) (c .before .before .before .level-of .ensures)) (c .store .ensures))
 
--- src/lib.rt:202:1
 returns : tie.Need-returns Inv-loop μ-loop
-returns c =
-    record { long = c .before .loop .inv .1 .long; each = λ p h. c .before .loop .inv .1 .each p (omega arith) }
+returns c = record { long = c .before .loop .inv .1 .long; each = λ p h. c .before .loop .inv .1 .each p (omega arith) }
 
 pub begin-pins-spec : {M : Type 1} → statement M
 begin-pins-spec =

@@ -1,5 +1,6 @@
-use Prim.Native.Nat.{ℕ, _≤_, _<_, _-_}
-use mathlib.Core.Path.{_∙_, sym, ap, refl, subst, _≡_}
+-- What is left to feed leads to the same words.
+use Prim.Native.Nat.{_≤_, _-_}
+use mathlib.Core.Path.{_≡_}
 use native.Mathlib.Omega.{arith}
 use borrow.Author.Needs.{needs}
 use Rattle.book.specs.Book.{slices}
@@ -8,10 +9,6 @@ use Rattle.shift.specs.Kept.{fed}
 use Rattle.shift.proofs.Ending.{fed-begins, fed-more, fed-both}
 use Rattle.shift.proofs.shift_feed.Statement.{statement}
 use Rattle.shift.proofs.shift_feed.Tie as tie
-use Rattle.shift.proofs.shift_feed.Reads as reads
-use Rattle.shift.proofs.shift_feed.Lts as lts
-use Rattle.book.proofs.room.Reads as room-reads
-use Rattle.shift.proofs.enter.Reads as enter-reads
 
 abbrev Inv-loop : tie.InvT-loop
 Inv-loop kept₀ pins levels cycles n i₀ kept i = (i ≤ n) × (fed kept (entriesFrom i (n - i) (slices pins levels cycles)) ≡ fed kept₀ (entriesFrom 0 n (slices pins levels cycles)))
@@ -19,60 +16,38 @@ Inv-loop kept₀ pins levels cycles n i₀ kept i = (i ≤ n) × (fed kept (entr
 abbrev μ-loop : tie.MeasureT-loop
 μ-loop kept₀ pins levels cycles n i₀ kept i = n - i
 
--- src/lib.rt:239:9
 room-requires : tie.Need-room-requires Inv-loop μ-loop
-room-requires c κs =
-    search needs
+room-requires c κs = search needs
 
--- src/lib.rt:241:5
 loop-holds : tie.Need-loop-holds Inv-loop μ-loop
-loop-holds c =
-    (omega arith, fed-begins _ _ (slices (c .before .before .before .before .args .pins .now) (c .before .before .before .before .args .levels .now) (c .before .before .before .before .args .cycles .now)))
+loop-holds c = (omega arith, fed-begins _ _ (slices (c .before .before .before .before .args .pins .now) (c .before .before .before .before .args .levels .now) (c .before .before .before .before .args .cycles .now)))
 
--- src/lib.rt:242:21
 shared-slice-read-enter : tie.Need-shared-slice-read-enter Inv-loop μ-loop
-shared-slice-read-enter c =
-    omega (arith, c .before .before .before .before .room .ensures)
+shared-slice-read-enter c = omega (arith, c .before .before .before .before .room .ensures)
 
--- src/lib.rt:242:30
 shared-slice-read-enter-2 : tie.Need-shared-slice-read-enter-2 Inv-loop μ-loop
-shared-slice-read-enter-2 c =
-    omega (arith, c .before .before .before .before .before .room .ensures)
+shared-slice-read-enter-2 c = omega (arith, c .before .before .before .before .before .room .ensures)
 
--- src/lib.rt:242:41
 mul-enter : tie.Need-mul-enter Inv-loop μ-loop
-mul-enter c =
-    search needs
+mul-enter c = search needs
 
--- src/lib.rt:242:41
 shared-slice-read-enter-3 : tie.Need-shared-slice-read-enter-3 Inv-loop μ-loop
-shared-slice-read-enter-3 c =
-    omega (arith, c .before .before .before .before .before .before .room .ensures)
+shared-slice-read-enter-3 c = omega (arith, c .before .before .before .before .before .before .room .ensures)
 
--- src/lib.rt:242:9
 enter-requires : tie.Need-enter-requires Inv-loop μ-loop
-enter-requires c κs =
-    search needs
+enter-requires c κs = search needs
 
--- src/lib.rt:243:9
 add-i : tie.Need-add-i Inv-loop μ-loop
-add-i c =
-    omega (arith, c .before .before .before .before .before .before .before .room .ensures)
+add-i c = omega (arith, c .before .before .before .before .before .before .before .room .ensures)
 
--- src/lib.rt:241:5
 loop-less : tie.Need-loop-less Inv-loop μ-loop
-loop-less c =
-    omega arith
+loop-less c = omega arith
 
--- src/lib.rt:241:5
 loop-again : tie.Need-loop-again Inv-loop μ-loop
-loop-again c =
-    (omega arith, fed-more _ _ _ (c .before .before .before .before .before .before .loop .i) _ (slices (c .before .before .before .before .before .before .before .before .before .before .before .args .pins .now) (c .before .before .before .before .before .before .before .before .before .before .before .args .levels .now) (c .before .before .before .before .before .before .before .before .before .before .before .args .cycles .now)) (c .before .before .before .before .before .loop-test .taken) (c .before .before .before .before .before .before .loop .inv .1) (c .enter .ensures))
+loop-again c = (omega arith, fed-more _ _ _ (c .before .before .before .before .before .before .loop .i) _ (slices (c .before .before .before .before .before .before .before .before .before .before .before .args .pins .now) (c .before .before .before .before .before .before .before .before .before .before .before .args .levels .now) (c .before .before .before .before .before .before .before .before .before .before .before .args .cycles .now)) (c .before .before .before .before .before .loop-test .taken) (c .before .before .before .before .before .before .loop .inv .1) (c .enter .ensures))
 
--- src/lib.rt:229:1
 returns : tie.Need-returns Inv-loop μ-loop
-returns c =
-    fed-both _ _ (c .before .loop .i) _ (slices (c .before .before .before .before .before .before .args .pins .now) (c .before .before .before .before .before .before .args .levels .now) (c .before .before .before .before .before .before .args .cycles .now)) (c .loop-test .left) (c .before .loop .inv .1) (c .before .before .room .ensures)
+returns c = fed-both _ _ (c .before .loop .i) _ (slices (c .before .before .before .before .before .before .args .pins .now) (c .before .before .before .before .before .before .args .levels .now) (c .before .before .before .before .before .before .args .cycles .now)) (c .loop-test .left) (c .before .loop .inv .1) (c .before .before .room .ensures)
 
 pub shift-feed-spec : {M : Type 1} → statement M
 shift-feed-spec =
