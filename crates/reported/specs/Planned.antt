@@ -3,14 +3,14 @@
 use mathlib.Core.Path.{_≡_}
 use mathlib.Core.Bool.{Bool, true, false}
 use mathlib.Core.List.{List, [], _∷_, _++_}
-use Prim.Native.Nat.{ℕ, _+_, _-_, _*_}
+use Prim.Native.Nat.{ℕ, _+_, _-_, _*_, _≤_}
 use lib.Dec.{ltb}
 use lib.ListN.{getD}
 use Rattle.book.specs.Book.{Entry}
 use Rattle.machine.specs.Board.{gpioAt}
 use Rattle.machine.specs.Step.{run}
 use Rattle.accuracy.specs.Claim.{Pilot, Steady, Window, Within, board₁, joined, periodOf, highOf}
-use Rattle.shift.specs.Shift.{Shift, levelBefore, cycleBefore, Reports}
+use Rattle.shift.specs.Shift.{Shift, levelBefore, cycleBefore, numberOf, Reports}
 
 -- "the entries of all calls after the start, joined in order"
 abbrev pub entriesAfter : Pilot → List Entry
@@ -32,3 +32,12 @@ abbrev pub OrderClaim : Type 0
 OrderClaim =
     (π : Pilot) → Steady π → (before : List Entry) (e : Entry) (rest : List Entry) → entriesAfter π ≡ before ++ (e ∷ rest) → e .pin ≡ π .pin
     → ltb (e .cycle) (cycleBefore (e .pin) before 0) ≡ false
+
+-- every entry is of one pin, and its level is 0 or 1
+unfoldable pub OnlyOf : ℕ → List Entry → Type 0
+OnlyOf pin [] = Unit {0}
+OnlyOf pin (e ∷ es) = (e .pin ≡ pin) × (e .level ≤ 1) × OnlyOf pin es
+
+-- so where no other pin moves, the report is given: number 0
+abbrev pub ServedClaim : Type 0
+ServedClaim = (π : Pilot) → Steady π → OnlyOf (π .pin) (entriesAfter π) → (s : Shift) → s .from ≤ s .to → numberOf s (entriesAfter π) ≡ 0
