@@ -1,4 +1,5 @@
 //! `compare COUNT [SEED]`: at least COUNT random calls through the library and the oracle, from fresh seeds or from SEED on.
+//! `compare duty COUNT [SEED]`: COUNT random books through the duty report and a counter.
 
 use std::collections::hash_map::RandomState;
 use std::hash::{BuildHasher, Hasher};
@@ -9,15 +10,20 @@ use compare::run::{CALLS, KINDS};
 use compare::{list, report, Port, Stats};
 
 fn main() -> ExitCode {
-    let args: Option<Vec<u64>> = std::env::args().skip(1).map(|a| a.parse().ok()).collect();
+    let mut words = std::env::args().skip(1).peekable();
+    let duty = words.next_if(|w| w == "duty").is_some();
+    let args: Option<Vec<u64>> = words.map(|a| a.parse().ok()).collect();
     let (count, seed) = match args.as_deref() {
         Some(&[count]) => (count, fresh()),
         Some(&[count, seed]) => (count, seed),
         _ => {
-            eprintln!("usage: compare COUNT [SEED]");
+            eprintln!("usage: compare [duty] COUNT [SEED]");
             return ExitCode::FAILURE;
         }
     };
+    if duty {
+        return books(count, seed);
+    }
     let lists = count.div_ceil(CALLS);
     println!("{lists} lists of {CALLS} calls, seeds {seed} to {}", seed.wrapping_add(lists).wrapping_sub(1));
     let mut port = Port::new();
@@ -35,6 +41,22 @@ fn main() -> ExitCode {
         }
     }
     print(&stats, start.elapsed());
+    ExitCode::SUCCESS
+}
+
+fn books(count: u64, seed: u64) -> ExitCode {
+    println!("{count} books, seeds {seed} to {}", seed.wrapping_add(count).wrapping_sub(1));
+    let mut stats = compare::duty::Stats::default();
+    let start = Instant::now();
+    for i in 0..count {
+        if let Err(failure) = compare::duty::book(seed.wrapping_add(i), &mut stats) {
+            println!("{failure}");
+            return ExitCode::FAILURE;
+        }
+    }
+    let [served, reversed, out_of_order] = stats.numbers;
+    println!("{} books, {} entries, {} edges, all equal at once and in pieces;", stats.books, stats.entries, stats.edges);
+    println!("{served} served, {reversed} with 9, {out_of_order} with 10. {:.1} s", start.elapsed().as_secs_f64());
     ExitCode::SUCCESS
 }
 
