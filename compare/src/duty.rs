@@ -176,7 +176,7 @@ impl Case {
     }
 }
 
-/// As the program `duty` reads it.
+/// As the program `shifts` reads it.
 impl Display for Case {
     fn fmt(&self, f: &mut Formatter) -> fmt::Result {
         let [a, b, c, d] = self.levels;
