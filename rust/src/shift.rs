@@ -73,6 +73,10 @@ impl Shift {
     /// The report of what has been fed. More can be fed, and reported again.
     ///
     /// [`Error::ShiftReversed`] if `to` is below `from`, then [`Error::BookOutOfOrder`], also for an entry outside the shift.
+    ///
+    /// With the second some cycles of a pin are told twice: from the entry's cycle to that of the pin's entry before it. The record without
+    /// that pin's entries reports the other pins; the pin's own, cut at the entry, give a report up to those cycles and one from there on.
+    /// docs/DECISIONS.md says more, docs/DIFFERENCES.md which calls lead to it. A steady pilot's record never does.
     pub fn report(&self) -> Result<Report, Error> {
         Report::made(|figures| ffi::end(&self.kept, figures))
     }
