@@ -169,7 +169,7 @@ module _ (π : Pilot) (st : Steady π) where
       } in
       all-calls aimed (π .pin) l₀ (π .timer) (π .after) 0 (board₁ π) [] sound₁ start (st .since)
 
-  -- the record is in order for the pilot's pin: no entry's cycle is below that of the pin's entry before it
+  -- the record is in order for the pilot's pin: no entry's cycle is below that of the pin's entry before it, and each level is 0 or 1
   pub in-order : Upward (π .pin) 0 entriesAfter (due (timerAt (boardAfter (board₁ π) (π .after)) (π .timer)))
   in-order = at-end .told .ordered
 

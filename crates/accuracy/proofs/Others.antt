@@ -30,13 +30,13 @@ unfolding levelAt
 spared-level pin [] h l c = refl
 spared-level pin (e ∷ es) h l c = rw (ne-eqb (e .pin) pin (h .0)) (spared-level pin es (h .1) l c)
 
-pub spared-silent : (pin : ℕ) (es : List Entry) → Spared pin es → Silent pin es
-spared-silent pin es h = record { stays = spared-level pin es h }
-
 upward-spared : (pin d : ℕ) (es : List Entry) → Spared pin es → Upward pin d es d
 unfolding Upward
 upward-spared pin d [] h = le-refl d
 upward-spared pin d (e ∷ es) h = (λ x. absurd (h .0 x), rw (ne-eqb (e .pin) pin (h .0)) (upward-spared pin d es (h .1)))
+
+pub spared-silent : (pin : ℕ) (es : List Entry) → Spared pin es → Silent pin es
+spared-silent pin es h = record { stays = spared-level pin es h; upward = λ d. upward-spared pin d es h }
 
 -- ---- a timer with other CR2, SMCR, DIER and SR
 
@@ -120,15 +120,15 @@ module _ (a : Aim) (pin l₀ : ℕ) where
   due-calm : (t u : Timer) → Calm t u → due u ≡ due t
   due-calm t u c = ap due (calm-is t u c) ∙ due-quiet a t (u .regs .cr2) (u .regs .smcr) (u .regs .dier) (u .regs .sr)
 
-  told-held : (t : Timer) (p q : Pads) (es fs : List Entry) → SoundPads q → Held (signalOf a) pin p q → Silent pin fs → Upward pin (due t) fs (due t) → Told a pin l₀ t p es → Told a pin l₀ t q (es ++ fs)
-  told-held t p q es fs sound k s u h = record {
+  told-held : (t : Timer) (p q : Pads) (es fs : List Entry) → SoundPads q → Held (signalOf a) pin p q → Silent pin fs → Told a pin l₀ t p es → Told a pin l₀ t q (es ++ fs)
+  told-held t p q es fs sound k s h = record {
     drives = h .drives;
     fixed = h .fixed;
     phase = h .phase;
     wired = wired-held (signalOf a) pin p q (h .wired) sound k;
     past = λ c from to. level-append pin es fs l₀ c ∙ s .stays (levelAt pin es l₀ c) c ∙ h .past c from to;
     present = λ c le. level-append pin es fs l₀ c ∙ s .stays (levelAt pin es l₀ c) c ∙ h .present c le ∙ sym (k .shown);
-    ordered = upward-then pin 0 es (due t) fs (due t) (h .ordered) u;
+    ordered = upward-then pin 0 es (due t) fs (due t) (h .ordered) (s .upward (due t));
   }
 
   -- a call that leaves the pilot alone
@@ -137,7 +137,7 @@ module _ (a : Aim) (pin l₀ : ℕ) where
   kept-rest i from b es o sound r k = record {
     here = rw (r .past .timers) (k .here);
     divider = ap (λ (t : ClockTree). timerDiv t (a .apb)) (r .past .tree) ∙ k .divider;
-    told = told-held (timerAt (o .board) i) (b .pads) (o .board .pads) es (o .entries) (sound .pads) (r .past .held) (spared-silent pin (o .entries) (r .spared)) (upward-spared pin (due (timerAt (o .board) i)) (o .entries) (r .spared))
+    told = told-held (timerAt (o .board) i) (b .pads) (o .board .pads) es (o .entries) (sound .pads) (r .past .held) (spared-silent pin (o .entries) (r .spared))
         (told-calm (timerAt b i) (timerAt (o .board) i) (b .pads) es (r .past .timer) (k .told));
     later = rw (due-calm (timerAt b i) (timerAt (o .board) i) (r .past .timer)) (k .later);
   }

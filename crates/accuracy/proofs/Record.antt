@@ -23,7 +23,7 @@ use Rattle.machine.specs.Deliver.{applied, countAt, turn, turnOf, Run, run, sto
 use Rattle.machine.proofs.Routing.{by-test}
 use Rattle.book.specs.Level.{levelAt}
 use Rattle.accuracy.proofs.Wave.{wave}
-use Rattle.accuracy.proofs.Levels.{level-append, Upward, upward-later, upward-then, upward-entries}
+use Rattle.accuracy.proofs.Levels.{level-append, Upward, upward-later, upward-then}
 use Rattle.accuracy.proofs.Aim.{Aim, period, high, signalOf, Fixed, due, Phase, Goes}
 use Rattle.accuracy.proofs.One.{goes, output-is}
 use Rattle.accuracy.proofs.Drive.{Wired, Driven, shown, outputs-driven}
@@ -39,7 +39,7 @@ pub record Told (a : Aim) (pin l₀ : ℕ) (t : Timer) (p : Pads) (es : List Ent
   pub wired : Wired (signalOf a) pin p
   pub past : (c : ℕ) → a .first ≤ c → c < due t → levelAt pin es l₀ c ≡ pilot a c
   pub present : (c : ℕ) → due t ≤ c → levelAt pin es l₀ c ≡ shown p pin
-  -- the pin's cycles never fall
+  -- the pin's entries are in order
   pub ordered : Upward pin 0 es (due t)
 
 module _ (a : Aim) (pin l₀ : ℕ) where
@@ -70,7 +70,7 @@ module _ (a : Aim) (pin l₀ : ℕ) where
         present c le = since c (omega (arith, g .later))
 
         ordered : Upward pin 0 (es ++ fs) (due s)
-        ordered = upward-later pin 0 (es ++ fs) (due t) (due s) (g .later) (upward-then pin 0 es (due t) fs (due t) (h .ordered) (upward-entries pin (due t) (driveOutputs s cnt p .changes)))
+        ordered = upward-later pin 0 (es ++ fs) (due t) (due s) (g .later) (upward-then pin 0 es (due t) fs (due t) (h .ordered) (w .moves .upward))
 
         past : (c : ℕ) → a .first ≤ c → c < due s → levelAt pin (es ++ fs) l₀ c ≡ pilot a c
         past c from to = go (ltb c (due t)) refl

@@ -4,13 +4,12 @@ use mathlib.Core.Path.{_≡_}
 use mathlib.Core.Bool.{Bool, true, false}
 use mathlib.Core.List.{List, [], _∷_, _++_}
 use Prim.Native.Nat.{ℕ, _+_, _-_, _*_, _≤_}
-use lib.Dec.{ltb}
 use lib.ListN.{getD}
 use Rattle.book.specs.Book.{Entry}
 use Rattle.machine.specs.Board.{gpioAt}
 use Rattle.machine.specs.Step.{run}
 use Rattle.accuracy.specs.Claim.{Pilot, Steady, Window, Within, board₁, joined, periodOf, highOf}
-use Rattle.shift.specs.Shift.{Shift, levelBefore, cycleBefore, numberOf, Reports}
+use Rattle.shift.specs.Shift.{Shift, levelBefore, astray, numberOf, Reports}
 
 -- "the entries of all calls after the start, joined in order"
 abbrev pub entriesAfter : Pilot → List Entry
@@ -27,16 +26,16 @@ ReportClaim =
     (π : Pilot) → Steady π → (s : Shift) → Planned π s → (number high : ℕ) (lent left : List ℕ) → Reports s (entriesAfter π) number high lent left → number ≡ 0
     → Within (getD left (3 * π .pin) 0) (s .to - s .from) (periodOf (board₁ π) (π .timer)) (highOf (board₁ π) (π .timer) (π .ch))
 
--- no entry of the pilot's pin has a cycle below that of the pin's entry before it
+-- no entry of the pilot's pin is one that 10 is given for
 abbrev pub OrderClaim : Type 0
 OrderClaim =
     (π : Pilot) → Steady π → (before : List Entry) (e : Entry) (rest : List Entry) → entriesAfter π ≡ before ++ (e ∷ rest) → e .pin ≡ π .pin
-    → ltb (e .cycle) (cycleBefore (e .pin) before 0) ≡ false
+    → astray before e ≡ false
 
--- every entry is of one pin, and its level is 0 or 1
+-- every entry is of one pin
 unfoldable pub OnlyOf : ℕ → List Entry → Type 0
 OnlyOf pin [] = Unit {0}
-OnlyOf pin (e ∷ es) = (e .pin ≡ pin) × (e .level ≤ 1) × OnlyOf pin es
+OnlyOf pin (e ∷ es) = (e .pin ≡ pin) × OnlyOf pin es
 
 -- so where no other pin moves, the report is given: number 0
 abbrev pub ServedClaim : Type 0

@@ -232,7 +232,7 @@ pub extern "C" fn shift_begin(kept: &mut [u64; KEPT], words: &[u32; 4], from: u6
 
 // ---- feed
 
-// The entries of a book more, as many as its shortest slice has places.
+// The entries of a book more, as many as its shortest slice has places: of a call's book, its first count places are lent.
 #[no_mangle]
 pub extern "C" fn shift_feed(kept: &mut [u64; KEPT], pins: &[u8], levels: &[u8], cycles: &[u64])
     ensures { λ _. ⌜ now (kept .exit) ≡ fed (now (kept .entry)) (entriesIn (slices (now (pins .entry)) (now (levels .entry)) (now (cycles .entry)))) ⌝ }
