@@ -1,4 +1,4 @@
-//! Finds the static library: in BOARD_LIB_DIR if that is set, else where `rt staticlib board` writes it.
+//! Finds the static libraries: in BOARD_LIB_DIR if that is set, else where `rt staticlib` writes them.
 
 use std::env;
 use std::path::PathBuf;
@@ -10,13 +10,15 @@ fn main() {
         Some(dir) => PathBuf::from(dir),
         None => PathBuf::from(env::var_os("CARGO_MANIFEST_DIR").unwrap()).join("../target/staticlib"),
     };
-    let lib = dir.join("libboard.a");
-    println!("cargo:rerun-if-changed={}", lib.display());
-    if !lib.is_file() {
-        eprintln!("\n{} is not there.\nRun `rt staticlib board` in the repository's root, or set BOARD_LIB_DIR to the folder that has libboard.a.\n", lib.display());
-        std::process::exit(1);
+    for name in ["board", "shift"] {
+        let lib = dir.join(format!("lib{name}.a"));
+        println!("cargo:rerun-if-changed={}", lib.display());
+        if !lib.is_file() {
+            eprintln!("\n{} is not there.\nRun `rt staticlib {name}` in the repository's root, or set BOARD_LIB_DIR to the folder that has it.\n", lib.display());
+            std::process::exit(1);
+        }
+        println!("cargo:rustc-link-lib=static={name}");
     }
     let dir = dir.canonicalize().unwrap_or(dir);
     println!("cargo:rustc-link-search=native={}", dir.display());
-    println!("cargo:rustc-link-lib=static=board");
 }

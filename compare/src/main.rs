@@ -1,5 +1,6 @@
 //! `compare COUNT [SEED]`: at least COUNT random calls through the library and the oracle, from fresh seeds or from SEED on.
 //! `compare machine COUNT [SEED]`: the same with the library and RM0440's machine; prints the table of the cases met.
+//! `compare duty COUNT [SEED]`: COUNT random books through the duty report and a counter.
 
 use std::collections::hash_map::RandomState;
 use std::hash::{BuildHasher, Hasher};
@@ -11,20 +12,21 @@ use compare::{list, report, Port, Stats};
 use oracle::follow::{report as report_cases, Table};
 
 fn main() -> ExitCode {
-    let mut args: Vec<String> = std::env::args().skip(1).collect();
-    let machine = args.first().is_some_and(|a| a == "machine");
-    if machine {
-        args.remove(0);
-    }
-    let args: Option<Vec<u64>> = args.iter().map(|a| a.parse().ok()).collect();
+    let mut words = std::env::args().skip(1).peekable();
+    let duty = words.next_if(|w| w == "duty").is_some();
+    let machine = words.next_if(|w| w == "machine").is_some();
+    let args: Option<Vec<u64>> = words.map(|a| a.parse().ok()).collect();
     let (count, seed) = match args.as_deref() {
         Some(&[count]) => (count, fresh()),
         Some(&[count, seed]) => (count, seed),
         _ => {
-            eprintln!("usage: compare [machine] COUNT [SEED]");
+            eprintln!("usage: compare [machine | duty] COUNT [SEED]");
             return ExitCode::FAILURE;
         }
     };
+    if duty {
+        return books(count, seed);
+    }
     let lists = count.div_ceil(CALLS);
     println!("{lists} lists of {CALLS} calls, seeds {seed} to {}", seed.wrapping_add(lists).wrapping_sub(1));
     let mut port = Port::new();
@@ -57,6 +59,22 @@ fn main() -> ExitCode {
         }
     }
     print(&stats, start.elapsed());
+    ExitCode::SUCCESS
+}
+
+fn books(count: u64, seed: u64) -> ExitCode {
+    println!("{count} books, seeds {seed} to {}", seed.wrapping_add(count).wrapping_sub(1));
+    let mut stats = compare::duty::Stats::default();
+    let start = Instant::now();
+    for i in 0..count {
+        if let Err(failure) = compare::duty::book(seed.wrapping_add(i), &mut stats) {
+            println!("{failure}");
+            return ExitCode::FAILURE;
+        }
+    }
+    let [served, reversed, out_of_order] = stats.numbers;
+    println!("{} books, {} entries, {} edges, all equal at once and in pieces;", stats.books, stats.entries, stats.edges);
+    println!("{served} served, {reversed} with 9, {out_of_order} with 10. {:.1} s", start.elapsed().as_secs_f64());
     ExitCode::SUCCESS
 }
 

@@ -1,8 +1,8 @@
-//! Document 01's numbers.
+//! The numbers of documents 01 and 02.
 
 use std::fmt::{self, Display, Formatter};
 
-/// Why a call was turned away. A refused call has changed nothing. [`Display`] gives document 01's words.
+/// Why a call was turned away. A refused call has changed nothing. [`Display`] gives the documents' words.
 #[derive(Clone, Copy, Debug, PartialEq, Eq, Hash)]
 #[non_exhaustive]
 pub enum Error {
@@ -22,12 +22,16 @@ pub enum Error {
     CounterAstray,
     /// 8: a delivery stopped with an event still due. What it did stands; see [`Delivered`](crate::Delivered).
     Backlog,
+    /// 9: a shift whose end is below its beginning.
+    ShiftReversed,
+    /// 10: an entry's cycle is below that of its pin's entry before it, or its pin is above 127, or its level above 1.
+    BookOutOfOrder,
     /// A number that this crate does not know: the library is newer.
     Other(u8),
 }
 
-/// Document 01's table: each number with its word.
-const TABLE: [(Error, u8, &str); 8] = [
+/// The documents' table: each number with its word.
+const TABLE: [(Error, u8, &str); 10] = [
     (Error::WrongBoard, 1, "wrong board"),
     (Error::NoSuchIndex, 2, "no such post"),
     (Error::BadSize, 3, "odd plug"),
@@ -36,6 +40,8 @@ const TABLE: [(Error, u8, &str); 8] = [
     (Error::BookFull, 6, "book full"),
     (Error::CounterAstray, 7, "counter astray"),
     (Error::Backlog, 8, "backlog"),
+    (Error::ShiftReversed, 9, "shift reversed"),
+    (Error::BookOutOfOrder, 10, "book out of order"),
 ];
 
 /// Whether an answer's number is a refusal: neither 0, served, nor 8, a backlog. A refused call has changed nothing.
@@ -52,7 +58,7 @@ impl Error {
         Some(TABLE.iter().find(|row| row.1 == number).map_or(Error::Other(number), |row| row.0))
     }
 
-    /// Document 01's number.
+    /// The documents' number.
     pub fn number(self) -> u8 {
         match self {
             Error::Other(n) => n,

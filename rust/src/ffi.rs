@@ -3,7 +3,7 @@
 //!
 //! The only `unsafe` of the crate. No exported function asks anything of its arguments. What is left to this file: the
 //! pointers are live, do not overlap, and are as long as said. The state's two lengths are the library's own,
-//! [`words`] and [`reals`], and a [`State`] cannot be made with others.
+//! [`words`] and [`reals`], and a [`State`] cannot be made with others. A shift's two are in the types, [`KEPT`] and [`FIGURES`].
 
 /// What every call answers.
 #[repr(C)]
@@ -34,7 +34,23 @@ pub struct State {
     reals: Box<[f64]>,
 }
 
-// The declarations must be the exports of crates/board; nothing but the comparison with the oracle checks them.
+/// The words that a shift keeps between its pieces.
+pub const KEPT: usize = 515;
+
+/// A report's figures: high cycles, low cycles and edges of each of 128 pins.
+pub const FIGURES: usize = 384;
+
+/// What the end of a shift answers.
+#[repr(C)]
+#[derive(Clone, Copy, Debug, PartialEq, Eq)]
+pub struct Summary {
+    /// 0 served, else the number of [`Error`](crate::Error): 9 or 10.
+    pub number: u32,
+    /// Pins that are high at the end of the shift.
+    pub high: u32,
+}
+
+// The declarations must be the exports of crates/board; nothing but the comparisons checks them.
 unsafe extern "C" {
     safe fn board_words() -> usize;
     safe fn board_reals() -> usize;
@@ -57,6 +73,14 @@ unsafe extern "C" {
     fn board_line(w: *const u64, r: *const f64, irq: u32) -> Answer;
     fn board_time(w: *const u64, r: *const f64, cycle: u64) -> Answer;
     fn board_clear_pending(w: *mut u64, r: *mut f64, irq: u32) -> Answer;
+}
+
+// The exports of crates/shift.
+unsafe extern "C" {
+    fn shift_begin(kept: *mut u64, words: *const u32, from: u64, to: u64);
+    fn shift_feed(kept: *mut u64, p: *const u8, np: usize, l: *const u8, nl: usize, c: *const u64, nc: usize);
+    fn shift_end(kept: *const u64, figures: *mut u64) -> Summary;
+    fn shift_report(figures: *mut u64, words: *const u32, from: u64, to: u64, p: *const u8, np: usize, l: *const u8, nl: usize, c: *const u64, nc: usize) -> Summary;
 }
 
 /// A call that reads the state.
@@ -227,4 +251,32 @@ impl State {
     pub fn clear_pending(&mut self, irq: u32) -> Answer {
         change!(board_clear_pending, self, irq)
     }
+}
+
+/// A shift begins: `levels` before the first entry, pin i at bit i mod 32 of word i div 32.
+#[inline]
+pub fn begin(kept: &mut [u64; KEPT], levels: &[u32; 4], from: u64, to: u64) {
+    // SAFETY: live arrays of the library's lengths, the first held exclusively.
+    unsafe { shift_begin(kept.as_mut_ptr(), levels.as_ptr(), from, to) }
+}
+
+/// The entries of a book more, as many as its shortest slice has.
+#[inline]
+pub fn feed(kept: &mut [u64; KEPT], pins: &[u8], levels: &[u8], cycles: &[u64]) {
+    // SAFETY: as above; slices are passed with their lengths.
+    unsafe { shift_feed(kept.as_mut_ptr(), pins.as_ptr(), pins.len(), levels.as_ptr(), levels.len(), cycles.as_ptr(), cycles.len()) }
+}
+
+/// The report: high, low and edges of pin i at the places 3 i, 3 i + 1, 3 i + 2. Refused, it writes nothing.
+#[inline]
+pub fn end(kept: &[u64; KEPT], figures: &mut [u64; FIGURES]) -> Summary {
+    // SAFETY: as above.
+    unsafe { shift_end(kept.as_ptr(), figures.as_mut_ptr()) }
+}
+
+/// Begin, one feed and end.
+#[inline]
+pub fn report(figures: &mut [u64; FIGURES], words: &[u32; 4], from: u64, to: u64, pins: &[u8], levels: &[u8], cycles: &[u64]) -> Summary {
+    // SAFETY: as above.
+    unsafe { shift_report(figures.as_mut_ptr(), words.as_ptr(), from, to, pins.as_ptr(), pins.len(), levels.as_ptr(), levels.len(), cycles.as_ptr(), cycles.len()) }
 }

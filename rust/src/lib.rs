@@ -2,6 +2,7 @@
 //!
 //! A [`Board`] owns its state, some 44 KB, and a book for the pin changes that a call makes; both are allocated once.
 //! Every method is one call of document 01. Nothing is shared between boards, so they may live on any thread.
+//! A [`Shift`] takes the entries and gives the planner's figures.
 //!
 //! ```
 //! use board::{Board, Entry, Error, Mode, PinConfig, Setup, TimerSpec, signal};
@@ -40,11 +41,13 @@
 mod error;
 #[allow(unsafe_code)]
 pub mod ffi;
+mod shift;
 
 use std::fmt::{self, Debug, Formatter};
 
 pub use error::{is_refusal, Error};
 use ffi::{Answer, Book, State};
+pub use shift::{Duty, PinReport, Report, Shift, PINS};
 
 /// Enough places for every call but a delivery, which stops and is made again.
 const PLACES: usize = 128;

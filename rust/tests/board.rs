@@ -56,7 +56,7 @@ fn boards_may_change_threads() {
 
 #[test]
 fn every_number_has_its_words() {
-    let words = ["wrong board", "no such post", "odd plug", "bad clock", "clock astray", "book full", "counter astray", "backlog"];
+    let words = ["wrong board", "no such post", "odd plug", "bad clock", "clock astray", "book full", "counter astray", "backlog", "shift reversed", "book out of order"];
     for (number, words) in (1..).zip(words) {
         let e = Error::from_number(number).unwrap();
         assert_eq!((e.number(), e.to_string().as_str()), (number, words));

@@ -1,5 +1,5 @@
 -- Demand 3: the recorded duty is the programmed one. The claim of Claim.antt, for every list of calls. Assumes nothing.
-use Prim.Native.Nat.{ℕ, _+_, _≤_}
+use Prim.Native.Nat.{ℕ, _+_, _≤_, _<_}
 use mathlib.Core.Path.{_≡_, refl, sym, ap, subst, _∙_}
 use mathlib.Core.Logic.{_⊎_, inl, inr}
 use mathlib.Core.Bool.{Bool, true, false, cond, not, _||_}
@@ -19,7 +19,8 @@ use Rattle.machine.proofs.NumberLaws.{refusal-nonzero}
 use Rattle.machine.proofs.Routing.{by-test}
 use Rattle.machine.proofs.Reach.{Wired, Rest, Leaves, frame-step, frame-refused, sound-step, sound-after}
 use Rattle.accuracy.proofs.Tests.{never, both-left, both-right, one-of, apart}
-use Rattle.accuracy.specs.Claim.{steadyCall, steady, deliveredAt, covered, joined, board₀, board₁, signal, recorded, Claim}
+use Rattle.accuracy.specs.Claim.{steadyCall, steady, deliveredAt, covered, joined, Pilot, Steady, board₀, board₁, signal, recorded, Claim}
+use Rattle.accuracy.proofs.Levels.{Upward}
 use Rattle.accuracy.proofs.Wave.{duty}
 use Rattle.accuracy.proofs.Aim.{Aim, period, high, signalOf, due}
 use Rattle.accuracy.proofs.Start.{aimOf, told-start}
@@ -136,20 +137,43 @@ module _ (a : Aim) (pin l₀ i : ℕ) where
 
 -- ---- the claim
 
+module _ (π : Pilot) (st : Steady π) where
+  sound₀ : Sound (board₀ π)
+  sound₀ = sound-after (π .before)
+
+  sound₁ : Sound (board₁ π)
+  sound₁ = sound-step (board₀ π) _ sound₀
+
+  abbrev aimed : Aim
+  aimed = aimOf (board₁ π) (π .timer) (π .ch) (π .s)
+
+  abbrev entriesAfter : List Entry
+  entriesAfter = joined (run (board₁ π) (π .after))
+
+  -- the board and the record at the list's end
+  at-end : Kept aimed (π .pin) (gpioAt (board₁ π .pads) (π .pin) .pin .level) (π .timer) (covered (π .timer) (board₁ π) (π .after) 0) (boardAfter (board₁ π) (π .after)) entriesAfter
+  at-end =
+      let begun = began (board₀ π) (π .timer) (π .offset) (π .size) (π .value) (π .s) (π .places) sound₀ (st .started) in
+      let l₀ : ℕ = gpioAt (board₁ π .pads) (π .pin) .pin .level in
+      let start : Kept aimed (π .pin) l₀ (π .timer) 0 (board₁ π) [] = record {
+        here = begun .present;
+        divider = refl;
+        told = told-start (board₁ π) (π .timer) (π .s) (π .ch) (π .pin) begun (st .started .upward) (st .settings) sound₁;
+        later = omega arith;
+      } in
+      all-calls aimed (π .pin) l₀ (π .timer) (π .after) 0 (board₁ π) [] sound₁ start (st .since)
+
+  -- the record is in order for the pilot's pin: no entry's cycle is below that of the pin's entry before it, and each level is 0 or 1
+  pub in-order : Upward (π .pin) 0 entriesAfter (due (timerAt (boardAfter (board₁ π) (π .after)) (π .timer)))
+  in-order = at-end .told .ordered
+
+  pub pin-is : π .pin < 128
+  pin-is = at-end .told .wired .pin-is
+
 pub accurate : Claim
 accurate π st a W w =
-    let s₀ : Sound (board₀ π) = sound-after (π .before) in
-    let s₁ : Sound (board₁ π) = sound-step (board₀ π) _ s₀ in
-    let begun = began (board₀ π) (π .timer) (π .offset) (π .size) (π .value) (π .s) (π .places) s₀ (st .started) in
-    let aim : Aim = aimOf (board₁ π) (π .timer) (π .ch) (π .s) in
-    let l₀ : ℕ = gpioAt (board₁ π .pads) (π .pin) .pin .level in
-    let start : Kept aim (π .pin) l₀ (π .timer) 0 (board₁ π) [] = record {
-      here = begun .present;
-      divider = refl;
-      told = told-start (board₁ π) (π .timer) (π .s) (π .ch) (π .pin) begun (st .started .upward) (st .settings) s₁;
-      later = omega arith;
-    } in
-    let end = all-calls aim (π .pin) l₀ (π .timer) (π .after) 0 (board₁ π) [] s₁ start (st .since) in
+    let aim = aimed π st in
+    let end = at-end π st in
     duty (recorded π) (period aim) (high aim) (aim .first) a W
     (mul-le-mul-left (aim .tick) (min-le-right (aim .compare) (aim .reload + 1))) (w .from)
     (λ c lo hi. end .told .past c (omega (arith, w .from)) (omega (arith, w .to, end .later)))

@@ -17,7 +17,8 @@ use Rattle.machine.specs.Board.{Board, timerAt, gpioAt, routeOf, one}
 use Rattle.machine.specs.Sys.{driver}
 use Rattle.machine.specs.Call.{Call, Setup, setUp, enable, setPin, write, Outcome}
 use Rattle.machine.specs.Step.{step, run, boardAfter}
-use Rattle.accuracy.specs.Claim.{Pilot, Steady, Window, steady, covered, joined, levelAt, highs, board₀, board₁, timer₁, signal, firstUpdate, cyclesOf, periodOf, highOf}
+use Rattle.book.specs.Level.{levelAt, highs}
+use Rattle.accuracy.specs.Claim.{Pilot, Steady, Window, steady, covered, joined, board₀, board₁, timer₁, signal, firstUpdate, cyclesOf, periodOf, highOf}
 use Rattle.accuracy.proofs.Computed.{computed}
 use Rattle.accuracy.proofs.Tests.{both-left, both-right}
 use Rattle.accuracy.proofs.Quick.{delivery, few, suffice, joined-last, steady-last, covered-last}

@@ -18,7 +18,7 @@ use Rattle.machine.specs.Sys.{driveChannel, driveOutputs, driver, sigOut}
 use Rattle.machine.specs.Sound.{SoundPads, Held}
 use Rattle.machine.proofs.Routing.{sound-sig, sound-channel, held-channel, own-sig, Follows}
 use Rattle.accuracy.proofs.Tests.{both-right}
-use Rattle.accuracy.proofs.Levels.{Moves, moves-silent, moves-then, moves-own, silent-elsewhere}
+use Rattle.accuracy.proofs.Levels.{Moves, moves-silent, moves-then, moves-own, silent-elsewhere, bit-small}
 
 abbrev pub shown : Pads → ℕ → ℕ
 shown p pin = gpioAt p pin .pin .level
@@ -80,7 +80,7 @@ module _ (t : Timer) (cnt ch pin at : ℕ) (drv : driver (t .inst .n) ≡ true) 
           push-pull = ap (λ (c : PinCfg). c .«open_drain») (f .cfg) ∙ w .push-pull;
         };
         shows = f .shown;
-        moves = rw (f .change, f .shown) (moves-own pin at (shown p pin) (bit (output t ch cnt)));
+        moves = rw (f .change, f .shown) (moves-own pin at (shown p pin) (bit (output t ch cnt)) (bit-small (output t ch cnt)));
       })
 
   -- another channel leaves it

@@ -1,5 +1,6 @@
 -- A call that leaves the pilot's timer, signal and pin alone leaves what the record tells. Assumes nothing.
 use Prim.Native.Nat.{ℕ}
+use native.Mathlib.Nat.{le-refl}
 use mathlib.Core.Path.{_≡_, refl, sym, ap, subst, _∙_}
 use mathlib.Core.List.{List, [], _∷_, _++_}
 use borrow.Author.Tests.{ne-eqb}
@@ -15,8 +16,8 @@ use Rattle.machine.specs.Board.{Board, Pads, timerAt}
 use Rattle.machine.specs.Call.{Outcome}
 use Rattle.machine.specs.Sound.{Sound, SoundPads, Held}
 use Rattle.machine.proofs.Reach.{Spared, Calm, Rest}
-use Rattle.accuracy.specs.Claim.{levelAt}
-use Rattle.accuracy.proofs.Levels.{Silent, level-append}
+use Rattle.book.specs.Level.{levelAt}
+use Rattle.accuracy.proofs.Levels.{Silent, level-append, Upward, upward-then}
 use Rattle.accuracy.proofs.Aim.{Aim, signalOf, due, Fixed, Phase, coming, inPeriod}
 use Rattle.accuracy.proofs.Drive.{wired-held, shown}
 use Rattle.accuracy.proofs.Record.{Told}
@@ -29,8 +30,13 @@ unfolding levelAt
 spared-level pin [] h l c = refl
 spared-level pin (e ∷ es) h l c = rw (ne-eqb (e .pin) pin (h .0)) (spared-level pin es (h .1) l c)
 
+upward-spared : (pin d : ℕ) (es : List Entry) → Spared pin es → Upward pin d es d
+unfolding Upward
+upward-spared pin d [] h = le-refl d
+upward-spared pin d (e ∷ es) h = (λ x. absurd (h .0 x), rw (ne-eqb (e .pin) pin (h .0)) (upward-spared pin d es (h .1)))
+
 pub spared-silent : (pin : ℕ) (es : List Entry) → Spared pin es → Silent pin es
-spared-silent pin es h = record { stays = spared-level pin es h }
+spared-silent pin es h = record { stays = spared-level pin es h; upward = λ d. upward-spared pin d es h }
 
 -- ---- a timer with other CR2, SMCR, DIER and SR
 
@@ -104,6 +110,7 @@ module _ (a : Aim) (pin l₀ : ℕ) where
     wired = h .wired;
     past = λ c from to. h .past c from (rw (due-quiet a t w x y z) at to);
     present = λ c le. h .present c (rw (due-quiet a t w x y z) at le);
+    ordered = subst (λ (d : ℕ). Upward pin 0 es d) (sym (due-quiet a t w x y z)) (h .ordered);
   }
 
   told-calm : (t u : Timer) (p : Pads) (es : List Entry) → Calm t u → Told a pin l₀ t p es → Told a pin l₀ u p es
@@ -121,6 +128,7 @@ module _ (a : Aim) (pin l₀ : ℕ) where
     wired = wired-held (signalOf a) pin p q (h .wired) sound k;
     past = λ c from to. level-append pin es fs l₀ c ∙ s .stays (levelAt pin es l₀ c) c ∙ h .past c from to;
     present = λ c le. level-append pin es fs l₀ c ∙ s .stays (levelAt pin es l₀ c) c ∙ h .present c le ∙ sym (k .shown);
+    ordered = upward-then pin 0 es (due t) fs (due t) (h .ordered) (s .upward (due t));
   }
 
   -- a call that leaves the pilot alone

@@ -21,9 +21,9 @@ use Rattle.machine.specs.Board.{Pads}
 use Rattle.machine.specs.Sys.{driver, driveOutputs}
 use Rattle.machine.specs.Deliver.{applied, countAt, turn, turnOf, Run, handled, stop, dueBy}
 use Rattle.machine.proofs.Routing.{by-test}
-use Rattle.accuracy.specs.Claim.{levelAt}
+use Rattle.book.specs.Level.{levelAt}
 use Rattle.accuracy.proofs.Wave.{wave}
-use Rattle.accuracy.proofs.Levels.{level-append}
+use Rattle.accuracy.proofs.Levels.{level-append, Upward, upward-later, upward-then}
 use Rattle.accuracy.proofs.Aim.{Aim, period, high, signalOf, Fixed, due, Phase, Goes}
 use Rattle.accuracy.proofs.One.{goes, output-is}
 use Rattle.accuracy.proofs.Drive.{Wired, Driven, shown, outputs-driven}
@@ -39,6 +39,8 @@ pub record Told (a : Aim) (pin l₀ : ℕ) (t : Timer) (p : Pads) (es : List Ent
   pub wired : Wired (signalOf a) pin p
   pub past : (c : ℕ) → a .first ≤ c → c < due t → levelAt pin es l₀ c ≡ pilot a c
   pub present : (c : ℕ) → due t ≤ c → levelAt pin es l₀ c ≡ shown p pin
+  -- the pin's entries are in order
+  pub ordered : Upward pin 0 es (due t)
 
 module _ (a : Aim) (pin l₀ : ℕ) where
   -- the outputs driven, for a timer of the pilot's number
@@ -53,7 +55,7 @@ module _ (a : Aim) (pin l₀ : ℕ) where
   module _ (t : Timer) (p : Pads) (es : List Entry) (h : Told a pin l₀ t p es) where
     event-told : (s : Timer) (cnt : ℕ) → Goes a t s cnt
         → Told a pin l₀ s (driveOutputs s cnt p .pads) (es ++ entriesOf (due t) (driveOutputs s cnt p .changes))
-    event-told s cnt g = record { drives = h .drives; fixed = g .fixed; phase = g .phase; wired = w .wired; past = past; present = present }
+    event-told s cnt g = record { drives = h .drives; fixed = g .fixed; phase = g .phase; wired = w .wired; past = past; present = present; ordered = ordered }
       where
         fs : List Entry
         fs = entriesOf (due t) (driveOutputs s cnt p .changes)
@@ -66,6 +68,9 @@ module _ (a : Aim) (pin l₀ : ℕ) where
 
         present : (c : ℕ) → due s ≤ c → levelAt pin (es ++ fs) l₀ c ≡ shown (driveOutputs s cnt p .pads) pin
         present c le = since c (omega (arith, g .later))
+
+        ordered : Upward pin 0 (es ++ fs) (due s)
+        ordered = upward-later pin 0 (es ++ fs) (due t) (due s) (g .later) (upward-then pin 0 es (due t) fs (due t) (h .ordered) (w .moves .upward))
 
         past : (c : ℕ) → a .first ≤ c → c < due s → levelAt pin (es ++ fs) l₀ c ≡ pilot a c
         past c from to = go (ltb c (due t)) refl

@@ -16,9 +16,11 @@ use Rattle.gpio.specs.declared.Gpio.{Gpio}
 use Rattle.gpio.specs.Gpio.{alternateMode}
 use Rattle.machine.specs.Deliver.{dividerOf}
 use Rattle.machine.specs.Sound.{Sound}
-use Rattle.accuracy.specs.Claim.{Settings, firstUpdate, cyclesOf, levelAt}
+use Rattle.book.specs.Level.{levelAt}
+use Rattle.accuracy.specs.Claim.{Settings, firstUpdate, cyclesOf}
 use Rattle.accuracy.proofs.Aim.{Aim, Fixed, due, coming}
 use Rattle.accuracy.proofs.One.{steps-upto}
+use Rattle.accuracy.proofs.Levels.{Upward}
 use Rattle.accuracy.proofs.Record.{Told}
 
 -- what the board that the start left programs
@@ -90,7 +92,7 @@ module _ (b : Board) (i s ch pin : ℕ) (began : Began b i s) (up : DIR (timerAt
       omega (arith, began .base-is, mul-le-mul-right (cyclesOf b i) (steps-upto (aimOf b i ch s) (timerAt b i) f))
 
   pub told-start : Told (aimOf b i ch s) pin (gpioAt (b .pads) pin .pin .level) (timerAt b i) (b .pads) []
-  unfolding levelAt
+  unfolding levelAt Upward
   told-start = record {
     drives = set .drives;
     fixed = fixed-start;
@@ -98,4 +100,5 @@ module _ (b : Board) (i s ch pin : ℕ) (began : Began b i s) (up : DIR (timerAt
     wired = record { sound = sound .pads; pin-is = pin-small (b .pads) pin (sound .pads .gpios) (set .alternate); route = set .last-to-take; push-pull = set .push-pull };
     past = λ c from to. omega (arith, due-start);
     present = λ c le. refl;
+    ordered = omega arith;
   }

@@ -9,7 +9,8 @@ use lib.Arith.{digits-mod}
 use lib.Dec.{ltb, eqb}
 use borrow.Author.Tests.{ltb-true, ltb-false, lt-ltb, le-ltb}
 use Rattle.gpio.specs.Gpio.{bit}
-use Rattle.accuracy.specs.Claim.{highs, Within}
+use Rattle.book.specs.Level.{highs}
+use Rattle.accuracy.specs.Claim.{Within}
 
 -- high for the first D of every P cycles from U on
 unfoldable pub wave : ℕ → ℕ → ℕ → ℕ → ℕ

@@ -14,6 +14,7 @@ use Rattle.tim.specs.Timer.{isOutput, ocMode, ccrAct}
 use Rattle.sig.specs.Signal.{timSignal}
 use Rattle.gpio.specs.Gpio.{alternateMode}
 use Rattle.book.specs.Book.{Entry}
+use Rattle.book.specs.Level.{levelAt, highs}
 use Rattle.machine.specs.Board.{Board, timerAt, gpioAt, routeOf, firstBoard}
 use Rattle.machine.specs.Sys.{driver, selected}
 use Rattle.machine.specs.Deliver.{dividerOf}
@@ -102,15 +103,6 @@ covered timer b (c ∷ cs) end = covered timer (step b c .board) cs (cond (eqb (
 unfoldable pub joined : List Outcome → List Entry
 joined [] = []
 joined (o ∷ os) = o .entries ++ joined os
-
-unfoldable pub levelAt : ℕ → List Entry → ℕ → ℕ → ℕ
-levelAt pin [] level c = level
-levelAt pin (e ∷ es) level c = levelAt pin es (cond (eqb (e .pin) pin && leb (e .cycle) c) (e .level) level) c
-
--- in W cycles from a on
-unfoldable pub highs : (ℕ → ℕ) → ℕ → ℕ → ℕ
-highs f a zero = 0
-highs f a (suc W) = highs f a W + cond (eqb (f (a + W)) 1) 1 0
 
 -- ---- the bound: "H × P and W × D at most D × (P − D) apart"
 

@@ -13,7 +13,8 @@ use Rattle.machine.proofs.Numbers.{entries-fit}
 use Rattle.state.specs.View.{view}
 use Rattle.answer.specs.declared.Answer.{Answer}
 use Rattle.answer.specs.Promise.{Answers}
-use Rattle.accuracy.specs.Claim.{Pilot, Steady, Window, Within, board₀, board₁, joined, levelAt, highs, periodOf, highOf}
+use Rattle.book.specs.Level.{levelAt, highs}
+use Rattle.accuracy.specs.Claim.{Pilot, Steady, Window, Within, board₀, board₁, joined, periodOf, highOf}
 use Rattle.accuracy.proofs.Accurate.{accurate}
 use Rattle.recorded.specs.Recorded.{Made, found, leaves, Kept, Chain, entriesFrom, entriesLeft, callsOf, MadeOf, levelLeft, BookClaim}
 

@@ -10,7 +10,8 @@ use Rattle.machine.specs.Board.{Board, gpioAt, firstBoard}
 use Rattle.machine.specs.Call.{Call, write}
 use Rattle.machine.specs.Step.{run, boardAfter}
 use Rattle.state.specs.View.{view}
-use Rattle.accuracy.specs.Claim.{Pilot, Steady, Window, Within, board₁, joined, levelAt, highs, periodOf, highOf}
+use Rattle.book.specs.Level.{levelAt, highs}
+use Rattle.accuracy.specs.Claim.{Pilot, Steady, Window, Within, board₁, joined, periodOf, highOf}
 
 -- one run of an exported function: the calls that it performed (one; `run_calls` some), what its arrays and its book held when it came and
 -- when it returned, and its count of entries. A function that is lent no book leaves an empty one.

@@ -33,7 +33,7 @@ use Rattle.machine.specs.Deliver.{applied, countAt, turn, turnOf, Run, handled 
 use Rattle.machine.specs.Deliver as D
 use Rattle.machine.proofs.Routing.{by-test}
 use Rattle.machine.proofs.Reach.{inst-applied}
-use Rattle.accuracy.specs.Claim.{levelAt}
+use Rattle.book.specs.Level.{levelAt}
 use Rattle.accuracy.proofs.Levels.{level-append}
 use Rattle.accuracy.proofs.Drive.{Wired, Driven, outputs-driven}
 use Rattle.follows.specs.Seen.{raw, clocksAt, per, seen, Timed, Within, Left}

@@ -16,7 +16,7 @@ use Rattle.machine.specs.Board.{Pads, gpioAt, routeOf}
 use Rattle.machine.specs.Sys.{driver}
 use Rattle.machine.specs.Sound.{SoundPads}
 use Rattle.machine.specs.Deliver.{handled}
-use Rattle.accuracy.specs.Claim.{levelAt}
+use Rattle.book.specs.Level.{levelAt}
 use Rattle.follows.specs.Seen.{clocksAt, per, seen}
 use Rattle.follows.specs.Follows.{Call, Delivered, between}
 
