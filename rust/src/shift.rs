@@ -76,7 +76,7 @@ impl Shift {
     ///
     /// With the second some cycles of a pin are told twice: from the entry's cycle to that of the pin's entry before it. The record without
     /// that pin's entries reports the other pins; the pin's own, cut at the entry, give a report up to those cycles and one from there on.
-    /// docs/DECISIONS.md says more, docs/DIFFERENCES.md which calls lead to it. A steady pilot's record never does.
+    /// docs/DECISIONS.md says more, docs/DIFFERENCES.md which calls lead to it. The entries of a steady pilot's own pin never do.
     pub fn report(&self) -> Result<Report, Error> {
         Report::made(|figures| ffi::end(&self.kept, figures))
     }

@@ -1,5 +1,5 @@
--- Of `step`: every timer of every board that calls lead to is one that crates/follows speaks of, and what a delivery, a write and the clock gate do
--- to it. The proof: proofs/Stepped.antt.
+-- Of `step`: every timer of every board that calls lead to is one that crates/follows speaks of, and a delivery and a write, with the timer's clock
+-- on, do to it what the machine does by the Rust's rules. The proof: proofs/Stepped.antt.
 use Prim.Native.Nat.{ℕ, _≤_, _<_}
 use mathlib.Core.Path.{_≡_}
 use mathlib.Core.Bool.{true, false}

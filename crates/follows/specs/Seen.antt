@@ -69,7 +69,7 @@ pub record Left (div now : ℕ) (t : Timer) : Type 0 where
   pub timed : Timed t div
   pub based : t .count .base ≤ now
 
--- ---- the port's delivery: so many events at most, up to cycle c (crates/machine, Deliver.run)
+-- ---- the port's delivery: so many events at most, up to cycle c (crates/machine, Deliver.handled)
 
 -- the next event is due by cycle c; a stopped timer has none
 abbrev pub dueBy : Due → ℕ → Bool

@@ -1,5 +1,5 @@
--- The waveform on record: the level of a channel's pin at every cycle between two full deliveries is the machine's, whatever the mode, the
--- direction and the polarity. The proof: proofs/Waved.antt.
+-- The waveform on record: within one delivery answered 0 the level of a channel's pin is the machine's at every cycle, whatever the mode, the
+-- direction and the polarity, if the pin shows it when the delivery begins (`Pilot` has the premises). The proof: proofs/Waved.antt.
 use Prim.Native.Nat.{ℕ, suc, _+_, _-_, _/_, _≤_, _<_}
 use mathlib.Core.Path.{_≡_}
 use mathlib.Core.Bool.{true, false, cond}
