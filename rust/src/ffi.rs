@@ -20,6 +20,14 @@
 //! let answer = state.set_pin(&mut book, 0, 1, 0, 1, 0, 0, 0, 20);
 //! assert_eq!((answer.number, answer.count), (0, 1));
 //! assert_eq!((pins[0], levels[0], cycles[0]), (0, 1, 20));
+//!
+//! // The duty report of what the book holds, from cycle 0 to 100.
+//! use board::ffi::{begin, end, feed, FIGURES, KEPT};
+//! let (mut kept, mut figures) = ([0; KEPT], [0; FIGURES]);
+//! begin(&mut kept, &[0; 4], 0, 100);
+//! feed(&mut kept, &pins[..1], &levels[..1], &cycles[..1]);
+//! let summary = end(&kept, &mut figures);
+//! assert_eq!((summary.number, summary.high, &figures[..3]), (0, 1, &[80, 20, 1][..]));
 //! ```
 
 /// What every call answers.
@@ -71,33 +79,33 @@ pub struct Summary {
 unsafe extern "C" {
     safe fn board_words() -> usize;
     safe fn board_reals() -> usize;
-    fn board_blank(w: *mut u64, r: *mut f64);
-    fn board_set_up(w: *mut u64, r: *mut f64, hz: f64, vcc: f64, pins: u32, lines: u32, timers: *const u32, timers_len: usize, table: *const u32, table_len: usize) -> Answer;
-    fn board_set_clock_tree(w: *mut u64, r: *mut f64, sysclk_hz: f64, hclk_hz: f64, ppre1: u32, ppre2: u32, ppre3: u32, ppre4: u32, tim1: u32, tim2: u32, cycle: u64) -> Answer;
-    fn board_enable(w: *mut u64, r: *const f64, word: u32, value: u32) -> Answer;
-    fn board_set_pin(w: *mut u64, r: *mut f64, pin: u32, mode: u32, open_drain: u32, out: u32, pullup: u32, pulldown: u32, function: u32, cycle: u64, p: *mut u8, np: usize, l: *mut u8, nl: usize, c: *mut u64, nc: usize) -> Answer;
-    fn board_drive_pin(w: *mut u64, r: *mut f64, pin: u32, kind: u32, volts: f64, cycle: u64, p: *mut u8, np: usize, l: *mut u8, nl: usize, c: *mut u64, nc: usize) -> Answer;
-    fn board_reset_pins(w: *mut u64, r: *mut f64, cycle: u64, p: *mut u8, np: usize, l: *mut u8, nl: usize, c: *mut u64, nc: usize) -> Answer;
-    fn board_read(w: *const u64, r: *const f64, timer: u32, offset: u32, size: u32, cycle: u64) -> Answer;
-    fn board_write(w: *mut u64, r: *mut f64, timer: u32, offset: u32, size: u32, value: u32, cycle: u64, p: *mut u8, np: usize, l: *mut u8, nl: usize, c: *mut u64, nc: usize) -> Answer;
-    fn board_peek(w: *const u64, r: *const f64, timer: u32, offset: u32, cycle: u64) -> Answer;
-    fn board_reset(w: *mut u64, r: *mut f64, timer: u32, cycle: u64, p: *mut u8, np: usize, l: *mut u8, nl: usize, c: *mut u64, nc: usize) -> Answer;
-    fn board_deliver(w: *mut u64, r: *mut f64, timer: u32, cycle: u64, p: *mut u8, np: usize, l: *mut u8, nl: usize, c: *mut u64, nc: usize) -> Answer;
-    fn board_booked(w: *const u64, r: *const f64, timer: u32) -> Answer;
-    fn board_next(w: *const u64, r: *const f64) -> Answer;
-    fn board_level(w: *const u64, r: *const f64, pin: u32) -> Answer;
-    fn board_volts(w: *const u64, r: *const f64, pin: u32) -> Answer;
-    fn board_line(w: *const u64, r: *const f64, irq: u32) -> Answer;
-    fn board_time(w: *const u64, r: *const f64, cycle: u64) -> Answer;
-    fn board_clear_pending(w: *mut u64, r: *const f64, irq: u32) -> Answer;
+    fn board_blank(words: *mut u64, reals: *mut f64);
+    fn board_set_up(words: *mut u64, reals: *mut f64, hz: f64, vcc: f64, pins: u32, lines: u32, timers: *const u32, timers_len: usize, table: *const u32, table_len: usize) -> Answer;
+    fn board_set_clock_tree(words: *mut u64, reals: *mut f64, sysclk_hz: f64, hclk_hz: f64, ppre1: u32, ppre2: u32, ppre3: u32, ppre4: u32, tim1: u32, tim2: u32, cycle: u64) -> Answer;
+    fn board_enable(words: *mut u64, reals: *const f64, word: u32, value: u32) -> Answer;
+    fn board_set_pin(words: *mut u64, reals: *mut f64, pin: u32, mode: u32, open_drain: u32, out: u32, pullup: u32, pulldown: u32, function: u32, cycle: u64, pins: *mut u8, pins_len: usize, levels: *mut u8, levels_len: usize, cycles: *mut u64, cycles_len: usize) -> Answer;
+    fn board_drive_pin(words: *mut u64, reals: *mut f64, pin: u32, kind: u32, volts: f64, cycle: u64, pins: *mut u8, pins_len: usize, levels: *mut u8, levels_len: usize, cycles: *mut u64, cycles_len: usize) -> Answer;
+    fn board_reset_pins(words: *mut u64, reals: *mut f64, cycle: u64, pins: *mut u8, pins_len: usize, levels: *mut u8, levels_len: usize, cycles: *mut u64, cycles_len: usize) -> Answer;
+    fn board_read(words: *const u64, reals: *const f64, timer: u32, offset: u32, size: u32, cycle: u64) -> Answer;
+    fn board_write(words: *mut u64, reals: *mut f64, timer: u32, offset: u32, size: u32, value: u32, cycle: u64, pins: *mut u8, pins_len: usize, levels: *mut u8, levels_len: usize, cycles: *mut u64, cycles_len: usize) -> Answer;
+    fn board_peek(words: *const u64, reals: *const f64, timer: u32, offset: u32, cycle: u64) -> Answer;
+    fn board_reset(words: *mut u64, reals: *mut f64, timer: u32, cycle: u64, pins: *mut u8, pins_len: usize, levels: *mut u8, levels_len: usize, cycles: *mut u64, cycles_len: usize) -> Answer;
+    fn board_deliver(words: *mut u64, reals: *mut f64, timer: u32, cycle: u64, pins: *mut u8, pins_len: usize, levels: *mut u8, levels_len: usize, cycles: *mut u64, cycles_len: usize) -> Answer;
+    fn board_booked(words: *const u64, reals: *const f64, timer: u32) -> Answer;
+    fn board_next(words: *const u64, reals: *const f64) -> Answer;
+    fn board_level(words: *const u64, reals: *const f64, pin: u32) -> Answer;
+    fn board_volts(words: *const u64, reals: *const f64, pin: u32) -> Answer;
+    fn board_line(words: *const u64, reals: *const f64, irq: u32) -> Answer;
+    fn board_time(words: *const u64, reals: *const f64, cycle: u64) -> Answer;
+    fn board_clear_pending(words: *mut u64, reals: *const f64, irq: u32) -> Answer;
 }
 
 // The exports of crates/shift.
 unsafe extern "C" {
     fn shift_begin(kept: *mut u64, words: *const u32, from: u64, to: u64);
-    fn shift_feed(kept: *mut u64, p: *const u8, np: usize, l: *const u8, nl: usize, c: *const u64, nc: usize);
+    fn shift_feed(kept: *mut u64, pins: *const u8, pins_len: usize, levels: *const u8, levels_len: usize, cycles: *const u64, cycles_len: usize);
     fn shift_end(kept: *const u64, figures: *mut u64) -> Summary;
-    fn shift_report(figures: *mut u64, words: *const u32, from: u64, to: u64, p: *const u8, np: usize, l: *const u8, nl: usize, c: *const u64, nc: usize) -> Summary;
+    fn shift_report(figures: *mut u64, words: *const u32, from: u64, to: u64, pins: *const u8, pins_len: usize, levels: *const u8, levels_len: usize, cycles: *const u64, cycles_len: usize) -> Summary;
 }
 
 /// A call that reads the state.
