@@ -105,7 +105,8 @@ int main(void)
 
     /* 30 % for 31 periods, the one that began at 496000 included, then 50 % for 29. */
     pilot_summary s = shift_end(kept, figures);
-    printf("the shift from %" PRIu64 " to %" PRIu64 " (%.3f s): number %" PRIu32 ", pin 0 high %" PRIu64 ", low %" PRIu64 ", %" PRIu64 " edges\n", from, to,
-           real(board_time(words, reals, to).value) - (double)from / 16e6, s.number, figures[0], figures[1], figures[2]);
+    printf("the shift from %" PRIu64 " to %" PRIu64 ": number %" PRIu32 ", pin 0 high %" PRIu64 ", low %" PRIu64 ", %" PRIu64 " edges\n", from, to,
+           s.number, figures[0], figures[1], figures[2]);
+    printf("its end is %.3f s after the start\n", real(board_time(words, reals, to).value));
     return 0;
 }

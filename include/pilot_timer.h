@@ -6,11 +6,12 @@
  *
  * The archives are for x86-64 Linux and need memset of the C library alone. examples/pilot.c is a whole program.
  *
- * Memory. All of it is the caller's: the library has none of its own, allocates nothing and keeps no pointer. So boards have nothing to do with each
- * other and may be used on different threads; calls on one board are made one at a time.
+ * Memory. All of it is the caller's: the library has none of its own, allocates nothing and keeps no pointer. So boards have nothing to do with
+ * each other and may be used on different threads; calls on one board are made one at a time.
  *
- *   - A board is two arrays, PILOT_BOARD_WORDS of uint64_t and PILOT_BOARD_REALS of double, some 44 KB. To the library every content is a
- *     board; to start, give it memory that has been written (static, calloc) and call board_blank. Copying both arrays copies a board. Their layout is the library's.
+ *   - A board is two arrays, PILOT_BOARD_WORDS of uint64_t and PILOT_BOARD_REALS of double, some 44 KB. To the library every content is a board;
+ *     to start, give it memory that has been written (static, calloc) and call board_blank. Copying both arrays copies a board. Their layout is
+ *     the library's.
  *   - A slice is a pointer and its length in elements. Of length 0 its pointer is not looked through, but is not NULL.
  *   - Pointers are aligned as their types are in C: 8 bytes for uint64_t and double, 4 for uint32_t.
  *   - What one call is given does not overlap, but for parts that are both const.
@@ -18,11 +19,11 @@
  * Answers. No function asks anything else of its arguments: each call has an answer for every value. number is 0 where the call was served,
  * 8 where a delivery stopped early, else a refusal: then value and count are 0, and nothing has changed.
  *
- * The book. A call that can change a pin is lent one: three slices for pin, level and cycle of each change, filled from place 0; count says how many
- * places. The book is as long as the shortest of the three; places behind count are not touched.
+ * The book. A call that can change a pin is lent one: three slices for pin, level and cycle of each change, filled from place 0; count says how
+ * many places. The book is as long as the shortest of the three; places behind count are not touched.
  *
- * Deliver what is due before you write a register. A write that finds events due and not delivered moves the counter past them, as the published Rust does,
- * and they are lost: no flag, no reload, no edge.
+ * Deliver what is due before you write a register. A write that finds events due and not delivered moves the counter past them, as the published
+ * Rust does, and they are lost: no flag, no reload, no edge.
  *
  * rust/tests/header.rs holds this file to the library.
  */
@@ -113,10 +114,11 @@ size_t board_reals(void);
 void board_blank(uint64_t words[PILOT_BOARD_WORDS], double reals[PILOT_BOARD_REALS]);
 
 /*
- * Replaces the board by a new one; refused (1, 4), it leaves the old. hz is the clock, vcc the supply in volts; 1 to 128 pins, 0 to 256 interrupt lines.
+ * Replaces the board by a new one; refused (1, 4), it leaves the old. hz is the clock, vcc the supply in volts; 1 to 128 pins, 0 to 256 interrupt
+ * lines.
  * timers: seven numbers for each of 1 to 8 timers:
- *   the n of TIMn, 1 to 24, all different (2, 3 and 4 drive their channels); width, 16 or 32; channels, 0 to 4; bus (divider: 1 tim1, 2 tim2, 3 ppre3, any
- *   other ppre4); enable word, 0 to 8; enable bit, 0 to 31; interrupt, ignored at or above lines.
+ *   the n of TIMn, 1 to 24, all different (2, 3 and 4 drive their channels); width, 16 or 32; channels, 0 to 4; bus (divider: 1 tim1, 2 tim2,
+ *   3 ppre3, any other ppre4); enable word, 0 to 8; enable bit, 0 to 31; interrupt, ignored at or above lines.
  * table: the signals of the pins' alternate functions below 256, 0 for none, pin p's function f at 16 p + f; exactly 16 a pin.
  */
 pilot_answer board_set_up(uint64_t words[PILOT_BOARD_WORDS], double reals[PILOT_BOARD_REALS], double hz, double vcc, uint32_t pins, uint32_t lines,
@@ -130,8 +132,8 @@ pilot_answer board_set_clock_tree(uint64_t words[PILOT_BOARD_WORDS], double real
 pilot_answer board_enable(uint64_t words[PILOT_BOARD_WORDS], const double reals[PILOT_BOARD_REALS], uint32_t word, uint32_t value);
 
 /*
- * Sets a pin. mode: 0 input, 1 output, 2 alternate function, 3 analogue, above 3 as 0. open_drain, out (the output bit), pullup and pulldown are yes or no,
- * function counts mod 16. Refused with 2, 5, 6.
+ * Sets a pin. mode: 0 input, 1 output, 2 alternate function, 3 analogue, above 3 as 0. open_drain, out (the output bit), pullup and pulldown are
+ * yes or no, function counts mod 16. Refused with 2, 5, 6.
  */
 pilot_answer board_set_pin(uint64_t words[PILOT_BOARD_WORDS], double reals[PILOT_BOARD_REALS], uint32_t pin, uint32_t mode, uint32_t open_drain,
                            uint32_t out, uint32_t pullup, uint32_t pulldown, uint32_t function, uint64_t cycle, uint8_t *pins, size_t pins_len,
@@ -155,15 +157,16 @@ pilot_answer board_write(uint64_t words[PILOT_BOARD_WORDS], double reals[PILOT_B
                          size_t cycles_len);
 
 /* The register that an offset is in, whatever the enable bit. Refused with 2, 5. */
-pilot_answer board_peek(const uint64_t words[PILOT_BOARD_WORDS], const double reals[PILOT_BOARD_REALS], uint32_t timer, uint32_t offset, uint64_t cycle);
+pilot_answer board_peek(const uint64_t words[PILOT_BOARD_WORDS], const double reals[PILOT_BOARD_REALS], uint32_t timer, uint32_t offset,
+                        uint64_t cycle);
 
 /* Timer reset. Refused with 2, 5, 6. */
 pilot_answer board_reset(uint64_t words[PILOT_BOARD_WORDS], double reals[PILOT_BOARD_REALS], uint32_t timer, uint64_t cycle, uint8_t *pins,
                          size_t pins_len, uint8_t *levels, size_t levels_len, uint64_t *cycles, size_t cycles_len);
 
 /*
- * Handles the timer's events that are due at cycle, each at its own cycle; value says how many. 8 where one is still due: the book had under 4 places left,
- * or 100,001 events were handled. Refused with 2, 5, 6.
+ * Handles the timer's events that are due at cycle, each at its own cycle; value says how many. 8 where one is still due: the book had under 4
+ * places left, or 100,001 events were handled. Refused with 2, 5, 6.
  */
 pilot_answer board_deliver(uint64_t words[PILOT_BOARD_WORDS], double reals[PILOT_BOARD_REALS], uint32_t timer, uint64_t cycle, uint8_t *pins,
                            size_t pins_len, uint8_t *levels, size_t levels_len, uint64_t *cycles, size_t cycles_len);
@@ -192,8 +195,8 @@ pilot_answer board_clear_pending(uint64_t words[PILOT_BOARD_WORDS], const double
 /* ---- the duty report of a shift */
 
 /*
- * A shift begins, from the cycle from to the cycle to, to excluded. words: every pin's level before the first entry, pin i at bit i mod 32 of word i div 32.
- * kept is what lies between the pieces; its layout is the library's.
+ * A shift begins, from the cycle from to the cycle to, to excluded. words: every pin's level before the first entry, pin i at bit i mod 32 of
+ * word i div 32. kept is what lies between the pieces; its layout is the library's.
  */
 void shift_begin(uint64_t kept[PILOT_SHIFT_KEPT], const uint32_t words[4], uint64_t from, uint64_t to);
 

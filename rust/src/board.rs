@@ -278,7 +278,8 @@ impl Board {
 
     /// The cycle of the last changing call, 0 after a set-up: no later call may have a lower one. After a restore it is where to go on.
     ///
-    /// The library does not tell it, so it is searched: some 60 questions. 2^62 + 1 stands for a board that takes no cycle any more, which calls do not lead to.
+    /// The library does not tell it, so it is searched: some 60 questions. 2^62 + 1 stands for a board that takes no cycle any more, which calls do
+    /// not lead to.
     ///
     /// ```
     /// # use board::{Board, TimerIndex};
@@ -576,10 +577,10 @@ impl Board {
 
     // ---- backlogs -------------------------------------------------------------------------
 
-    /// Delivers to a timer until nothing is due at `cycle`, however small the book is. Gives the events handled; the entries go to `record`, those before
-    /// an error too.
+    /// Delivers to a timer until nothing is due at `cycle`, however small the book is. Gives the events handled; the entries go to `record`, those
+    /// before an error too.
     ///
-    /// It takes as long as there are events, some 20 ns each; [`deliver`](Self::deliver) stops sooner.
+    /// It takes as long as there are events; [`deliver`](Self::deliver) stops after 100,001 of them.
     ///
     /// ```
     /// # use board::{Board, Shift, TimerIndex};

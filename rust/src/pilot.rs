@@ -4,16 +4,17 @@ use std::fmt::{self, Display, Formatter};
 
 use crate::{Board, Ccer, Ccmr, Channel, Cr1, Duty, Entry, Error, OutputMode, PinConfig, Reg, TimerIndex, Timing, UG};
 
-/// A pilot's place on a board: the timer, its channel, the pin and the pin's function for that channel. It holds nothing else, so that it can be made again
-/// after a restore; the registers say whether the pilot runs.
+/// A pilot's place on a board: the timer, its channel, the pin and the pin's function for that channel. It holds nothing else, so that it can be
+/// made again after a restore; the registers say whether the pilot runs.
 ///
-/// Each method delivers what is due before each of its writes, however long ago that was, so that no edge and no change is lost; the entries go to `record`,
-/// in order. The methods ask for a cycle no lower than any before, as the calls do.
+/// Each method delivers what is due before each of its writes, however long ago that was, so that no edge and no change is lost; the entries go to
+/// `record`, in order. The methods ask for a cycle no lower than any before, as the calls do.
 ///
 /// A changed duty is preloaded: it acts from the next period on, and the running one keeps its duty. [`immediate`](Self::immediate) leaves that out.
 ///
-/// Demand 3's theorem speaks of a pilot from its start to the next write that is not one of SR, DIER, CR2 or SMCR. [`set_duty`](Self::set_duty) is such a write: what comes
-/// after it is tested, not proved. [`stop`](Self::stop) and [`start`](Self::start) give a pilot of which the theorem speaks again, if no other channel of its timer is on.
+/// Demand 3's theorem speaks of a pilot from its start to the next write to its timer that is not one of SR, DIER, CR2 or SMCR.
+/// [`set_duty`](Self::set_duty) is such a write, and so is another pilot's start or stop on the same timer: what comes after it is tested, not
+/// proved. A pilot that starts alone on its timer is the theorem's again.
 ///
 /// ```
 /// use board::{Board, Channel, Duty, Pilot, TimerIndex, Timing};
@@ -163,8 +164,8 @@ impl Pilot {
         self.pin
     }
 
-    /// Starts the pilot. A timer that stands starts with it at this cycle, from the counter 0. One that runs for another channel goes on, if the period is the same, and the
-    /// pilot begins with the next period, low until then.
+    /// Starts the pilot. A timer that stands starts with it at this cycle, from the counter 0. One that runs for another channel goes on, if the
+    /// period is the same, and the pilot begins with the next period, low until then.
     ///
     /// The timer's other channels stay as they are; of CR1 it sets CEN and ARPE and clears UDIS, OPM and DIR.
     ///
@@ -211,25 +212,28 @@ impl Pilot {
         self.write(board, self.channel.ccr(), 0, cycle, record)?;
         self.write(board, self.channel.ccmr(), ccmr.preload(self.channel, true).bits(), cycle, record)?;
         self.write(board, self.channel.ccr(), compare, cycle, record)?;
+        let ready = cr1.cen(false).arpe(true).udis(false).opm(false).dir(false);
         if !runs {
             // URS: this update is no event that a program waits for.
-            let ready = cr1.cen(false).arpe(true).udis(false).opm(false).dir(false);
             self.write(board, Reg::Cr1, ready.urs(true).bits(), cycle, record)?;
             self.write(board, Reg::Psc, timing.prescaler, cycle, record)?;
             self.write(board, Reg::Arr, timing.reload, cycle, record)?;
             self.write(board, Reg::Egr, UG, cycle, record)?;
-            self.write(board, Reg::Ccer, ccer.bits(), cycle, record)?;
-            self.write(board, Reg::Cr1, ready.cen(true).bits(), cycle, record)?;
-        } else {
-            self.write(board, Reg::Ccer, ccer.bits(), cycle, record)?;
         }
         if !self.preload {
+            // What waits in the compare is loaded all the same.
             self.write(board, self.channel.ccmr(), ccmr.preload(self.channel, false).bits(), cycle, record)?;
+        }
+        self.write(board, Reg::Ccer, ccer.bits(), cycle, record)?;
+        if !runs {
+            // The last write: from here on it is demand 3's pilot.
+            self.write(board, Reg::Cr1, ready.cen(true).bits(), cycle, record)?;
         }
         Ok(())
     }
 
-    /// Changes the duty, from the next period on, or at once for an [`immediate`](Self::immediate) pilot. The compare is the nearest that the reload has.
+    /// Changes the duty, from the next period on, or at once for an [`immediate`](Self::immediate) pilot. The compare is the nearest that the
+    /// reload has.
     ///
     /// ```
     /// use board::{Board, Channel, Duty, Pilot, PilotError, TimerIndex};

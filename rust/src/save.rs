@@ -72,10 +72,10 @@ impl Display for RestoreError {
 impl std::error::Error for RestoreError {}
 
 impl Board {
-    /// The board as bytes, some 44 KB: everything but the book, which every call empties before it returns.
+    /// The board as bytes, some 44 KB: everything but the entries of the last call.
     ///
-    /// All numbers are little-endian: the 8 bytes `PILOTBRD`, the version, the numbers of words and floats and a 0, in 4 bytes each; the library's words and the
-    /// bits of its floats, in 8 bytes each; FNV-1a of all that, in 64 bits. The check sum is against accidents, not against forgers.
+    /// All numbers are little-endian: the 8 bytes `PILOTBRD`, the version, the numbers of words and floats and a 0, in 4 bytes each; the library's
+    /// words and the bits of its floats, in 8 bytes each; FNV-1a of all that, in 64 bits. The check sum is against accidents, not against forgers.
     ///
     /// ```
     /// use board::{Board, Reg, TimerIndex};

@@ -159,8 +159,8 @@ impl Setup {
         Self { hz, vcc, ..Self::default() }
     }
 
-    /// The board of the examples: 16 MHz, 3.3 V, 64 lines; TIM2 of 32 bits with interrupt 28 and TIM3 of 16 bits with interrupt 29, behind the bits 0 and
-    /// 1 of enable word 3; eight pins, whose function 1 is TIM2_CH1 to TIM2_CH4, then TIM3_CH1 to TIM3_CH4.
+    /// The board of the examples: 16 MHz, 3.3 V, 64 lines; TIM2 of 32 bits with interrupt 28 and TIM3 of 16 bits with interrupt 29, behind the bits
+    /// 0 and 1 of enable word 3; eight pins, whose function 1 is TIM2_CH1 to TIM2_CH4, then TIM3_CH1 to TIM3_CH4.
     ///
     /// ```
     /// # use board::{signal, Setup};
@@ -220,8 +220,8 @@ impl Setup {
         self.timers.iter().position(|t| t.number == number).map(|i| TimerIndex(i as u32))
     }
 
-    /// The first limit that the set-up is outside of, in document 01's order. The library decides; this says what [`Error::WrongBoard`](crate::Error) is
-    /// about, and tests hold the two together.
+    /// The first limit that the set-up is outside of, in document 01's order. The library decides; this says what
+    /// [`Error::WrongBoard`](crate::Error) is about, and tests hold the two together.
     ///
     /// ```
     /// use board::{Limit, Setup, TimerIndex};

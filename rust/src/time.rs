@@ -153,8 +153,8 @@ pub struct Timing {
 }
 
 impl Timing {
-    /// The timing whose period is nearest to so many clocks of the timer, of 16 or 32 bits; `None` if there is none. Of prescalers up to twice the smallest
-    /// that will do it takes the one that comes nearest, then the smallest, for a fine duty. The reload leaves room for a compare of
+    /// The timing whose period is nearest to so many clocks of the timer, of 16 or 32 bits; `None` if there is none. Of prescalers up to twice the
+    /// smallest that will do it takes the one that comes nearest, then the smallest, for a fine duty. The reload leaves room for a compare of
     /// reload + 1, which is a duty of 100 %.
     ///
     /// ```

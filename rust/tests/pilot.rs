@@ -45,6 +45,23 @@ fn nothing_is_lost() {
     assert!(record.is_sorted_by(|a, b| a.cycle < b.cycle && a.level != b.level));
 }
 
+/// The same for what another timer has due on the pin that a pilot takes over, and for the pilot that another joins.
+#[test]
+fn nothing_is_lost_to_another_pilot() {
+    let mut s = Setup::example();
+    s.pins[0][2] = Channel::Ch1.signal(3);
+    let (mut b, mut record) = (Board::new(4), Vec::new());
+    b.set_up(&s).unwrap();
+    b.enable(3, 3).unwrap();
+    Pilot::new(TIM3, Channel::Ch1, 0, 2).start(&mut b, TEN, duty(30), 0, &mut record).unwrap();
+    pilot().start(&mut b, TEN, duty(60), 100, &mut record).unwrap();
+    Pilot::new(TIM2, Channel::Ch2, 1, 1).start(&mut b, TEN, duty(10), 155, &mut record).unwrap();
+    b.poll_all(200, &mut record).unwrap();
+    assert_eq!((high(&record, 0, 0, 100), high(&record, 0, 100, 200), high(&record, 1, 100, 200)), (30, 60, 4));
+    let pin: Vec<_> = record.iter().filter(|e| e.pin == 0).collect();
+    assert!(pin.is_sorted_by(|a, b| a.cycle <= b.cycle && a.level != b.level));
+}
+
 /// Random changes of four pilots on two timers. Every whole period has the duty that was set last before it began.
 #[test]
 fn every_period_has_its_duty() {
@@ -98,6 +115,23 @@ fn every_period_has_its_duty() {
             }
         }
     }
+}
+
+/// Without preload a duty acts inside the period that runs.
+#[test]
+fn an_immediate_duty() {
+    let (mut b, mut record) = (Board::example(), Vec::new());
+    let p = pilot().immediate();
+    p.start(&mut b, TEN, duty(30), 100, &mut record).unwrap();
+    p.set_duty(&mut b, duty(70), 101, &mut record).unwrap();
+    b.poll_all(112, &mut record).unwrap();
+    p.set_duty(&mut b, duty(10), 112, &mut record).unwrap();
+    let edges: Vec<_> = record.iter().map(|e| e.cycle).collect();
+    assert_eq!(edges, [100, 107, 110, 112]);
+    // A preloading pilot in its place sets it back.
+    pilot().set_duty(&mut b, duty(50), 113, &mut record).unwrap();
+    b.poll_all(129, &mut record).unwrap();
+    assert_eq!((high(&record, 0, 110, 120), high(&record, 0, 120, 130)), (2, 5));
 }
 
 /// The book's length, and how seldom is polled, leave no trace on the record.
