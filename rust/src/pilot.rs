@@ -66,7 +66,7 @@ pub enum PilotError {
     },
     /// The channel is on: a pilot is there already.
     InUse,
-    /// The timer runs with another period, downward, in one-pulse mode or without updates, for another channel.
+    /// The timer runs already, with another period, downward, in one-pulse mode or without updates.
     Busy,
     /// The prescaler or the reload does not fit the timer.
     TooWide,
@@ -89,7 +89,7 @@ impl Display for PilotError {
             PilotError::Gated => f.write_str("the timer's clock is not enabled"),
             PilotError::NoSignal { pin, function } => write!(f, "function {function} of pin {pin} does not follow the channel"),
             PilotError::InUse => f.write_str("the channel is on already"),
-            PilotError::Busy => f.write_str("the timer runs otherwise for another channel"),
+            PilotError::Busy => f.write_str("the timer runs already, and otherwise"),
             PilotError::TooWide => f.write_str("the period does not fit the timer"),
             PilotError::TooFull => f.write_str("the duty does not fit beside the reload"),
             PilotError::Stopped => f.write_str("there is no pilot on the channel"),
@@ -164,8 +164,8 @@ impl Pilot {
         self.pin
     }
 
-    /// Starts the pilot. A timer that stands starts with it at this cycle, from the counter 0. One that runs for another channel goes on, if the
-    /// period is the same, and the pilot begins with the next period, low until then.
+    /// Starts the pilot. A timer that stands starts with it at this cycle, from the counter 0. One that runs goes on, if its period is the same, and
+    /// the pilot begins with the next period, low until then.
     ///
     /// The timer's other channels stay as they are; of CR1 it sets CEN and ARPE and clears UDIS, OPM and DIR.
     ///

@@ -266,7 +266,7 @@ impl Setup {
     }
 }
 
-/// The signal of a channel (0 to 3) of timer 2 to 5; 0 for any other. [`Channel::signal`] is the same by the channel's name.
+/// The signal of a channel (0 to 3) of TIMn, n 2 to 5; 0 for any other. [`Channel::signal`] is the same by the channel's name.
 ///
 /// ```
 /// use board::signal;
@@ -274,11 +274,11 @@ impl Setup {
 /// assert_eq!((signal(2, 0), signal(4, 3)), (194, 229)); // TIM2_CH1, TIM4_CH4
 /// assert_eq!(signal(6, 0), 0);
 /// ```
-pub const fn signal(timer: u32, channel: u32) -> u8 {
-    if timer < 2 || timer > 5 || channel > 3 {
+pub const fn signal(number: u32, channel: u32) -> u8 {
+    if number < 2 || number > 5 || channel > 3 {
         return 0;
     }
-    (16 * (timer + 10) + channel + 2) as u8
+    (16 * (number + 10) + channel + 2) as u8
 }
 
 /// The clock tree: frequencies in hertz, dividers 1 to 8,192.
