@@ -25,12 +25,12 @@ GTKWave and PulseView open. The file has every pin with a level change or a name
   --unit UNIT       the file's unit of time: 1, 10 or 100 of s, ms, us, ns, ps, fs (as 100ns); or `cycle`, one unit a cycle
   --board N         which board, where the list has several set-ups: each begins a new one, at cycle 0
 
-Time. A cycle lasts 1/HZ of the set-up, and from a `clock` call on 1/HCLK of it. The unit is the coarsest in which each of
-these lasts a whole number of units: 100 ps at 16 MHz, 625 units a cycle. Where none down to 1 fs is (170 MHz), or 63 bits do
-not hold the wave's end, it is 1 ps or the finest that does, and the time of each edge is rounded to the nearest unit by itself;
-a change of the clock adds at most half a unit. The file's first comment says which. With `--unit cycle` the times are the
-answers' own cycles, and the 1 ns that the file has to name means a cycle. sigrok and PulseView keep a sample for each unit:
-give them the units a cycle as downsampling factor, or choose a coarser unit.
+Time. A cycle lasts 1/HZ of the set-up, and from a `clock` call on 1/HCLK of it. The unit is the coarsest in which every edge and
+the wave's end have a whole time, so that nothing is rounded. Where none down to 1 ps has (170 MHz) it is the coarsest that is
+not longer than a cycle, 1 ns there, and each time is rounded to the nearest unit by itself, so that its cycle can still be told;
+each change of the clock adds half a unit at most. Where 63 bits do not hold the wave's end the unit is coarser. The file's
+comment says what a cycle is. With `--unit cycle` times are the answers' own cycles, and the 1 ns that the file has to name
+means a cycle. sigrok and PulseView keep a sample for each unit: for a long wave of odd edges give them a coarser one.
 
 Level. A pin's level at a cycle is that of its last entry at or before it, last in the order of the calls. Where an entry
 bears a cycle before that of its pin's entry before it, the later call's word is drawn, and that is told on standard error
@@ -54,7 +54,7 @@ pub fn wave(args: &Args) -> Result<(), Fault> {
     if let Some(pin) = (record.pins..PINS).find(|&p| names[p].is_some()) {
         return Err(Fault::failed(format!("--name {pin}=..: the board has {} pins, counted from 0", record.pins)));
     }
-    let scale = Scale::of(&record.clocks, record.end, unit).map_err(Fault::failed)?;
+    let scale = Scale::of(&record.clocks, record.edges(), record.end, unit).map_err(Fault::failed)?;
     write_to(file, |out| record.write(out, &names, &scale))?;
     for (pin, line) in &record.astray {
         warn(format_args!("line {line}: an entry of pin {pin} lies before one of an earlier call: the wave has the later call's"));
@@ -155,6 +155,11 @@ impl Record {
         self.end = self.end.max(cycle);
     }
 
+    /// The cycles of all level changes.
+    fn edges(&self) -> impl Iterator<Item = u64> + Clone + '_ {
+        self.levels.iter().flatten().flatten().map(|level| level.0)
+    }
+
     fn write(&self, out: &mut dyn Write, names: &[Option<String>], scale: &Scale) -> io::Result<()> {
         let shown: Vec<usize> = (0..self.pins).filter(|&p| names[p].is_some() || self.levels[p].is_some()).collect();
         writeln!(out, "$version pilot {} $end", env!("CARGO_PKG_VERSION"))?;
@@ -238,15 +243,15 @@ mod tests {
     #[test]
     fn pins_are_merged_by_cycle() {
         let r = record(&[(0, 1, 0), (0, 0, 16), (1, 1, 8), (1, 0, 16)]);
-        let scale = Scale::of(&r.clocks, r.end, None).unwrap();
+        let scale = Scale::of(&r.clocks, r.edges(), r.end, None).unwrap();
         let mut out = Vec::new();
         r.write(&mut out, &names(&["1=post-1"]).unwrap(), &scale).unwrap();
         let want = concat!(
             "$version pilot ",
             env!("CARGO_PKG_VERSION"),
-            " $end\n$comment A cycle is 625 units (16000000 Hz). $end\n$timescale 100 ps $end\n$scope module board $end\n\
+            " $end\n$comment A cycle is 5/8 units (16000000 Hz). Every time is exact. $end\n$timescale 100 ns $end\n$scope module board $end\n\
              $var wire 1 ! pin0 $end\n$var wire 1 \" post-1 $end\n$upscope $end\n$enddefinitions $end\n\
-             #0\n$dumpvars\n0!\n0\"\n$end\n1!\n#5000\n1\"\n#10000\n0!\n0\"\n"
+             #0\n$dumpvars\n0!\n0\"\n$end\n1!\n#5\n1\"\n#10\n0!\n0\"\n"
         );
         assert_eq!(String::from_utf8(out).unwrap(), want);
     }

@@ -88,9 +88,9 @@ fn a_change_of_the_clock_is_in_the_times() {
     let d = fed(&["wave", "-", "-o", "-"], &list);
     assert_eq!((d.status, d.err.as_str()), (0, ""));
     let d = dump(&d.out);
-    assert_eq!(d.unit, "100 ps");
+    // 500 ns; 1 us and 8 cycles of 125 ns; 1 us and 16 of them.
     let times: Vec<u64> = d.changes.iter().map(|c| c.0).collect();
-    assert_eq!((times, d.end), (vec![8 * 625, 16 * 625 + 8 * 1250], 16 * 625 + 16 * 1250));
+    assert_eq!((d.unit.as_str(), times, d.end), ("100 ns", vec![5, 20], 30));
 }
 
 /// The level by the definition: that of the pin's last entry at or before the cycle, last in the order of the calls.

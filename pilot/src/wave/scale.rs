@@ -18,7 +18,7 @@ pub enum Unit {
 }
 
 const FINEST: u32 = 15;
-/// Where no unit is exact: 1 ps.
+/// Exact times are looked for down to here, 1 ps.
 const FINE: u32 = 12;
 const SECONDS: [&str; 6] = ["s", "ms", "us", "ns", "ps", "fs"];
 const MULTIPLES: [&str; 3] = ["1", "10", "100"];
@@ -61,41 +61,47 @@ pub struct Scale {
     unit: Unit,
     clocks: Vec<Clock>,
     stretches: Vec<Stretch>,
+    exact: bool,
 }
 
 impl Scale {
-    /// `clocks`: at least one, the first from cycle 0 on, in the order of their cycles. `end`: a cycle that must fit.
-    pub fn of(clocks: &[Clock], end: u64, unit: Option<Unit>) -> Result<Self, String> {
-        match unit {
-            Some(Unit::Cycle) => Self::made(clocks, end, Unit::Cycle).ok_or_else(|| "63 bits do not hold the wave's last cycle".into()),
-            Some(unit) => Self::made(clocks, end, unit).ok_or_else(|| format!("63 bits do not hold the wave's end in units of {unit}")),
-            None => {
-                let whole = |k: u32| clocks.iter().all(|c| units(c.hz, k).is_some_and(|(n, d)| n % d == 0));
-                let exact = (0..=FINEST).find(|&k| whole(k));
-                let tried = exact.into_iter().chain((0..=FINE).rev());
-                let made = tried.map(Unit::Tenths).find_map(|unit| Self::made(clocks, end, unit));
-                made.ok_or_else(|| "no unit of time holds the wave at this clock: --unit cycle does".into())
-            }
+    /// `clocks`: at least one, the first from cycle 0 on, in the order of their cycles. `cycles`: those that get a time, the last of them
+    /// being `end`.
+    pub fn of(clocks: &[Clock], cycles: impl Iterator<Item = u64> + Clone, end: u64, unit: Option<Unit>) -> Result<Self, String> {
+        let made = |unit: Unit| Self::made(clocks, cycles.clone(), end, unit);
+        if let Some(unit) = unit {
+            return made(unit).ok_or_else(|| format!("63 bits do not hold the wave's end in this unit ({unit})"));
         }
+        let exact = (0..=FINE).filter_map(|k| made(Unit::Tenths(k))).find(|s| s.exact);
+        // No longer than a cycle, so that each cycle still has a time of its own; or coarser, to fit.
+        let close = |k: &u32| clocks.iter().all(|c| units(c.hz, *k).is_some_and(|(num, den)| num >= den));
+        let close = (0..=FINEST).find(close).unwrap_or(FINEST);
+        let near = || (0..=close).rev().find_map(|k| made(Unit::Tenths(k)));
+        exact.or_else(near).ok_or_else(|| "no unit of time holds the wave at this clock: --unit cycle does".into())
     }
 
     /// `None` if the end does not fit, or a clock is beyond what 128 bits hold.
-    fn made(clocks: &[Clock], end: u64, unit: Unit) -> Option<Self> {
+    fn made(clocks: &[Clock], cycles: impl Iterator<Item = u64>, end: u64, unit: Unit) -> Option<Self> {
         let mut stretches: Vec<Stretch> = Vec::new();
+        let mut exact = true;
         for clock in clocks {
             let (num, den) = match unit {
                 Unit::Cycle => (1, 1),
                 Unit::Tenths(k) => units(clock.hz, k)?,
             };
             let time = match stretches.last() {
-                Some(last) => last.time(clock.from)?,
+                Some(last) => {
+                    exact &= last.is_whole(clock.from);
+                    last.time(clock.from)?
+                }
                 None => 0,
             };
             stretches.push(Stretch { cycle: clock.from, time, num, den });
         }
-        let scale = Self { unit, clocks: clocks.to_vec(), stretches };
+        let mut scale = Self { unit, clocks: clocks.to_vec(), stretches, exact };
         // Viewers count in 64 bits with a sign.
-        scale.checked(end).filter(|&t| t <= i64::MAX as u64)?;
+        scale.stretch(end).time(end).filter(|&t| t <= i64::MAX as u64)?;
+        scale.exact &= cycles.chain([end]).all(|c| scale.stretch(c).is_whole(c));
         Some(scale)
     }
 
@@ -105,12 +111,13 @@ impl Scale {
 
     /// The time of a cycle, at most the end's.
     pub fn time(&self, cycle: u64) -> u64 {
-        self.checked(cycle).unwrap_or(u64::MAX)
+        self.stretch(cycle).time(cycle).unwrap_or(u64::MAX)
     }
 
-    fn checked(&self, cycle: u64) -> Option<u64> {
-        let i = self.stretches.partition_point(|s| s.cycle <= cycle);
-        self.stretches[i.saturating_sub(1)].time(cycle)
+    /// The last stretch that has begun.
+    fn stretch(&self, cycle: u64) -> &Stretch {
+        let begun = self.stretches.partition_point(|s| s.cycle <= cycle);
+        &self.stretches[begun - 1]
     }
 }
 
@@ -119,6 +126,11 @@ impl Stretch {
     fn time(&self, cycle: u64) -> Option<u64> {
         let twice = u128::from(cycle - self.cycle).checked_mul(self.num)?.checked_mul(2)?.checked_add(self.den)?;
         self.time.checked_add(u64::try_from(twice / (2 * self.den)).ok()?)
+    }
+
+    /// Whether a cycle has a whole time. The fraction is in lowest terms.
+    fn is_whole(&self, cycle: u64) -> bool {
+        u128::from(cycle - self.cycle).is_multiple_of(self.den)
     }
 }
 
@@ -131,14 +143,15 @@ impl Display for Scale {
         for (i, (clock, s)) in self.clocks.iter().zip(&self.stretches).enumerate() {
             match i {
                 0 => f.write_str("A cycle is ")?,
-                _ => write!(f, " From cycle {} on it is ", clock.from)?,
+                _ => write!(f, "From cycle {} on it is ", clock.from)?,
             }
-            match s.num % s.den {
-                0 => write!(f, "{} units ({} Hz).", s.num / s.den, clock.hz)?,
-                _ => write!(f, "{}/{} units ({} Hz), each time rounded to the nearest.", s.num, s.den, clock.hz)?,
+            match s.den {
+                1 => write!(f, "{} units", s.num)?,
+                _ => write!(f, "{}/{} units", s.num, s.den)?,
             }
+            write!(f, " ({} Hz). ", clock.hz)?;
         }
-        Ok(())
+        f.write_str(if self.exact { "Every time is exact." } else { "Times are rounded to the nearest unit." })
     }
 }
 
@@ -175,8 +188,8 @@ fn gcd(a: u128, b: u128) -> u128 {
 mod tests {
     use super::*;
 
-    fn scale(hz: f64, end: u64) -> Scale {
-        Scale::of(&[Clock { from: 0, hz }], end, None).unwrap()
+    fn scale(hz: f64, cycles: &[u64]) -> Scale {
+        Scale::of(&[Clock { from: 0, hz }], cycles.iter().copied(), cycles.iter().copied().max().unwrap_or(0), None).unwrap()
     }
 
     #[test]
@@ -199,65 +212,87 @@ mod tests {
 
     #[test]
     fn the_coarsest_exact_unit() {
-        for (hz, unit, units) in [(16e6, "100 ps", 625), (1e6, "1 us", 1), (1.0, "1 s", 1), (8e6, "1 ns", 125), (64e6, "1 ps", 15625), (32768.0, "1 fs", 30517578125)] {
-            let s = scale(hz, 1000);
+        // A single cycle, and its units.
+        for (hz, unit, units) in [(16e6, "100 ps", 625), (1e6, "1 us", 1), (1.0, "1 s", 1), (8e6, "1 ns", 125), (64e6, "1 ps", 15625)] {
+            let s = scale(hz, &[1, 1000]);
             assert_eq!((s.unit().to_string().as_str(), s.time(1), s.time(1000)), (unit, units, 1000 * units), "{hz}");
-            assert_eq!(s.to_string(), format!("A cycle is {units} units ({hz} Hz)."));
+            assert_eq!(s.to_string(), format!("A cycle is {units} units ({hz} Hz). Every time is exact."));
         }
-        // A clock of half a hertz, and one above 10^15, which has no whole unit.
-        assert_eq!(scale(0.5, 10).time(3), 6);
-        assert_eq!(scale(3e15, 1 << 40).unit(), Unit::Tenths(FINE));
+        assert_eq!(scale(0.5, &[1]).time(3), 6);
+        // The edges of a pilot of 1 kHz with 30 % at 16 MHz, and at 170 MHz.
+        for (hz, cycle) in [(16e6, 1600), (170e6, 17_000)] {
+            let s = scale(hz, &[0, 3 * cycle, 10 * cycle, 13 * cycle]);
+            assert_eq!((s.unit().to_string().as_str(), s.time(3 * cycle), s.time(13 * cycle)), ("100 us", 3, 13));
+            assert_eq!(s.to_string(), format!("A cycle is 1/{cycle} units ({hz} Hz). Every time is exact."));
+        }
+        // The end counts too.
+        assert_eq!(scale(16e6, &[0, 4800, 16_001]).unit(), Unit::Tenths(10));
     }
 
     #[test]
-    fn times_are_rounded_each_by_itself() {
-        let s = scale(170e6, 1 << 40);
-        assert_eq!(s.unit(), Unit::Tenths(FINE));
-        assert_eq!((s.time(1), s.time(2), s.time(3), s.time(17)), (5882, 11765, 17647, 100_000));
-        assert_eq!(s.time(170_000_000_000), 1_000_000_000_000_000);
-        assert_eq!(s.to_string(), "A cycle is 100000/17 units (170000000 Hz), each time rounded to the nearest.");
+    fn else_a_cycle_has_a_time_of_its_own() {
+        let s = scale(170e6, &[1, 2, 3, 1 << 40]);
+        assert_eq!(s.unit().to_string(), "1 ns");
+        assert_eq!((s.time(1), s.time(2), s.time(3), s.time(17)), (6, 12, 18, 100));
+        assert_eq!(s.time(170_000_000_000), 1_000_000_000_000);
+        assert_eq!(s.to_string(), "A cycle is 100/17 units (170000000 Hz). Times are rounded to the nearest unit.");
+        // Each by itself: half a unit away at most, however late.
+        for cycle in (1 << 39..).take(1000) {
+            assert_eq!((s.time(cycle) as f64 * 0.17).round() as u64, cycle);
+        }
+        let s = scale(32768.0, &[1, 2]);
+        assert_eq!((s.unit().to_string().as_str(), s.time(1), s.time(2)), ("10 us", 3, 6));
+        // Three cycles a unit: there is no finer one.
+        assert_eq!(scale(3e15, &[1, 1 << 40]).unit().to_string(), "1 fs");
     }
 
     #[test]
     fn a_wave_that_is_too_long_takes_a_coarser_unit() {
-        let year = 31_536_000;
-        // A year at 16 MHz in units of 100 ps holds; ten thousand do not.
-        assert_eq!(scale(16e6, year * 16_000_000).unit(), Unit::Tenths(10));
-        let s = scale(16e6, 9_000 * year * 16_000_000);
-        assert_eq!(s.unit(), Unit::Tenths(7));
-        assert_eq!((s.time(16), s.time(1), s.time(0)), (10, 1, 0));
-        // 32,768 Hz is exact in 1 fs, which holds two and a half hours.
-        assert_eq!(scale(32768.0, 9_000 * 32768).unit(), Unit::Tenths(15));
-        assert_eq!(scale(32768.0, 10_000 * 32768).unit(), Unit::Tenths(12));
+        let year = 31_536_000 * 16_000_000;
+        // A year at 16 MHz in units of 100 ps holds; thirty do not.
+        assert_eq!(scale(16e6, &[1, year]).unit(), Unit::Tenths(10));
+        let s = scale(16e6, &[1, 30 * year]);
+        assert_eq!((s.unit().to_string().as_str(), s.time(16), s.time(1), s.time(0)), ("10 ns", 100, 6, 0));
         // The last cycle that a call can have.
-        assert_eq!(scale(16e6, 1 << 62).unit(), Unit::Tenths(7));
-        assert!(Scale::of(&[Clock { from: 0, hz: 1e-3 }], 1 << 62, None).is_err());
-        assert_eq!(Scale::of(&[Clock { from: 0, hz: 1e-3 }], 1 << 62, Some(Unit::Cycle)).unwrap().time(1 << 62), 1 << 62);
+        assert_eq!(scale(16e6, &[1, 1 << 62]).unit().to_string(), "100 ns");
+        let slow = [Clock { from: 0, hz: 1e-3 }];
+        assert!(Scale::of(&slow, [].into_iter(), 1 << 62, None).is_err());
+        assert_eq!(Scale::of(&slow, [].into_iter(), 1 << 62, Some(Unit::Cycle)).unwrap().time(1 << 62), 1 << 62);
+        assert!(Scale::of(&[Clock { from: 0, hz: 16e6 }], [].into_iter(), 1 << 62, Some(Unit::Tenths(12))).is_err());
     }
 
     #[test]
     fn a_change_of_the_clock_begins_a_stretch() {
         let clocks = [Clock { from: 0, hz: 16e6 }, Clock { from: 160, hz: 8e6 }, Clock { from: 160, hz: 4e6 }];
-        let s = Scale::of(&clocks, 1000, None).unwrap();
+        let cycles = [159, 160, 161];
+        let s = Scale::of(&clocks, cycles.into_iter(), 1000, None).unwrap();
         assert_eq!(s.unit(), Unit::Tenths(10));
-        assert_eq!((s.time(159), s.time(160), s.time(161)), (99_375, 100_000, 102_500));
+        assert_eq!(cycles.map(|c| s.time(c)), [99_375, 100_000, 102_500]);
         assert_eq!(
             s.to_string(),
-            "A cycle is 625 units (16000000 Hz). From cycle 160 on it is 1250 units (8000000 Hz). From cycle 160 on it is 2500 units (4000000 Hz)."
+            "A cycle is 625 units (16000000 Hz). From cycle 160 on it is 1250 units (8000000 Hz). From cycle 160 on it is 2500 units \
+             (4000000 Hz). Every time is exact."
         );
-        let s = Scale::of(&clocks, 1000, Some(Unit::Cycle)).unwrap();
+        let s = Scale::of(&clocks, cycles.into_iter(), 1000, Some(Unit::Cycle)).unwrap();
         assert_eq!((s.time(161), s.unit().to_string().as_str(), s.to_string().as_str()), (161, "1 ns", "A unit is a cycle, whatever it lasts."));
+        // A stretch that begins between two units.
+        let clocks = [Clock { from: 0, hz: 3.0 }, Clock { from: 1, hz: 1.0 }];
+        let s = Scale::of(&clocks, [2, 3].into_iter(), 3, None).unwrap();
+        assert_eq!((s.unit().to_string().as_str(), s.time(1), s.time(2), s.time(3)), ("100 ms", 3, 13, 23));
+        assert!(!s.exact);
     }
 
     #[test]
     fn clocks_at_the_ends_of_the_floats() {
         for hz in [f64::MIN_POSITIVE, 5e-324, 1e-300, 1e300, f64::MAX] {
-            assert!(Scale::of(&[Clock { from: 0, hz }], 1, None).is_err(), "{hz}");
+            assert!(Scale::of(&[Clock { from: 0, hz }], [].into_iter(), 1, None).is_err(), "{hz}");
         }
         for hz in [0.1, 1.0 / 3.0, 1e-9, 123456.789, 2f64.powi(64), 2f64.powi(-64)] {
             let (n, d) = fraction(hz).unwrap();
             assert_eq!(n as f64 / d as f64, hz);
-            let _ = Scale::of(&[Clock { from: 0, hz }], 1 << 62, None);
+            for unit in (0..=FINEST).map(Unit::Tenths) {
+                let _ = Scale::of(&[Clock { from: 0, hz }], [].into_iter(), 1 << 62, Some(unit));
+            }
         }
     }
 }
