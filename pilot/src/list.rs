@@ -222,3 +222,49 @@ impl Numbers<'_> {
 fn fit(n: u64) -> Result<u32, Malformed> {
     u32::try_from(n).map_err(|_| Malformed::TooLarge)
 }
+
+#[cfg(test)]
+mod tests {
+    use super::*;
+
+    #[test]
+    fn the_words_are_those_of_the_papers_table() {
+        let paper = std::fs::read_to_string(concat!(env!("CARGO_MANIFEST_DIR"), "/../docs/CALLS.md")).unwrap();
+        let table = paper.split("\n| line | call |\n|---|---|\n").nth(1).unwrap();
+        let rows = table.lines().take_while(|l| l.starts_with("| `"));
+        let words: Vec<&str> = rows.map(|l| l[3..].split([' ', '`']).next().unwrap()).collect();
+        assert_eq!(FORMS.iter().map(|f| f.0).collect::<Vec<_>>(), words);
+    }
+
+    #[test]
+    fn numbers_go_to_their_places() {
+        let read = |line: &str| parse(line.as_bytes()).unwrap().unwrap();
+        assert_eq!(
+            read("pin 1 2 3 4 5 6 7 8 9"),
+            Call::Pin { pin: 1, mode: 2, open_drain: 3, out: 4, pullup: 5, pulldown: 6, function: 7, cycle: 8, book: 9 }
+        );
+        assert_eq!(read("clock 0x3ff0000000000000 0 1 2 3 4 5 6 7"), Call::Clock { sys: 1.0, hclk: 0.0, dividers: [1, 2, 3, 4, 5, 6], cycle: 7 });
+        assert_eq!(read("write 1 2 3 4 5 6"), Call::Write { timer: 1, offset: 2, size: 3, value: 4, cycle: 5, book: 6 });
+        assert_eq!(read("drive 1 3 0x4000000000000000 4 5"), Call::Drive { pin: 1, kind: 3, volts: 2.0, cycle: 4, book: 5 });
+        assert_eq!(read("\ttime 0XfFfFfFfFfFfFfFfF# all\r"), Call::Time { cycle: u64::MAX });
+        assert_eq!(read("level 00000000000000000000004294967295"), Call::Level { pin: u32::MAX });
+    }
+
+    #[test]
+    fn a_set_ups_table_has_its_pairs() {
+        let Ok(Some(Call::SetUp(s))) = parse(b"setup 0x3ff0000000000000 0 3 4 1 2 32 4 1 3 5 6 48 1 194 1 195 47 7") else { panic!() };
+        assert_eq!((s.hz, s.pins, s.lines, s.timers.as_slice()), (1.0, 3, 4, [2, 32, 4, 1, 3, 5, 6].as_slice()));
+        // Of two pairs with one index the later holds.
+        assert_eq!((s.table.len(), s.table[1], s.table[47], s.table.iter().sum::<u32>()), (48, 195, 7, 202));
+        // A table that is too long for every board is kept as one that is.
+        let Ok(Some(Call::SetUp(s))) = parse(b"setup 0 0 0 0 0 4294967295 4294967294 1") else { panic!() };
+        assert_eq!((s.timers.len(), s.table.len()), (0, 2049));
+    }
+
+    #[test]
+    fn lines_without_a_word() {
+        for line in ["", " \t", "#", "  # setup", "\r", "\t\r"] {
+            assert_eq!(parse(line.as_bytes()), Ok(None), "{line:?}");
+        }
+    }
+}
