@@ -38,7 +38,7 @@ pub fn duty(args: &Args) -> Result<(), Fault> {
     let mut watch = Watch::open(args)?;
     let fed = Fed::all(&mut watch, Shift::new([0; 4], from, to), &asked)?;
     if let Some(pin) = asked.iter().find(|&&p| u32::from(p) >= fed.pins) {
-        return Err(Fault::failed(format!("--pin {pin}: the board has {} pins, counted from 0", fed.pins)));
+        return Err(Fault::failed(format!("--pin {pin}: the board's last pin is {}", fed.pins - 1)));
     }
     let report = fed.shift.report().map_err(|e| fed.refusal(e, from, to))?;
     let shown = |p: &PinReport| if asked.is_empty() { fed.last[usize::from(p.pin)].is_some() } else { asked.contains(&p.pin) };

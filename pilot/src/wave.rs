@@ -52,7 +52,7 @@ pub fn wave(args: &Args) -> Result<(), Fault> {
     let mut watch = Watch::open(args)?;
     let record = Record::of(&mut watch)?;
     if let Some(pin) = (record.pins..PINS).find(|&p| names[p].is_some()) {
-        return Err(Fault::failed(format!("--name {pin}=..: the board has {} pins, counted from 0", record.pins)));
+        return Err(Fault::failed(format!("--name {pin}=..: the board's last pin is {}", record.pins - 1)));
     }
     let scale = Scale::of(&record.clocks, record.edges(), record.end, unit).map_err(Fault::failed)?;
     write_to(file, |out| record.write(out, &names, &scale))?;

@@ -42,7 +42,7 @@ fn pins_that_are_asked_for() {
     assert_eq!(duty(&["--pin", "1"]).out, format!("{head}1,0,40,40,0,0.0000\n"));
     assert_eq!(duty(&["--pin", "1", "--pin=0"]).out, format!("{head}0,30,10,40,1,75.0000\n1,0,40,40,0,0.0000\n"));
     let d = duty(&["--pin", "2"]);
-    assert_eq!((d.status, d.err.as_str()), (1, "pilot: --pin 2: the board has 2 pins, counted from 0\n"));
+    assert_eq!((d.status, d.err.as_str()), (1, "pilot: --pin 2: the board's last pin is 1\n"));
     assert_eq!(duty(&["--pin", "128"]).status, 2);
 }
 

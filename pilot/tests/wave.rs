@@ -160,7 +160,7 @@ fn lists_that_have_no_wave() {
         ("next\n", vec!["-"], "pilot: the list sets up no board\n"),
         ("next\nwhat\n", vec!["-"], "pilot: standard input: line 2: unknown word\n"),
         ("", vec!["examples/pilot.calls", "--board", "2"], "pilot: --board 2: the list sets up 1\n"),
-        ("", vec!["examples/pilot.calls", "--name", "1=x"], "pilot: --name 1=..: the board has 1 pins, counted from 0\n"),
+        ("", vec!["examples/pilot.calls", "--name", "1=x"], "pilot: --name 1=..: the board's last pin is 0\n"),
     ];
     for (input, words, told) in cases {
         let mut all = vec!["wave", "-o", file.to_str().unwrap()];
