@@ -5,6 +5,9 @@ mod common;
 use std::fs::{self, File, OpenOptions};
 use std::io::{BufRead, BufReader, Read, Write};
 use std::process::Stdio;
+use std::sync::mpsc;
+use std::thread;
+use std::time::Duration;
 
 use common::{done, fed, lists, pilot, root, run, scratch};
 
@@ -51,12 +54,13 @@ fn a_malformed_list_is_told_twice_and_has_status_1() {
 fn answers_come_before_the_list_ends() {
     let mut child = pilot(&["run", "-"]).stdin(Stdio::piped()).stdout(Stdio::piped()).spawn().unwrap();
     let mut input = child.stdin.take().unwrap();
-    let mut output = BufReader::new(child.stdout.take().unwrap());
+    let output = BufReader::new(child.stdout.take().unwrap());
+    let (send, answers) = mpsc::channel();
+    thread::spawn(move || output.lines().try_for_each(|line| send.send(line.unwrap())));
     for _ in 0..3 {
         input.write_all(b"next\n").unwrap();
-        let mut answer = String::new();
-        output.read_line(&mut answer).unwrap();
-        assert_eq!(answer, "0 18446744073709551615 0\n");
+        let answer = answers.recv_timeout(Duration::from_secs(20)).expect("an answer before the next call");
+        assert_eq!(answer, "0 18446744073709551615 0");
     }
     drop(input);
     assert_eq!(child.wait().unwrap().code(), Some(0));
