@@ -24,5 +24,7 @@ pub mod Ports
 pub mod Lasting
 pub mod Written
 pub mod Settled
+pub mod LateWrites
+pub mod Series
 pub mod Theorem
 pub mod Lists
