@@ -71,7 +71,7 @@ run-events (suc f) now div left t p =
 
 -- a delivery is refused, or done at a cycle not before the last
 module _ (b : Board) (i cycle places : ℕ) where
-  by-call : (P : Outcome → Type 0) → ((n : ℕ) → (n ≡ 0 → ⊥) → P (refused n b)) → (b .counts .last ≤ cycle → P (deliveredTo b i cycle places)) → P (step b (C.deliver i cycle places))
+  pub by-call : (P : Outcome → Type 0) → ((n : ℕ) → (n ≡ 0 → ⊥) → P (refused n b)) → (b .counts .last ≤ cycle → P (deliveredTo b i cycle places)) → P (step b (C.deliver i cycle places))
   unfolding step
   by-call P r d =
       by-test P (absent i (b .counts .timers)) (λ _. r 2 (never 1))
@@ -87,11 +87,11 @@ module _ (b : Board) (i cycle places : ℕ) where
     pub now : c .counts .last ≡ cycle
     pub tree : c .clocks .tree ≡ b .clocks .tree
 
-  delivered-keeps : Keeps (deliveredTo b i cycle places .board)
+  pub delivered-keeps : Keeps (deliveredTo b i cycle places .board)
   unfolding deliveredTo afterDelivery rebooked lineSettled
   delivered-keeps = record { few = refl; now = refl; tree = refl }
 
-  inst-delivered : (s : Sound b) → delivered b i cycle places .timer .inst ≡ timerAt b i .inst
+  pub inst-delivered : (s : Sound b) → delivered b i cycle places .timer .inst ≡ timerAt b i .inst
   unfolding delivered
   inst-delivered s = run-good mostEvents cycle (dividerOf b (timerAt b i)) places (timerAt b i .inst) (timerAt b i) (b .pads) (record { inst = refl; pads = s .pads }) .inst
 

@@ -1,2 +1,3 @@
 pub mod Settled
 pub mod Waved
+pub mod Joined
