@@ -125,4 +125,4 @@ fit-written t off v now div f =
     (either FitW (eqb off 0x2c) (fit-arr t _ now f) (fit-channel t off v now f)))))))))
 
 pub fits : StepFits
-fits cs i cycle = everywhere Fit (omega arith, omega arith) fit-reset fit-written fit-updated fit-compared fit-retimed cs i .1
+fits cs i cycle = let f = everywhere Fit (omega arith, omega arith) fit-reset fit-written fit-updated fit-compared fit-retimed cs i in (f .1, f .0)

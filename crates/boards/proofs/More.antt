@@ -364,10 +364,12 @@ retimes cs i tree cycle l z differs near =
 -- ---- outside the cases
 
 delivers-manual : StepDeliversManual
-delivers-manual cs i a cycle places l h from le d z u =
+delivers-manual cs i a ds cycle places l h from le d z clear =
     let b = after cs in
     let t = timerAt b i in
-    sym (clocks-same (rulesOf t) (seen t (divOf b i) a) (between t (divOf b i) a cycle) (u .fits) (u .outside)) ∙ delivers cs i a cycle places l h from le d z .0
+    let f = fits cs i a in
+    sym (clocks-same (rulesOf t) (seen t (divOf b i) a) (between t (divOf b i) a cycle) (λ m _. follows .fits-stay (rulesOf t) (seen t (divOf b i) a) m (f .0) (f .1)) clear)
+    ∙ series cs i a ds cycle places l h from le d z .0
 
 writes-manual : StepWritesManual
 writes-manual cs f i offset size value cycle places l h d on z within left o =

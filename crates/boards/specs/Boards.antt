@@ -10,13 +10,14 @@ use Rattle.rm0440.specs.Clock.{matched, clocks}
 use Rattle.rm0440.specs.Read.{read}
 use Rattle.rm0440.specs.Late.{passes}
 use Rattle.rm0440.specs.Write as M
+use Rattle.rm0440.specs.Cases.{Outside}
 use Rattle.rm0440.specs.WriteCases.{OutsideWrite}
 use Rattle.tim.specs.Count.{ticksAt, cntAt, synced}
 use Rattle.clk.specs.declared.ClockTree.{ClockTree}
 use Rattle.clk.specs.Clk.{differing}
 use Rattle.periph.specs.Lane.{laneRead, laneWrite}
 use Rattle.follows.specs.Seen.{clocksAt, per, seen, rulesOf, Within, Left, deliver}
-use Rattle.follows.specs.Follows.{Delivered, between, acts, WithinDown, Fits, Undisputed}
+use Rattle.follows.specs.Follows.{Delivered, between, acts, WithinDown, Fits}
 use Rattle.machine.specs.Board.{Board, timerAt, firstBoard}
 use Rattle.machine.specs.Deliver.{dividerOf}
 use Rattle.machine.specs.Call as C
@@ -160,17 +161,24 @@ StepRetimes =
 
 -- ---- outside the cases: the manual's
 
--- the reload in use fits the timer's width
+-- the reload, in use and written, fits the timer's width
 abbrev pub StepFits : Type 0
-StepFits = (cs : List Call) (i cycle : ℕ) → Fits (seen (timerAt (after cs) i) (divOf (after cs) i) cycle)
+StepFits =
+    (cs : List Call) (i cycle : ℕ)
+    → Fits (seen (timerAt (after cs) i) (divOf (after cs) i) cycle) × (timerAt (after cs) i .regs .arr ≤ seen (timerAt (after cs) i) (divOf (after cs) i) cycle .max)
+
+-- clocks of which none meets a case that the timer's rules leave to the Rust
+abbrev pub Clear : List Call → ℕ → ℕ → ℕ → Type 0
+Clear cs i a cycle =
+    (m : ℕ) → m < between (timerAt (after cs) i) (divOf (after cs) i) a cycle
+    → Outside (rulesOf (timerAt (after cs) i)) (clocks (rulesOf (timerAt (after cs) i)) m (seen (timerAt (after cs) i) (divOf (after cs) i) a))
 
 abbrev pub StepDeliversManual : Type 0
 StepDeliversManual =
-    (cs : List Call) (i a cycle places : ℕ) → i < after cs .counts .timers → WithinDown (timerAt (after cs) i) → timerAt (after cs) i .count .base ≤ a → a ≤ cycle
-    → Delivered (timerAt (after cs) i) a → step (after cs) (C.deliver i cycle places) .number ≡ 0
-    → Undisputed (rulesOf (timerAt (after cs) i)) (seen (timerAt (after cs) i) (divOf (after cs) i) a) (between (timerAt (after cs) i) (divOf (after cs) i) a cycle)
+    (cs : List Call) (i a : ℕ) (ds : List Lent) (cycle places : ℕ) → i < after cs .counts .timers → WithinDown (timerAt (after cs) i)
+    → timerAt (after cs) i .count .base ≤ a → a ≤ cycle → Delivered (timerAt (after cs) i) a → last cs i ds cycle places .number ≡ 0 → Clear cs i a cycle
     → clocks manual (between (timerAt (after cs) i) (divOf (after cs) i) a cycle) (seen (timerAt (after cs) i) (divOf (after cs) i) a)
-    ≡ seen (timerAt (step (after cs) (C.deliver i cycle places) .board) i) (divOf (after cs) i) cycle
+    ≡ seen (timerAt (last cs i ds cycle places .board) i) (divOf (after cs) i) cycle
 
 abbrev pub StepWritesManual : Type 0
 StepWritesManual =

@@ -26,5 +26,6 @@ pub mod Written
 pub mod Settled
 pub mod LateWrites
 pub mod Series
+pub mod Fits
 pub mod Theorem
 pub mod Lists

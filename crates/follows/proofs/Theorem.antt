@@ -26,6 +26,7 @@ use Rattle.follows.proofs.Written as W
 use Rattle.follows.proofs.Settled as S
 use Rattle.follows.proofs.LateWrites as L
 use Rattle.follows.proofs.Series.{deliveries-due, splits, upward}
+use Rattle.follows.proofs.Fits.{fits-stay}
 use Rattle.follows.proofs.Lasting.{updated-within}
 use Rattle.stepping.proofs.Agrees.{counts-overflown, counts-down-clamped, event-overflown}
 
@@ -102,4 +103,5 @@ follows = record {
   deliveries-due = deliveries-due;
   splits = splits;
   upward = upward;
+  fits-stay = fits-stay;
 }

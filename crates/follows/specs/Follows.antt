@@ -167,6 +167,10 @@ Ends = (t : Timer) (x div : ℕ) → Within (updated t x div)
 abbrev pub Fits : M.Timer → Type 0
 Fits s = s .arr ≤ s .max
 
+-- which clocks keep, with the written one
+abbrev pub FitsStay : Type 0
+FitsStay = (r : Rules) (s : M.Timer) (m : ℕ) → Fits s → M.reg s 11 ≤ s .max → Fits (clocks r m s)
+
 -- n clocks of which none meets a case that rules r leave to the Rust
 pub record Undisputed (r : Rules) (s : M.Timer) (n : ℕ) : Type 0 where
   pub fits : (m : ℕ) → m < n → Fits (clocks r m s)
@@ -206,3 +210,4 @@ pub record Follows : Type 0 where
   pub deliveries-due : DeliveriesDue
   pub splits : Splits
   pub upward : Upward
+  pub fits-stay : FitsStay
