@@ -1,3 +1,4 @@
+pub mod Figures
 pub mod Leap
 pub mod Place
 pub mod Periodic
