@@ -320,24 +320,24 @@ level-none pin l c = refl
 -- at cycle a, before any event
 pub begins : (t : Timer) (div a ch pin : ℕ) (p : Pads) (o : Pilot t div a ch pin p) → Told t div a ch pin (o .call) (o .quiet) (o .channel) (shown p pin) 0 t p [] a
 begins t div a ch pin p o = record {
-      goes = record {
-        left = record { timed = o .call .timed; based = o .call .came };
-        within = o .call .within;
-        step = clocksAt t div a / per t;
-        ahead = λ r. omega (arith, early r);
-        next = λ r. few (early r);
-        there = λ y l. grows (t .count .base) div (per t) a y (o .call .timed .pos) (omega arith) l;
-        settled = λ r. o .settled;
-      };
-      from = le-refl a;
-      drives = o .drives;
-      has = o .has;
-      wired = record { sound = o .pads; pin-is = o .pin-is; route = o .route; push-pull = o .push-pull };
-      shows = o .shows;
-      reach = λ y f l. ap (λ (n : ℕ). S.deliver n y div t) (zero-add f);
-      past = λ y l m. absurd (omega arith);
-      present = λ y l. none y;
-    }
+  goes = record {
+    left = record { timed = o .call .timed; based = o .call .came };
+    within = o .call .within;
+    step = clocksAt t div a / per t;
+    ahead = λ r. omega (arith, early r);
+    next = λ r. few (early r);
+    there = λ y l. grows (t .count .base) div (per t) a y (o .call .timed .pos) (omega arith) l;
+    settled = λ r. o .settled;
+  };
+  from = le-refl a;
+  drives = o .drives;
+  has = o .has;
+  wired = record { sound = o .pads; pin-is = o .pin-is; route = o .route; push-pull = o .push-pull };
+  shows = o .shows;
+  reach = λ y f l. ap (λ (n : ℕ). S.deliver n y div t) (zero-add f);
+  past = λ y l m. absurd (omega arith);
+  present = λ y l. none y;
+}
   where
     early : t .count .running ≡ true → a < due t
     early r = leb-false (due t) a (ap (λ (d : Due). S.dueBy d a) (sym (event-runs t r)) ∙ o .quiet)
