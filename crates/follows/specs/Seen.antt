@@ -7,6 +7,7 @@ use lib.Dec.{leb}
 use lib.ListN.{length}
 use Rattle.rm0440.specs.Bits.{CEN}
 use Rattle.rm0440.specs.Counter.{stepCycles, stepsBetween}
+use Rattle.rm0440.specs.Rules.{Rules, rust}
 use Rattle.rm0440.specs.State as M
 use Rattle.tim.specs.declared.Timer.{Timer}
 use Rattle.tim.specs.declared.Next.the-variants.{Update, Compare}
@@ -16,6 +17,7 @@ use Rattle.tim.specs.Timer.{max}
 use Rattle.tim.specs.Count.{cntAt}
 use Rattle.tim.specs.Next.{nextEvent}
 use Rattle.tim.specs.Change as T
+use Rattle.regs.specs.Regs.{regWritten}
 
 -- ---- the view
 
@@ -51,6 +53,10 @@ per t = t .count .«psc_act» + 1
 abbrev pub seen : Timer → ℕ → ℕ → M.Timer
 seen t div c = M.withCount (raw t) (t .count .running) (cond (t .count .running) (clocksAt t div c % per t) 0) (cntAt t c)
 
+-- the rules that the port has for timer t
+abbrev pub rulesOf : Timer → Rules
+rulesOf t = rust
+
 -- ---- the timers that it is a view of
 
 -- its step is that of its prescaler and divider, without CEN it stands, and its record of matches has four places
@@ -69,7 +75,10 @@ pub record Left (div now : ℕ) (t : Timer) : Type 0 where
   pub timed : Timed t div
   pub based : t .count .base ≤ now
 
--- ---- the port's delivery: so many events at most, up to cycle c (crates/machine, Deliver.handled)
+-- ---- the port's write of a register, and its delivery: so many events at most, up to cycle c (crates/machine, Deliver.handled)
+
+abbrev pub written : Timer → ℕ → ℕ → ℕ → ℕ → Timer
+written t off v now div = regWritten t off v now div .timer
 
 -- the next event is due by cycle c; a stopped timer has none
 abbrev pub dueBy : Due → ℕ → Bool
