@@ -32,7 +32,7 @@ setup n = record {
   vcc = one;
   pins = 2;
   lines = 0;
-  timers = record { n = n; width = 32; channels = 4; apb = 1; irq = 28; «en_reg» = 0; «en_bit» = 0 } ∷ [];
+  timers = record { n = n; width = 32; channels = 4; apb = 1; irq = 28; «en_reg» = 0; «en_bit» = 0; manual = false } ∷ [];
   table = (timSignal n 0 ∷ replicate 15 0) ++ (timSignal n 0 ∷ replicate 15 0);
 }
 

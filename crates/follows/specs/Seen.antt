@@ -7,6 +7,7 @@ use lib.Dec.{leb}
 use lib.ListN.{length}
 use Rattle.rm0440.specs.Bits.{CEN}
 use Rattle.rm0440.specs.Counter.{stepCycles, stepsBetween}
+use Rattle.rm0440.specs.Rules.{Rules, portRules}
 use Rattle.rm0440.specs.State as M
 use Rattle.tim.specs.declared.Timer.{Timer}
 use Rattle.tim.specs.declared.Next.the-variants.{Update, Compare}
@@ -16,6 +17,10 @@ use Rattle.tim.specs.Timer.{max}
 use Rattle.tim.specs.Count.{cntAt}
 use Rattle.tim.specs.Next.{nextEvent}
 use Rattle.tim.specs.Change as T
+
+-- the rules that it counts by: the Rust's, and in manual mode those that document 02 takes from the manual
+abbrev pub rulesOf : Timer → Rules
+rulesOf t = portRules (t .inst .manual)
 
 -- ---- the view
 

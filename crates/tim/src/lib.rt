@@ -13,7 +13,7 @@ ghost use Rattle.tim.specs.Count.{upFrom, downFrom, ticksAt, countAfter,
 ghost use Rattle.tim.specs.Next.{updateSteps, waiting, nearer, consider, nextSteps, nextEvent};
 ghost use Rattle.tim.specs.Change as C;
 
-// What set-up fixes: the timer's number, width, channel count, bus, interrupt and enable bit.
+// What set-up fixes: the timer's number, width, channel count, bus, interrupt and enable bit, and manual mode (document 02).
 pub struct Inst {
     pub n: u32,
     pub width: u32,
@@ -22,6 +22,7 @@ pub struct Inst {
     pub irq: u32,
     pub en_reg: u32,
     pub en_bit: u32,
+    pub manual: bool,
 }
 
 // The registers as written.
@@ -604,13 +605,26 @@ impl Timer {
         self
     }
 
+    fn clear_cen(mut self) -> Timer
+        ensures { λ r. ⌜ r ≡ T.withCr1 self (C.withoutCen (self .regs .cr1)) ⌝ }
+    {
+        let cr1 = self.regs.cr1 - self.regs.cr1 % 2;
+        self.regs.cr1 = cr1;
+        self
+    }
+
+    // What ends at an update: one-pulse, and in manual mode CEN with it.
     fn end(self) -> Timer
         ensures { λ r. ⌜ r ≡ C.ended self ⌝ }
     {
-        if self.regs.cr1 / 8 % 2 == 1 {
-            return self.with_running(false);
+        if self.regs.cr1 / 8 % 2 != 1 {
+            return self;
         }
-        self
+        if self.inst.manual {
+            let t = self.clear_cen();
+            return t.with_running(false);
+        }
+        self.with_running(false)
     }
 
     // Update event at cycle at: reload shadow registers, restart the period.

@@ -4,7 +4,6 @@ use Prim.Native.Nat.{ℕ, suc, _+_, _-_, _/_, _≤_, _<_}
 use mathlib.Core.Path.{_≡_}
 use mathlib.Core.Bool.{true, false, cond}
 use lib.ListN.{getD}
-use Rattle.rm0440.specs.Rules.{rust}
 use Rattle.rm0440.specs.Clock.{clocks}
 use Rattle.rm0440.specs.Level.{level}
 use Rattle.tim.specs.declared.Timer.{Timer}
@@ -17,7 +16,7 @@ use Rattle.machine.specs.Sys.{driver}
 use Rattle.machine.specs.Sound.{SoundPads}
 use Rattle.machine.specs.Deliver.{handled}
 use Rattle.book.specs.Level.{levelAt}
-use Rattle.follows.specs.Seen.{clocksAt, per, seen}
+use Rattle.follows.specs.Seen.{rulesOf, clocksAt, per, seen}
 use Rattle.follows.specs.Follows.{Call, Delivered, between}
 
 -- the count k steps after the reference, before the turn
@@ -53,4 +52,4 @@ abbrev pub Waves : Type 0
 Waves =
     (events places now : ℕ) (t : Timer) (div a ch pin : ℕ) (p : Pads) → Pilot t div a ch pin p → handled events now div places t p .number ≡ 0
     → (c : ℕ) → a ≤ c → c ≤ now
-    → levelAt pin (handled events now div places t p .entries) (shown p pin) c ≡ bit (level (clocks rust (between t div a c) (seen t div a)) ch)
+    → levelAt pin (handled events now div places t p .entries) (shown p pin) c ≡ bit (level (clocks (rulesOf t) (between t div a c) (seen t div a)) ch)
