@@ -2,7 +2,7 @@
 -- first board on.
 use Prim.Native.Nat.{ℕ, _+_, _-_, _*_}
 use mathlib.Core.Path.{_≡_, refl, ap, _∙_}
-use mathlib.Core.Bool.{Bool, true, not, _&&_}
+use mathlib.Core.Bool.{Bool, true, false, not, _&&_}
 use mathlib.Core.List.{List, [], _∷_, _++_}
 use lib.Dec.{eqb, ltb, leb}
 use borrow.Author.Tests.{eqb-true, ltb-true, leb-true, not-true}

@@ -127,3 +127,6 @@ endedBy t ends manual = withRunning (withCr1 t (cond (ends && manual) (withoutCe
 pub ends : (t : Timer) (o m : Bool) → pulseEnds t ≡ o → t .inst .manual ≡ m → endedBy t o m ≡ ended t
 unfolding ended
 ends t o m e f = sym (ap (λ (b : Bool). endedBy t b (t .inst .manual)) e ∙ ap (endedBy t o) f)
+
+pub ends-not : (t : Timer) → pulseEnds t ≡ false → ended t ≡ t
+ends-not t e = sym (ends t false (t .inst .manual) e refl)

@@ -67,7 +67,7 @@ pub record Goes (t : Timer) (div ch x : ℕ) : Type 0 where
 -- its level from there on is that at its step
 level-from : (t : Timer) (div ch x : ℕ) → ch < 4 → (g : Goes t div ch x) → t .count .running ≡ true → Shows t div ch x (bit (T.output t ch (onward t (g .step))))
 level-from t div ch x four g r c le d =
-    ap bit (sym (steady t div (g .left .timed) (g .within) r ch four (g .step)
+    ap bit (sym (steady (t .inst .manual) t div (g .left .timed) (g .within) r ch four (g .step)
     (λ j q z e o m. g .settled r e o (suc j) (omega arith) (omega (arith, best-next t .by-update)) m) c (omega (arith, g .left .based)) d (g .there c le)))
 
 -- a stopped timer's stands
