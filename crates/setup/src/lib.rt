@@ -125,7 +125,14 @@ fn sizes_good(timers: usize, pins: u32, lines: u32) -> bool
 }
 
 // The sizes and limits; the frequency is not among them.
-fn within_limits(pins: u32, lines: u32, vcc: f64, manual: u32, timers: &[u32], table: &[u32]) -> bool
+fn within_limits(
+    pins: u32,
+    lines: u32,
+    vcc: f64,
+    manual: u32,
+    timers: &[u32],
+    table: &[u32],
+) -> bool
     ensures { λ r. ⌜ ((hz : Float) → r ≡ S.withinLimits (setupOf hz vcc pins lines manual (now (timers .entry)) (now (table .entry)))) ⌝ }
 {
     let count = timer_count(timers);
