@@ -20,5 +20,7 @@ fn main() {
         println!("cargo:rustc-link-lib=static={name}");
     }
     let dir = dir.canonicalize().unwrap_or(dir);
+    // For tests/header.rs.
+    println!("cargo:rustc-env=BOARD_LIBRARIES={}", dir.display());
     println!("cargo:rustc-link-search=native={}", dir.display());
 }

@@ -1,6 +1,6 @@
 //! A fixed number of random calls, for the gate, and the safe board beside the raw one.
 
-use board::{Board as Safe, ClockTree, Drive, Error, Mode, PinConfig, Setup, TimerSpec};
+use board::{Board as Safe, ClockTree, Drive, Error, Index, Mode, PinConfig, Setup, TimerIndex, TimerSpec};
 use compare::run::CALLS;
 use compare::{list, report, Port, Stats};
 use oracle::gen::Gen;
@@ -23,23 +23,116 @@ fn random_lists() {
     assert!(met.clone().all(|n| n > 100), "{:?}", met.collect::<Vec<_>>());
 }
 
-/// The safe board gives what the oracle gives, lent a book of its places.
+/// The safe board gives what the oracle gives, lent a book of its places, and says of each refusal what it is about.
 #[test]
 fn safe_board() {
-    for (seed, places) in [(1, 4), (2, 7), (3, 128), (4, 1000)] {
+    let mut told = [0; 9];
+    for (seed, places) in [(1, 4), (2, 7), (3, 128), (4, 1000), (5, 3)] {
         let (mut gen, mut oracle, mut safe) = (Gen::new(seed), Board::new(), Safe::new(places));
+        let mut known = Known { places, ..Known::default() };
         for _ in 0..20_000 {
             let mut call = gen.step().0;
             if let Some(book) = book_of(&mut call) {
                 *book = places as u64;
             }
             let wanted = oracle.call(&call);
-            match play(&mut safe, &call) {
+            let mut error = None;
+            match play(&mut safe, &call, &mut error) {
                 Some(answer) => assert_eq!(answer, wanted, "{call}"),
                 // What the types leave no room for is a set-up that is refused.
                 None => assert_eq!(wanted.number, 1, "{call}"),
             }
+            if let Some(e) = error {
+                explained(&call, e, &known);
+                told[e.number() as usize] += 1;
+            }
+            match (wanted.number, &call) {
+                (0, Call::Setup(s)) => known = Known { places, last: 0, timers: s.timers.len() as u32, pins: s.pins },
+                (0 | 8, call) => known.last = cycle_of(call).unwrap_or(known.last),
+                _ => {}
+            }
         }
+    }
+    // A number that never came up is not explained either; set-up's limits are rust/tests' matter.
+    assert!(told[1..8].iter().all(|&n| n > 20), "{told:?}");
+}
+
+/// What the calls have made of a board.
+#[derive(Default)]
+struct Known {
+    places: usize,
+    last: u64,
+    timers: u32,
+    pins: u32,
+}
+
+/// What an error names is what the call and the board have.
+fn explained(call: &Call, e: Error, &Known { places, last, timers, pins }: &Known) {
+    match (e, call) {
+        (Error::WrongBoard(limit), Call::Setup(_)) => assert_ne!(limit, board::Limit::Unknown, "{call}"),
+        (Error::BadClock(field), Call::Setup(_)) => assert_eq!(field, board::ClockField::Hz, "{call}"),
+        (Error::BadClock(field), Call::Clock { .. }) => assert!(!matches!(field, board::ClockField::Hz | board::ClockField::Unknown), "{call}"),
+        (Error::NoSuchIndex(Index::Word(word)), Call::Enable { word: given, .. }) => assert!(word == *given && word > 8, "{call}"),
+        (Error::NoSuchIndex(Index::Pin { pin, pins: told }), _) => assert!(Some(pin) == pin_of(call) && told == pins && pin >= pins, "{call}"),
+        (Error::NoSuchIndex(Index::Timer { index, timers: told }), _) => {
+            assert!(Some(index.0) == timer_of(call) && told == timers && index.0 >= timers, "{call}")
+        }
+        (Error::BadSize(size), Call::Read { size: given, .. } | Call::Write { size: given, .. }) => {
+            assert!(size == *given && ![1, 2, 4].contains(&size), "{call}")
+        }
+        (Error::CycleAstray { cycle, last: told }, _) => {
+            let given = cycle_of(call).or(asked_cycle(call));
+            assert!(Some(cycle) == given && told == last && (cycle < last || cycle > 1 << 62), "{call}: {e}, {last}")
+        }
+        (Error::BookFull { places: told, needed }, _) => {
+            let wanted = if matches!(call, Call::ResetPins { .. }) { pins as usize } else { 4 };
+            assert!((told, needed) == (places, wanted) && places < wanted, "{call}")
+        }
+        (Error::CounterAstray { offset }, Call::Write { offset: given, .. }) => {
+            assert!(offset == *given && [0x00, 0x24, 0x2c].contains(&(offset & !3)), "{call}")
+        }
+        _ => panic!("{call}: {e:?}"),
+    }
+}
+
+/// The cycle of a call that changes the board.
+fn cycle_of(call: &Call) -> Option<u64> {
+    match *call {
+        Call::Clock { cycle, .. }
+        | Call::Pin { cycle, .. }
+        | Call::Drive { cycle, .. }
+        | Call::ResetPins { cycle, .. }
+        | Call::Write { cycle, .. }
+        | Call::Reset { cycle, .. }
+        | Call::Deliver { cycle, .. } => Some(cycle),
+        _ => None,
+    }
+}
+
+/// The cycle of one that does not.
+fn asked_cycle(call: &Call) -> Option<u64> {
+    match *call {
+        Call::Read { cycle, .. } | Call::Peek { cycle, .. } | Call::Time { cycle } => Some(cycle),
+        _ => None,
+    }
+}
+
+fn timer_of(call: &Call) -> Option<u32> {
+    match *call {
+        Call::Read { timer, .. }
+        | Call::Write { timer, .. }
+        | Call::Peek { timer, .. }
+        | Call::Reset { timer, .. }
+        | Call::Deliver { timer, .. }
+        | Call::Booked { timer } => Some(timer),
+        _ => None,
+    }
+}
+
+fn pin_of(call: &Call) -> Option<u32> {
+    match *call {
+        Call::Pin { pin, .. } | Call::Drive { pin, .. } | Call::Level { pin } | Call::Volts { pin } => Some(pin),
+        _ => None,
     }
 }
 
@@ -67,16 +160,21 @@ fn answer(r: Result<(u64, &[board::Entry]), Error>) -> Answer {
     }
 }
 
-/// A call through the safe board; `None` if its types cannot say it.
-fn play(b: &mut Safe, call: &Call) -> Option<Answer> {
-    let plain = |r: Result<u64, Error>| Some(answer(r.map(|v| (v, &[][..]))));
-    let noted = |r: Result<&[board::Entry], Error>| Some(answer(r.map(|e| (0, e))));
+/// A call through the safe board, and its error; `None` if its types cannot say it.
+fn play(b: &mut Safe, call: &Call, error: &mut Option<Error>) -> Option<Answer> {
+    let error = std::cell::RefCell::new(error);
+    let keep = |e: Error| {
+        **error.borrow_mut() = Some(e);
+        e
+    };
+    let plain = |r: Result<u64, Error>| Some(answer(r.map(|v| (v, &[][..])).map_err(keep)));
+    let noted = |r: Result<&[board::Entry], Error>| Some(answer(r.map(|e| (0, e)).map_err(keep)));
     match *call {
         Call::Setup(ref s) => {
             if s.len != s.pins.wrapping_mul(16) || s.pins > 1000 {
                 return None;
             }
-            let timer = |t: &oracle::TimerSpec| TimerSpec { number: t.number, width: t.width, channels: t.channels, bus: t.bus, word: t.word, bit: t.bit, irq: t.irq };
+            let timer = |t: &oracle::TimerSpec| TimerSpec::new(t.number).width(t.width).channels(t.channels).bus(t.bus).enable(t.word, t.bit).irq(t.irq);
             let mut table = vec![0; s.len as usize];
             s.signals.iter().for_each(|&(i, signal)| table[i as usize] = signal);
             let mut pins = vec![[0; 16]; s.pins as usize];
@@ -102,17 +200,17 @@ fn play(b: &mut Safe, call: &Call) -> Option<Answer> {
             noted(b.drive_pin(pin, drive, cycle))
         }
         Call::ResetPins { cycle, .. } => noted(b.reset_pins(cycle)),
-        Call::Read { timer, offset, size, cycle } => plain(b.read(timer, offset, size, cycle).map(u64::from)),
-        Call::Write { timer, offset, size, value, cycle, .. } => noted(b.write(timer, offset, size, value, cycle)),
-        Call::Peek { timer, offset, cycle } => plain(b.peek(timer, offset, cycle).map(u64::from)),
-        Call::Reset { timer, cycle, .. } => noted(b.reset(timer, cycle)),
+        Call::Read { timer, offset, size, cycle } => plain(b.read(TimerIndex(timer), offset, size, cycle).map(u64::from)),
+        Call::Write { timer, offset, size, value, cycle, .. } => noted(b.write(TimerIndex(timer), offset, size, value, cycle)),
+        Call::Peek { timer, offset, cycle } => plain(b.peek(TimerIndex(timer), offset, cycle).map(u64::from)),
+        Call::Reset { timer, cycle, .. } => noted(b.reset(TimerIndex(timer), cycle)),
         Call::Deliver { timer, cycle, .. } => {
-            let done = b.deliver(timer, cycle);
+            let done = b.deliver(TimerIndex(timer), cycle);
             let backlog = done.is_ok_and(|d| d.backlog);
-            let a = answer(done.map(|d| (d.events, d.entries)));
+            let a = answer(done.map(|d| (d.events, d.entries)).map_err(keep));
             Some(Answer { number: if backlog { 8 } else { a.number }, ..a })
         }
-        Call::Booked { timer } => plain(b.booked(timer).map(|c| c.unwrap_or(u64::MAX))),
+        Call::Booked { timer } => plain(b.booked(TimerIndex(timer)).map(|c| c.unwrap_or(u64::MAX))),
         Call::Next => plain(Ok(b.next().unwrap_or(u64::MAX))),
         Call::Level { pin } => plain(b.level(pin).map(u64::from)),
         Call::Volts { pin } => plain(b.volts(pin).map(bits)),

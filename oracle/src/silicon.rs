@@ -1,7 +1,11 @@
-//! RM0440's general-purpose timer as one machine that is stepped a kernel clock at a time: the definitions of
-//! crates/rm0440/specs (Rules, State, Clock, Write, Read, Level), function by function under their names, to be run. Both
+//! RM0440's general-purpose timer as one machine that is stepped a kernel clock at a time: written by hand from
+//! crates/rm0440/specs (Rules, State, Clock, Write, Read, Level), by the same names, to be run. Both
 //! rules of a disagreement stand at the one place that it concerns. Sentences in quotation marks paraphrase the manual,
 //! from memory of its text or as documents 01 and 02 give it; F-n is a request of document 02.
+//!
+//! Where it is not the definitions: `answered` keeps the part of the step where `overrun` wraps, and `overrun` asks whether the counter is
+//! blocked (docs/DECISIONS.md, "Known and not mended"); a write of EGR without UG and one of ARR with ARPE can turn a centre-aligned
+//! counter (F-8); CCMR has `ccs-locked`; the count that is read is kept beside the counter (`shown`, `clamp-down`).
 
 pub mod cases;
 pub mod timeline;

@@ -1,4 +1,4 @@
-//! The example of docs/CALLS.md and document 01's bench figures, through calls.
+//! The lists of docs/CALLS.md and docs/BOARD.md and document 01's bench figures, through calls.
 
 mod common;
 use common::{expect, play, with, BOARD};
@@ -9,6 +9,21 @@ fn example_of_the_format() {
     let block = doc.split("```").nth(1).expect("CALLS.md has one example");
     assert!(block.lines().filter(|l| l.contains("# ")).count() == 13);
     expect(block);
+}
+
+/// The answer of each call stands behind `# `, a remark behind two spaces.
+#[test]
+fn lists_of_the_board_page() {
+    let page = include_str!("../../docs/BOARD.md");
+    let lists: Vec<&str> = page.split("```").skip(1).step_by(2).collect();
+    assert_eq!(lists.len(), 3);
+    for list in lists {
+        let bare = |line: &str| {
+            let (call, answer) = line.split_once("# ").unwrap_or_else(|| panic!("no answer: {line}"));
+            format!("{call}# {}\n", answer.split("  ").next().unwrap())
+        };
+        expect(&list.trim().lines().map(bare).collect::<String>());
+    }
 }
 
 #[test]

@@ -4,6 +4,31 @@
 //! The only `unsafe` of the crate. No exported function asks anything of its arguments. What is left to this file: the
 //! pointers are live, do not overlap, and are as long as said. The state's two lengths are the library's own,
 //! [`words`] and [`reals`], and a [`State`] cannot be made with others. A shift's two are in the types, [`KEPT`] and [`FIGURES`].
+//!
+//! ```
+//! use board::ffi::{Book, State};
+//!
+//! // One timer, TIM2, and one pin whose function 1 is its first channel.
+//! let mut table = [0; 16];
+//! table[1] = 194;
+//! let mut state = State::new();
+//! assert_eq!(state.set_up(16e6, 3.3, 1, 0, &[2, 32, 4, 1, 3, 0, 0], &table).number, 0);
+//!
+//! // A pin set to an output that is high: one entry, in place 0 of the lent book.
+//! let (mut pins, mut levels, mut cycles) = ([0; 4], [0; 4], [0; 4]);
+//! let mut book = Book { pins: &mut pins, levels: &mut levels, cycles: &mut cycles };
+//! let answer = state.set_pin(&mut book, 0, 1, 0, 1, 0, 0, 0, 20);
+//! assert_eq!((answer.number, answer.count), (0, 1));
+//! assert_eq!((pins[0], levels[0], cycles[0]), (0, 1, 20));
+//!
+//! // The duty report of what the book holds, from cycle 0 to 100.
+//! use board::ffi::{begin, end, feed, FIGURES, KEPT};
+//! let (mut kept, mut figures) = ([0; KEPT], [0; FIGURES]);
+//! begin(&mut kept, &[0; 4], 0, 100);
+//! feed(&mut kept, &pins[..1], &levels[..1], &cycles[..1]);
+//! let summary = end(&kept, &mut figures);
+//! assert_eq!((summary.number, summary.high, &figures[..3]), (0, 1, &[80, 20, 1][..]));
+//! ```
 
 /// What every call answers.
 #[repr(C)]
@@ -50,37 +75,37 @@ pub struct Summary {
     pub high: u32,
 }
 
-// The declarations must be the exports of crates/board; nothing but the comparisons checks them.
+// The exports of crates/board: tests/header.rs holds these declarations to them, and those of include/pilot_timer.h.
 unsafe extern "C" {
     safe fn board_words() -> usize;
     safe fn board_reals() -> usize;
-    fn board_blank(w: *mut u64, r: *mut f64);
-    fn board_set_up(w: *mut u64, r: *mut f64, hz: f64, vcc: f64, pins: u32, lines: u32, timers: *const u32, timers_len: usize, table: *const u32, table_len: usize) -> Answer;
-    fn board_set_clock_tree(w: *mut u64, r: *mut f64, sysclk_hz: f64, hclk_hz: f64, ppre1: u32, ppre2: u32, ppre3: u32, ppre4: u32, tim1: u32, tim2: u32, cycle: u64) -> Answer;
-    fn board_enable(w: *mut u64, r: *mut f64, word: u32, value: u32) -> Answer;
-    fn board_set_pin(w: *mut u64, r: *mut f64, pin: u32, mode: u32, open_drain: u32, out: u32, pullup: u32, pulldown: u32, function: u32, cycle: u64, p: *mut u8, np: usize, l: *mut u8, nl: usize, c: *mut u64, nc: usize) -> Answer;
-    fn board_drive_pin(w: *mut u64, r: *mut f64, pin: u32, kind: u32, volts: f64, cycle: u64, p: *mut u8, np: usize, l: *mut u8, nl: usize, c: *mut u64, nc: usize) -> Answer;
-    fn board_reset_pins(w: *mut u64, r: *mut f64, cycle: u64, p: *mut u8, np: usize, l: *mut u8, nl: usize, c: *mut u64, nc: usize) -> Answer;
-    fn board_read(w: *const u64, r: *const f64, timer: u32, offset: u32, size: u32, cycle: u64) -> Answer;
-    fn board_write(w: *mut u64, r: *mut f64, timer: u32, offset: u32, size: u32, value: u32, cycle: u64, p: *mut u8, np: usize, l: *mut u8, nl: usize, c: *mut u64, nc: usize) -> Answer;
-    fn board_peek(w: *const u64, r: *const f64, timer: u32, offset: u32, cycle: u64) -> Answer;
-    fn board_reset(w: *mut u64, r: *mut f64, timer: u32, cycle: u64, p: *mut u8, np: usize, l: *mut u8, nl: usize, c: *mut u64, nc: usize) -> Answer;
-    fn board_deliver(w: *mut u64, r: *mut f64, timer: u32, cycle: u64, p: *mut u8, np: usize, l: *mut u8, nl: usize, c: *mut u64, nc: usize) -> Answer;
-    fn board_booked(w: *const u64, r: *const f64, timer: u32) -> Answer;
-    fn board_next(w: *const u64, r: *const f64) -> Answer;
-    fn board_level(w: *const u64, r: *const f64, pin: u32) -> Answer;
-    fn board_volts(w: *const u64, r: *const f64, pin: u32) -> Answer;
-    fn board_line(w: *const u64, r: *const f64, irq: u32) -> Answer;
-    fn board_time(w: *const u64, r: *const f64, cycle: u64) -> Answer;
-    fn board_clear_pending(w: *mut u64, r: *mut f64, irq: u32) -> Answer;
+    fn board_blank(words: *mut u64, reals: *mut f64);
+    fn board_set_up(words: *mut u64, reals: *mut f64, hz: f64, vcc: f64, pins: u32, lines: u32, timers: *const u32, timers_len: usize, table: *const u32, table_len: usize) -> Answer;
+    fn board_set_clock_tree(words: *mut u64, reals: *mut f64, sysclk_hz: f64, hclk_hz: f64, ppre1: u32, ppre2: u32, ppre3: u32, ppre4: u32, tim1: u32, tim2: u32, cycle: u64) -> Answer;
+    fn board_enable(words: *mut u64, reals: *const f64, word: u32, value: u32) -> Answer;
+    fn board_set_pin(words: *mut u64, reals: *mut f64, pin: u32, mode: u32, open_drain: u32, out: u32, pullup: u32, pulldown: u32, function: u32, cycle: u64, pins: *mut u8, pins_len: usize, levels: *mut u8, levels_len: usize, cycles: *mut u64, cycles_len: usize) -> Answer;
+    fn board_drive_pin(words: *mut u64, reals: *mut f64, pin: u32, kind: u32, volts: f64, cycle: u64, pins: *mut u8, pins_len: usize, levels: *mut u8, levels_len: usize, cycles: *mut u64, cycles_len: usize) -> Answer;
+    fn board_reset_pins(words: *mut u64, reals: *mut f64, cycle: u64, pins: *mut u8, pins_len: usize, levels: *mut u8, levels_len: usize, cycles: *mut u64, cycles_len: usize) -> Answer;
+    fn board_read(words: *const u64, reals: *const f64, timer: u32, offset: u32, size: u32, cycle: u64) -> Answer;
+    fn board_write(words: *mut u64, reals: *mut f64, timer: u32, offset: u32, size: u32, value: u32, cycle: u64, pins: *mut u8, pins_len: usize, levels: *mut u8, levels_len: usize, cycles: *mut u64, cycles_len: usize) -> Answer;
+    fn board_peek(words: *const u64, reals: *const f64, timer: u32, offset: u32, cycle: u64) -> Answer;
+    fn board_reset(words: *mut u64, reals: *mut f64, timer: u32, cycle: u64, pins: *mut u8, pins_len: usize, levels: *mut u8, levels_len: usize, cycles: *mut u64, cycles_len: usize) -> Answer;
+    fn board_deliver(words: *mut u64, reals: *mut f64, timer: u32, cycle: u64, pins: *mut u8, pins_len: usize, levels: *mut u8, levels_len: usize, cycles: *mut u64, cycles_len: usize) -> Answer;
+    fn board_booked(words: *const u64, reals: *const f64, timer: u32) -> Answer;
+    fn board_next(words: *const u64, reals: *const f64) -> Answer;
+    fn board_level(words: *const u64, reals: *const f64, pin: u32) -> Answer;
+    fn board_volts(words: *const u64, reals: *const f64, pin: u32) -> Answer;
+    fn board_line(words: *const u64, reals: *const f64, irq: u32) -> Answer;
+    fn board_time(words: *const u64, reals: *const f64, cycle: u64) -> Answer;
+    fn board_clear_pending(words: *mut u64, reals: *const f64, irq: u32) -> Answer;
 }
 
 // The exports of crates/shift.
 unsafe extern "C" {
     fn shift_begin(kept: *mut u64, words: *const u32, from: u64, to: u64);
-    fn shift_feed(kept: *mut u64, p: *const u8, np: usize, l: *const u8, nl: usize, c: *const u64, nc: usize);
+    fn shift_feed(kept: *mut u64, pins: *const u8, pins_len: usize, levels: *const u8, levels_len: usize, cycles: *const u64, cycles_len: usize);
     fn shift_end(kept: *const u64, figures: *mut u64) -> Summary;
-    fn shift_report(figures: *mut u64, words: *const u32, from: u64, to: u64, p: *const u8, np: usize, l: *const u8, nl: usize, c: *const u64, nc: usize) -> Summary;
+    fn shift_report(figures: *mut u64, words: *const u32, from: u64, to: u64, pins: *const u8, pins_len: usize, levels: *const u8, levels_len: usize, cycles: *const u64, cycles_len: usize) -> Summary;
 }
 
 /// A call that reads the state.
@@ -123,13 +148,18 @@ impl Default for State {
 }
 
 /// The exported functions, as they are. [`Board`](crate::Board) says what each does.
-#[allow(missing_docs, clippy::too_many_arguments)]
+#[allow(clippy::too_many_arguments)]
 impl State {
-    /// The first board.
+    /// The first board: no timers, pins or lines.
     pub fn new() -> Self {
         let mut s = Self { words: vec![0; words()].into(), reals: vec![0.0; reals()].into() };
         s.blank();
         s
+    }
+
+    /// A state of these words and floats; `None` if they are not as many as the library has. Every content is a board.
+    pub fn of(words: Box<[u64]>, reals: Box<[f64]>) -> Option<Self> {
+        (words.len() == self::words() && reals.len() == self::reals()).then_some(Self { words, reals })
     }
 
     /// The state's words, in a layout that is the library's alone.
@@ -153,100 +183,116 @@ impl State {
         self.words == other.words && self.reals.iter().zip(&other.reals).all(|(a, b)| a.to_bits() == b.to_bits())
     }
 
+    /// The first board again.
     #[inline]
     pub fn blank(&mut self) {
         change!(board_blank, self)
     }
 
-    /// `timers`: seven numbers each. `table`: 16 signals a pin.
+    /// Set up. `timers`: seven numbers each, as in [`TimerSpec`](crate::TimerSpec). `table`: 16 signals a pin.
     #[inline]
     pub fn set_up(&mut self, hz: f64, vcc: f64, pins: u32, lines: u32, timers: &[u32], table: &[u32]) -> Answer {
         change!(board_set_up, self, hz, vcc, pins, lines, timers.as_ptr(), timers.len(), table.as_ptr(), table.len())
     }
 
-    /// `dividers`: PPRE1 to PPRE4, TIM1, TIM2.
+    /// Changes the clock tree. `dividers`: PPRE1 to PPRE4, TIM1, TIM2.
     #[inline]
     pub fn set_clock_tree(&mut self, sysclk_hz: f64, hclk_hz: f64, dividers: [u32; 6], cycle: u64) -> Answer {
         let [ppre1, ppre2, ppre3, ppre4, tim1, tim2] = dividers;
         change!(board_set_clock_tree, self, sysclk_hz, hclk_hz, ppre1, ppre2, ppre3, ppre4, tim1, tim2, cycle)
     }
 
+    /// Writes an enable word.
     #[inline]
     pub fn enable(&mut self, word: u32, value: u32) -> Answer {
         change!(board_enable, self, word, value)
     }
 
+    /// Sets a pin; `mode` 0 to 3, `function` mod 16, the others yes or no.
     #[inline]
     pub fn set_pin(&mut self, book: &mut Book, pin: u32, mode: u32, open_drain: u32, out: u32, pullup: u32, pulldown: u32, function: u32, cycle: u64) -> Answer {
         lend!(board_set_pin, self, book, pin, mode, open_drain, out, pullup, pulldown, function, cycle)
     }
 
-    /// `kind`: 1 low, 2 high, 3 analogue, else nothing.
+    /// Drives a pin from outside. `kind`: 1 low, 2 high, 3 analogue, else nothing.
     #[inline]
     pub fn drive_pin(&mut self, book: &mut Book, pin: u32, kind: u32, volts: f64, cycle: u64) -> Answer {
         lend!(board_drive_pin, self, book, pin, kind, volts, cycle)
     }
 
+    /// Pin reset.
     #[inline]
     pub fn reset_pins(&mut self, book: &mut Book, cycle: u64) -> Answer {
         lend!(board_reset_pins, self, book, cycle)
     }
 
+    /// Reads a register.
     #[inline]
     pub fn read(&self, timer: u32, offset: u32, size: u32, cycle: u64) -> Answer {
         ask!(board_read, self, timer, offset, size, cycle)
     }
 
+    /// Writes a register.
     #[inline]
     pub fn write(&mut self, book: &mut Book, timer: u32, offset: u32, size: u32, value: u32, cycle: u64) -> Answer {
         lend!(board_write, self, book, timer, offset, size, value, cycle)
     }
 
+    /// A register, whatever the clock gate.
     #[inline]
     pub fn peek(&self, timer: u32, offset: u32, cycle: u64) -> Answer {
         ask!(board_peek, self, timer, offset, cycle)
     }
 
+    /// Timer reset.
     #[inline]
     pub fn reset(&mut self, book: &mut Book, timer: u32, cycle: u64) -> Answer {
         lend!(board_reset, self, book, timer, cycle)
     }
 
+    /// Delivers what is due.
     #[inline]
     pub fn deliver(&mut self, book: &mut Book, timer: u32, cycle: u64) -> Answer {
         lend!(board_deliver, self, book, timer, cycle)
     }
 
+    /// A timer's booked cycle, 2^64 - 1 if none.
     #[inline]
     pub fn booked(&self, timer: u32) -> Answer {
         ask!(board_booked, self, timer)
     }
 
+    /// The least booked cycle, 2^64 - 1 if none.
     #[inline]
     pub fn next(&self) -> Answer {
         ask!(board_next, self)
     }
 
+    /// A pin's level.
     #[inline]
     pub fn level(&self, pin: u32) -> Answer {
         ask!(board_level, self, pin)
     }
 
+    /// A pin's volts, as bits.
     #[inline]
     pub fn volts(&self, pin: u32) -> Answer {
         ask!(board_volts, self, pin)
     }
 
+    /// An interrupt line: 1 if high plus 2 if pending.
     #[inline]
     pub fn line(&self, irq: u32) -> Answer {
         ask!(board_line, self, irq)
     }
 
+    /// The time of a cycle in seconds, as bits.
     #[inline]
     pub fn time(&self, cycle: u64) -> Answer {
         ask!(board_time, self, cycle)
     }
 
+    /// Clears a pending interrupt.
     #[inline]
     pub fn clear_pending(&mut self, irq: u32) -> Answer {
         change!(board_clear_pending, self, irq)

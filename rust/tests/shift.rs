@@ -1,10 +1,10 @@
 //! The duty report: what the types add, and document 02's sentences on small shifts. Random books are compare's matter.
 
 use board::ffi;
-use board::{Duty, Entry, Error, PinReport, Report, Shift, PINS};
+use board::{Disorder, Duty, Entry, Error, PINS, PinReport, Report, Shift};
 
 fn e(pin: u8, level: u8, cycle: u64) -> Entry {
-    Entry { pin, level, cycle }
+    Entry::new(pin, level, cycle)
 }
 
 /// The report in one piece, checked to be the one of one entry at a time and of one book.
@@ -61,14 +61,53 @@ fn empty_shift() {
 
 #[test]
 fn refusals() {
-    assert_eq!(report([0; 4], 6, 5, &[]), Err(Error::ShiftReversed));
+    let reversed = Error::ShiftReversed { from: 6, to: 5 };
+    assert_eq!(report([0; 4], 6, 5, &[]), Err(reversed));
     // 9 goes before 10.
-    assert_eq!(report([0; 4], 6, 5, &[e(128, 2, 0)]), Err(Error::ShiftReversed));
-    for bad in [&[e(128, 0, 0)][..], &[e(0, 2, 0)], &[e(0, 1, 2), e(0, 1, 1)], &[e(0, 1, 99), e(1, 1, 5), e(0, 0, 98)]] {
-        assert_eq!(report([0; 4], 5, 9, bad), Err(Error::BookOutOfOrder), "{bad:?}");
+    assert_eq!(report([0; 4], 6, 5, &[e(128, 2, 0)]), Err(reversed));
+    // The first of several is named.
+    for (bad, place, last, why) in [
+        (&[e(128, 0, 0)][..], 0, 0, "entry 0, 128:0@0, has no pin of 0 to 127"),
+        (&[e(1, 0, 4), e(0, 2, 0), e(255, 0, 0)], 1, 0, "entry 1, 0:2@0, has no level of 0 or 1"),
+        (&[e(0, 1, 2), e(0, 1, 1), e(0, 0, 0)], 1, 2, "entry 1, 0:1@1, is before its pin's last, 2"),
+        (&[e(0, 1, 99), e(1, 1, 5), e(0, 0, 98)], 2, 99, "entry 2, 0:0@98, is before its pin's last, 99"),
+    ] {
+        let Entry { pin, level, cycle, .. } = bad[place];
+        let wanted = Error::BookOutOfOrder(Disorder { place: place as u64, pin, level, cycle, last });
+        assert_eq!(report([0; 4], 5, 9, bad), Err(wanted));
+        assert_eq!(wanted.to_string(), format!("book out of order: {why}"));
     }
     // Only a pin's own order counts.
     assert!(report([0; 4], 5, 9, &[e(0, 1, 99), e(1, 1, 5)]).is_ok());
+}
+
+/// The library gives 10 exactly where an entry is named, on small random books.
+#[test]
+fn ten_is_always_explained() {
+    let mut seed = 7u64;
+    let mut below = |n: u64| {
+        seed = seed.wrapping_mul(6364136223846793005).wrapping_add(1442695040888963407);
+        (seed >> 33) % n
+    };
+    let mut named = 0;
+    for _ in 0..20_000 {
+        let entries: Vec<_> = (0..below(8))
+            .map(|i| e(if below(40) == 0 { 128 } else { below(3) as u8 }, if below(40) == 0 { 2 } else { below(2) as u8 }, 3 * i + below(5)))
+            .collect();
+        let first = (0..entries.len()).find(|&i| {
+            let e = entries[i];
+            e.pin > 127 || e.level > 1 || entries[..i].iter().rfind(|b| b.pin == e.pin).is_some_and(|b| e.cycle < b.cycle)
+        });
+        match (report([0; 4], 0, 20, &entries), first) {
+            (Ok(_), None) => {}
+            (Err(Error::BookOutOfOrder(d)), Some(i)) => {
+                assert_eq!((d.place, e(d.pin, d.level, d.cycle)), (i as u64, entries[i]));
+                named += 1;
+            }
+            other => panic!("{other:?}: {entries:?}"),
+        }
+    }
+    assert!(named > 1000 && named < 19_000, "{named}");
 }
 
 #[test]

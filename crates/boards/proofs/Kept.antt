@@ -59,7 +59,7 @@ later b cycle le h j l = let o = h j l in record { timed = o .timed; based = ome
 pub at-place : (b : Board) (i : ℕ) (t : Timer) → length (b .timers) ≡ 8 → b .counts .timers ≤ 8 → i < b .counts .timers → timerAt (withTimer b i t) i ≡ t
 at-place b i t s f l = getD-set-same (b .timers) i t noTimer (omega (arith, s))
 
-elsewhere : (b : Board) (i j : ℕ) (t : Timer) → (j ≡ i → ⊥) → timerAt (withTimer b i t) j ≡ timerAt b j
+pub elsewhere : (b : Board) (i j : ℕ) (t : Timer) → (j ≡ i → ⊥) → timerAt (withTimer b i t) j ≡ timerAt b j
 elsewhere b i j t n = getD-set-other (b .timers) i j t noTimer n
 
 -- of the same build

@@ -1,4 +1,4 @@
--- What a delivery and a write do to a timer of a board that calls lead to: the statement of specs/Boards.antt. Assumes nothing.
+-- What a delivery and a write do to a timer of a board that calls lead to, of the statement of specs/Boards.antt. Assumes nothing.
 use mathlib.Core.Path.{_≡_, refl, sym, ap, _∙_, subst}
 use mathlib.Core.Bool.{Bool, true, false, cond, not, _&&_, _||_}
 use mathlib.Core.List.{List}
@@ -31,19 +31,19 @@ use Rattle.machine.specs.Step.{refuseIf, absent, oddSize, cycleAstray, bookFull
 use Rattle.machine.specs.Sound.{Sound}
 use Rattle.machine.proofs.Routing.{either}
 use Rattle.machine.proofs.Reach.{sound-after}
-use Rattle.boards.specs.Boards.{divOf, after, merged, Boards, StepDelivers, StepWrites}
+use Rattle.boards.specs.Boards.{divOf, after, merged, StepDelivers, StepWrites}
 use Rattle.boards.proofs.Kept.{at-place, not-astray, kept-after}
 
-never : (n : ℕ) → suc n ≡ 0 → ⊥
+pub never : (n : ℕ) → suc n ≡ 0 → ⊥
 never n e = omega arith
 
 -- ---- a delivery's timer is follows'
 
-due-same : (d : Due) (c : ℕ) → dueBy d c ≡ S.dueBy d c
+pub due-same : (d : Due) (c : ℕ) → dueBy d c ≡ S.dueBy d c
 due-same (At x e) c = refl
 due-same Stopped c = refl
 
-turn-same : (t : Timer) (p : Pads) (d : Due) (div : ℕ) → turnOf t p d div .timer ≡ S.applied t div d
+pub turn-same : (t : Timer) (p : Pads) (d : Due) (div : ℕ) → turnOf t p d div .timer ≡ S.applied t div d
 unfolding turn
 turn-same t p (At x Update) div = refl
 turn-same t p (At x (Compare ch)) div = refl
@@ -69,7 +69,7 @@ nothing-left : (q : Bool) → _≡_ {A = ℕ} (cond q 8 0) 0 → q ≡ false
 nothing-left true z = absurd (never 7 z)
 nothing-left false z = refl
 
-run-same : (f now div left : ℕ) (t : Timer) (p : Pads) → run f now div left t p .number ≡ 0 → Handled f now div t (run f now div left t p)
+pub run-same : (f now div left : ℕ) (t : Timer) (p : Pads) → run f now div left t p .number ≡ 0 → Handled f now div t (run f now div left t p)
 unfolding run S.deliver
 run-same zero now div left t p z = (refl, sym (due-same (nextEvent t) now) ∙ nothing-left (dueBy (nextEvent t) now) z)
 run-same (suc f) now div left t p z =
@@ -86,17 +86,17 @@ pub record Passed (c : Bool) (x o : Outcome) : Type 0 where
   pub is : x ≡ o
   pub number : o .number ≡ 0
 
-peel : (c : Bool) (n : ℕ) (b : Board) (o : Outcome) → (n ≡ 0 → ⊥) → refuseIf c n b o .number ≡ 0 → Passed c (refuseIf c n b o) o
+pub peel : (c : Bool) (n : ℕ) (b : Board) (o : Outcome) → (n ≡ 0 → ⊥) → refuseIf c n b o .number ≡ 0 → Passed c (refuseIf c n b o) o
 peel true n b o ne z = absurd (ne z)
 peel false n b o ne z = record { test = refl; is = refl; number = z }
 
 module _ (b : Board) (s : Sound b) (i cycle : ℕ) (l : i < b .counts .timers) where
   -- its timer, after a delivery and after a write
-  delivered-timer : (places : ℕ) → timerAt (deliveredTo b i cycle places .board) i ≡ delivered b i cycle places .timer
+  pub delivered-timer : (places : ℕ) → timerAt (deliveredTo b i cycle places .board) i ≡ delivered b i cycle places .timer
   unfolding deliveredTo afterDelivery rebooked lineSettled
   delivered-timer places = at-place b i (delivered b i cycle places .timer) (s .timers) (s .few-timers) l
 
-  followed-timer : (w : Written) → timerAt (followed b i cycle w .board) i ≡ w .timer
+  pub followed-timer : (w : Written) → timerAt (followed b i cycle w .board) i ≡ w .timer
   unfolding followed lineSettled rebooked
   followed-timer w =
       let t = w .timer in
@@ -109,7 +109,7 @@ module _ (b : Board) (s : Sound b) (i cycle : ℕ) (l : i < b .counts .timers) w
       z
 
   -- the calls, answered 0
-  delivers-so : (places : ℕ) → step b (C.deliver i cycle places) .number ≡ 0 → (step b (C.deliver i cycle places) ≡ deliveredTo b i cycle places) × (deliveredTo b i cycle places .number ≡ 0)
+  pub delivers-so : (places : ℕ) → step b (C.deliver i cycle places) .number ≡ 0 → (step b (C.deliver i cycle places) ≡ deliveredTo b i cycle places) × (deliveredTo b i cycle places .number ≡ 0)
   unfolding step
   delivers-so places z =
       let p1 = peel (absent i (b .counts .timers)) 2 b (refuseIf (cycleAstray b cycle) 5 b (refuseIf (bookFull 4 places) 6 b (deliveredTo b i cycle places))) (λ e. omega arith) z in
@@ -117,14 +117,14 @@ module _ (b : Board) (s : Sound b) (i cycle : ℕ) (l : i < b .counts .timers) w
       let p3 = peel (bookFull 4 places) 6 b (deliveredTo b i cycle places) (λ e. omega arith) (p2 .number) in
       (p1 .is ∙ p2 .is ∙ p3 .is, p3 .number)
 
-  handled : (places : ℕ) → deliveredTo b i cycle places .number ≡ 0 → Handled mostEvents cycle (divOf b i) (timerAt b i) (delivered b i cycle places)
+  pub handled : (places : ℕ) → deliveredTo b i cycle places .number ≡ 0 → Handled mostEvents cycle (divOf b i) (timerAt b i) (delivered b i cycle places)
   unfolding deliveredTo delivered
   handled places z = run-same mostEvents cycle (divOf b i) places (timerAt b i) (b .pads) z
 
   abbrev w : ℕ → ℕ → ℕ → Written
   w offset size value = written b (timerAt b i) offset size value cycle
 
-  writes-so : (offset size value places : ℕ) → clockOn b (timerAt b i) ≡ true → step b (C.write i offset size value cycle places) .number ≡ 0
+  pub writes-so : (offset size value places : ℕ) → clockOn b (timerAt b i) ≡ true → step b (C.write i offset size value cycle places) .number ≡ 0
       → (step b (C.write i offset size value cycle places) ≡ followed b i cycle (w offset size value)) × (cycleAstray b cycle ≡ false)
   unfolding step
   writes-so offset size value places on z =
@@ -138,13 +138,13 @@ module _ (b : Board) (s : Sound b) (i cycle : ℕ) (l : i < b .counts .timers) w
       let p5 = peel (counterAstray (register offset) (w offset size value .timer)) 7 b (followed b i cycle (w offset size value)) (λ e. omega arith) (ap (λ (o : Outcome). o .number) (sym on4) ∙ p4 .number) in
       (p1 .is ∙ p2 .is ∙ p3 .is ∙ p4 .is ∙ on4 ∙ p5 .is, p3 .test)
 
-  written-is : (offset size value : ℕ) → w offset size value .timer ≡ R.regWritten (timerAt b i) (register offset) (merged b i offset size value cycle) cycle (divOf b i) .timer
+  pub written-is : (offset size value : ℕ) → w offset size value .timer ≡ R.regWritten (timerAt b i) (register offset) (merged b i offset size value cycle) cycle (divOf b i) .timer
   unfolding written
   written-is offset size value = refl
 
 -- ---- the statement
 
-delivers : StepDelivers
+pub delivers : StepDelivers
 delivers cs i a cycle places l h from le d z =
     let b = after cs in
     let s = sound-after cs in
@@ -153,12 +153,12 @@ delivers cs i a cycle places l h from le d z =
     let same : timerAt (step b (C.deliver i cycle places) .board) i ≡ delivered b i cycle places .timer =
     ap (λ (o : Outcome). timerAt (o .board) i) (p .0) ∙ delivered-timer b s i cycle l places in
     let left : Delivered (S.deliver mostEvents cycle (divOf b i) (timerAt b i)) cycle = subst (λ (t : Timer). Delivered t cycle) (q .0) (q .1) in (
-      follows .deliveries mostEvents (timerAt b i) (divOf b i) a cycle (record { timed = kept-after cs i l .timed; within = h; came = from }) le d left tt
+      follows .deliveries mostEvents (timerAt b i) (divOf b i) a cycle (record { timed = kept-after cs i l .timed; within = follows .upward (timerAt b i) a from d h; came = from }) le d left tt
           ∙ ap (λ (t : Timer). seen t (divOf b i) cycle) (sym (same ∙ q .0)),
       subst (λ (t : Timer). Delivered t cycle) (sym same) (q .1),
     )
 
-writes : StepWrites
+pub writes : StepWrites
 writes cs f i offset size value cycle places l h d on z within left =
     let b = after cs in
     let s = sound-after cs in
@@ -168,9 +168,7 @@ writes cs f i offset size value cycle places l h d on z within left =
     let same : timerAt (step b (C.write i offset size value cycle places) .board) i ≡ u =
     ap (λ (x : Outcome). timerAt (x .board) i) (p .0) ∙ followed-timer b s i cycle l (written b (timerAt b i) offset size value cycle) ∙ written-is b s i cycle l offset size value in
     let early : b .counts .last ≤ cycle = not-astray b cycle (p .1) in
+    let came : timerAt b i .count .base ≤ cycle = omega (arith, o .based) in
     follows .writes f (timerAt b i) (divOf b i) (register offset) (merged b i offset size value cycle) cycle
-    (record { timed = o .timed; within = h; came = omega (arith, o .based) }) d (subst Within same within) (subst (λ (t : Timer). Delivered (S.deliver f cycle (divOf b i) t) cycle) same left) tt
+    (record { timed = o .timed; within = follows .upward (timerAt b i) cycle came d h; came = came }) d (subst Within same within) (subst (λ (t : Timer). Delivered (S.deliver f cycle (divOf b i) t) cycle) same left) tt
     ∙ ap (λ (t : Timer). seen (S.deliver f cycle (divOf b i) t) (divOf b i) cycle) (sym same)
-
-pub boards : Boards
-boards = record { timers = kept-after; delivers = delivers; writes = writes }

@@ -60,7 +60,7 @@ pub fresh-base : (y : Timer) (now div : ℕ) → flaggedUg y now div .count .bas
 unfolding T.restarted T.recomputedAfterUpdate
 fresh-base y now div = refl
 
-ug-seen : (p : Bool) (y : Timer) (now div : ℕ) → seen (T.generated y now div) div now ≡ generated (portRules p) (seen y div now)
+pub ug-seen : (p : Bool) (y : Timer) (now div : ℕ) → seen (T.generated y now div) div now ≡ generated (portRules p) (seen y div now)
 ug-seen p y now div =
     ap (λ (u : Timer). seen u div now) (flagged y now div) ∙ seen-new (flaggedUg y now div) div now (fresh-base y now div) (fresh-within y now div) ∙ fresh-raw p y now div
 
@@ -95,7 +95,7 @@ four-is v y =
     ∙ ap (R.egrMatch v 3) (one-is v 2 (one 1 (isSet 2 v && isOutput y 1) (one 0 (isSet 1 v && isOutput y 0) y)))
     ∙ one-is v 3 (one 2 (isSet 3 v && isOutput y 2) (one 1 (isSet 2 v && isOutput y 1) (one 0 (isSet 1 v && isOutput y 0) y)))
 
-four-seen : (p : Bool) (v : ℕ) (y : Timer) (div now : ℕ) → seen (four v y) div now ≡ generatedCc (portRules p) v (seen y div now)
+pub four-seen : (p : Bool) (v : ℕ) (y : Timer) (div now : ℕ) → seen (four v y) div now ≡ generatedCc (portRules p) v (seen y div now)
 unfolding cntAt T.ccFlag
 four-seen p v y div now = refl
 

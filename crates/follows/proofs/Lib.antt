@@ -1,3 +1,4 @@
+pub mod Figures
 pub mod Leap
 pub mod Place
 pub mod Periodic
@@ -24,5 +25,8 @@ pub mod Ports
 pub mod Lasting
 pub mod Written
 pub mod Settled
+pub mod LateWrites
+pub mod Series
+pub mod Fits
 pub mod Theorem
 pub mod Lists

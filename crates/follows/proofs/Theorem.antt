@@ -1,25 +1,33 @@
 -- The port follows the machine: the statement of specs/Follows.antt. Assumes nothing.
 use Prim.Native.Nat.{ℕ, _+_, _-_, _≤_}
 use mathlib.Core.Path.{_≡_, refl, sym, ap, _∙_}
-use mathlib.Core.Bool.{Bool, cond}
+use mathlib.Core.Bool.{Bool, true, false, cond}
+use mathlib.Core.Logic.{inl}
 use native.Mathlib.Nat.{min-eq-right}
 use native.Mathlib.Omega.{arith}
 use Rattle.rm0440.specs.Counter.{tickDown, after}
 use Rattle.rm0440.specs.Read.{readChannel, read}
 use Rattle.rm0440.specs.Level.{level}
+use Rattle.rm0440.specs.Clock.{matched}
+use Rattle.rm0440.specs.Write.{write}
 use Rattle.rm0440.proofs.SameClock.{clock-same, clocks-same}
 use Rattle.rm0440.proofs.SameEgr.{write-same}
+use Rattle.tim.specs.declared.Timer.{Timer}
 use Rattle.tim.specs.declared.Inst.{Inst}
 use Rattle.tim.specs.Count.{ticksAt, cntAt}
 use Rattle.tim.specs.Change as T
 use Rattle.regs.specs.Regs as R
 use Rattle.regs.proofs.Fixed.{inst-written}
-use Rattle.follows.specs.Seen.{rulesOf, seen}
-use Rattle.follows.specs.Follows.{between, Deliveries, Writes, Late, Reads, Outputs, Stays, Resets, Retimes, Goes, AboveReload, ClampDown, ClocksAgree, WritesAgree, Undisputed, Follows}
+use Rattle.follows.specs.Seen.{seen, rulesOf, Left, written, deliver}
+use Rattle.follows.specs.Follows.{between, Deliveries, Writes, Late, Reads, Outputs, Stays, Resets, Retimes, Goes, AboveReload, ClampDown, ClocksAgree, WritesAgree, Undisputed, acts, LateWrites, Follows}
 use Rattle.follows.proofs.Delivered as D
+use Rattle.follows.proofs.Standing.{Near}
 use Rattle.follows.proofs.Ports as P
 use Rattle.follows.proofs.Written as W
 use Rattle.follows.proofs.Settled as S
+use Rattle.follows.proofs.LateWrites as L
+use Rattle.follows.proofs.Series.{deliveries-due, splits, upward}
+use Rattle.follows.proofs.Fits.{fits-stay}
 use Rattle.follows.proofs.Lasting.{updated-within}
 use Rattle.stepping.proofs.Agrees.{counts-overflown, counts-down-clamped, event-overflown}
 
@@ -59,6 +67,21 @@ clamp-down t c r d l =
       ap (λ (b : Bool). cond b (t .count .cnt0 + 1) (t .count .«arr_act» + 1 - t .count .cnt0)) d,
     )
 
+late-writes : LateWrites
+late-writes f t div off v now k h e =
+    let w = L.late-write t div (k .timed) now (k .came) off v h in
+    ap (write (rulesOf t) off v) (late t div now k) ∙ w .same ∙ go (acts off v (seen t div now)) (w .near)
+  where
+    u : Timer
+    u = written t off v now div
+
+    l : Left div now u
+    l = P.left t div (k .timed) now (k .came) off v
+
+    go : (a : Bool) → (a ≡ true → Near u now) → cond a (matched (rulesOf t) (seen u div now)) (seen u div now) ≡ cond a (seen (deliver f now div u) div now) (seen u div now)
+    go true near = S.settles u div (l .timed) h now (l .based) f (inl (near refl)) e
+    go false near = refl
+
 pub follows : Follows
 follows = record {
   deliveries = deliveries;
@@ -77,4 +100,9 @@ follows = record {
   writes-agree = write-same;
   deliveries-manual = λ f t div a c k le d e u. sym (clocks-same (rulesOf t) (seen t div a) (between t div a c) (u .fits) (u .outside)) ∙ deliveries f t div a c k le d e tt;
   writes-manual = λ f t div off v now k d h e o. sym (write-same (rulesOf t) off v (seen t div now) o) ∙ writes f t div off v now k d h e tt;
+  late-writes = late-writes;
+  deliveries-due = deliveries-due;
+  splits = splits;
+  upward = upward;
+  fits-stay = fits-stay;
 }

@@ -5,13 +5,16 @@
 -- The proof: proofs/Theorem.antt.
 use Prim.Native.Nat.{ℕ, suc, _+_, _-_, _%_, _≤_, _<_}
 use mathlib.Core.Path.{_≡_}
-use mathlib.Core.Bool.{true, false, cond}
+use mathlib.Core.Bool.{Bool, true, false, cond, not}
+use lib.Dec.{eqb}
 use lib.ListN.{getD}
+use Rattle.rm0440.specs.Bits.{isSet, ARPE}
+use Rattle.rm0440.specs.Output.{OCxPE}
 use Rattle.rm0440.specs.Counter.{tickUp, tickDown, after}
 use Rattle.rm0440.specs.Rules.{Rules, manual}
 use Rattle.rm0440.specs.State as M
-use Rattle.rm0440.specs.Clock.{clock, clocks}
-use Rattle.rm0440.specs.Write.{write, reset}
+use Rattle.rm0440.specs.Clock.{matched, clock, clocks}
+use Rattle.rm0440.specs.Write.{isCcr, ccrChannel, write, reset}
 use Rattle.rm0440.specs.Read.{read}
 use Rattle.rm0440.specs.Level.{level}
 use Rattle.rm0440.specs.Late.{passes}
@@ -24,8 +27,8 @@ use Rattle.tim.specs.Timer.{down, isOutput, ccrAct}
 use Rattle.tim.specs.Count.{ticksAt, cntAt, synced}
 use Rattle.tim.specs.Next.{updateSteps, nextSteps, nextEvent}
 use Rattle.tim.specs.Change.{updated, output, resetState, retimed}
-use Rattle.regs.specs.Regs.{regRead, regWritten}
-use Rattle.follows.specs.Seen.{rulesOf, clocksAt, per, seen, Timed, Within, dueBy, deliver}
+use Rattle.regs.specs.Regs.{regRead}
+use Rattle.follows.specs.Seen.{clocksAt, per, seen, rulesOf, Timed, Within, written, dueBy, deliver}
 
 -- nothing is due at a cycle
 abbrev pub Delivered : Timer → ℕ → Type 0
@@ -53,8 +56,8 @@ Deliveries r P =
 abbrev pub Writes : (Timer → Rules) → (Timer → ℕ → ℕ → M.Timer → Type 0) → Type 0
 Writes r P =
     (f : ℕ) (t : Timer) (div off v now : ℕ) → Call t div now → Delivered t now
-    → Within (regWritten t off v now div .timer) → Delivered (deliver f now div (regWritten t off v now div .timer)) now → P t off v (seen t div now)
-    → write (r t) off v (seen t div now) ≡ seen (deliver f now div (regWritten t off v now div .timer)) div now
+    → Within (written t off v now div) → Delivered (deliver f now div (written t off v now div)) now → P t off v (seen t div now)
+    → write (r t) off v (seen t div now) ≡ seen (deliver f now div (written t off v now div)) div now
 
 -- ---- inside the cases and outside: the rules of the timer
 
@@ -91,7 +94,56 @@ Retimes =
 
 -- what a write leaves, with events due or not, is again such a timer
 abbrev pub Goes : Type 0
-Goes = (t : Timer) (div off v now : ℕ) → Call t div now → Within (regWritten t off v now div .timer) → Call (regWritten t off v now div .timer) div now
+Goes = (t : Timer) (div off v now : ℕ) → Call t div now → Within (written t off v now div) → Call (written t off v now div) div now
+
+-- ---- events due and not delivered
+
+-- a write of these acts at once: CR1, UG, CNT, ARR without ARPE, CCMRx, CCRx without OCxPE; of the others the value is only stored
+abbrev pub actsChannel : ℕ → M.Timer → Bool
+actsChannel off s =
+    cond (eqb (s .channels) 0) false
+    (cond (eqb off 0x18) true
+    (cond (eqb off 0x1c) true
+    (cond (eqb off 0x20) false (cond (isCcr off) (not (OCxPE (M.byte s (ccrChannel off)))) false))))
+
+abbrev pub acts : ℕ → ℕ → M.Timer → Bool
+acts off v s =
+    cond (eqb off 0x00) true
+    (cond (eqb off 0x04) false
+    (cond (eqb off 0x08) false
+    (cond (eqb off 0x0c) false
+    (cond (eqb off 0x10) false
+    (cond (eqb off 0x14) (isSet 0 v)
+    (cond (eqb off 0x24) true
+    (cond (eqb off 0x28) false
+    (cond (eqb off 0x2c) (not (ARPE (s .cr1))) (actsChannel off s)))))))))
+
+-- a write at any cycle, with events due or not: the machine's write, of the machine of whose clocks the counters alone are seen (`Late`: lost-update,
+-- lost-compare, late-flags). What a write that acts makes due at once is delivered; the others leave it
+abbrev pub LateWrites : Type 0
+LateWrites =
+    (f : ℕ) (t : Timer) (div off v now : ℕ) → Call t div now → Within (written t off v now div) → Delivered (deliver f now div (written t off v now div)) now
+    → write (rulesOf t) off v (passes (rulesOf t) (clocksAt t div now) (seen t div (t .count .base)))
+    ≡ cond (acts off v (seen t div now)) (seen (deliver f now div (written t off v now div)) div now) (seen (written t off v now div) div now)
+
+-- a delivery that leaves nothing due, whatever was due at the reference itself or since: what matches there, and so many kernel clocks from there
+abbrev pub DeliveriesDue : Type 0
+DeliveriesDue =
+    (f : ℕ) (t : Timer) (div c : ℕ) → Call t div c → Delivered (deliver f c div t) c
+    → clocks (rulesOf t) (clocksAt t div c) (matched (rulesOf t) (seen t div (t .count .base))) ≡ seen (deliver f c div t) div c
+
+-- two deliveries are one of as many events: also where the first left more due (8)
+abbrev pub Splits : Type 0
+Splits =
+    (f g : ℕ) (t : Timer) (div a c : ℕ) → a ≤ c → Delivered (deliver g c div (deliver f a div t)) c
+    → deliver (f + g) c div t ≡ deliver g c div (deliver f a div t)
+
+-- upward a counter with nothing due is within its reload: `Within` is asked downward only
+abbrev pub WithinDown : Timer → Type 0
+WithinDown t = down t ≡ true → Within t
+
+abbrev pub Upward : Type 0
+Upward = (t : Timer) (a : ℕ) → t .count .base ≤ a → Delivered t a → WithinDown t → Within t
 
 -- ---- the two cases that no view shows: a running counter above its reload, after which an update leaves it within
 
@@ -115,6 +167,10 @@ Ends = (t : Timer) (x div : ℕ) → Within (updated t x div)
 -- a state whose reload in use fits the timer's width
 abbrev pub Fits : M.Timer → Type 0
 Fits s = s .arr ≤ s .max
+
+-- which clocks keep, with the written one
+abbrev pub FitsStay : Type 0
+FitsStay = (r : Rules) (s : M.Timer) (m : ℕ) → Fits s → M.reg s 11 ≤ s .max → Fits (clocks r m s)
 
 -- n clocks of which none meets a case that rules r leave to the Rust
 pub record Undisputed (r : Rules) (s : M.Timer) (n : ℕ) : Type 0 where
@@ -150,3 +206,9 @@ pub record Follows : Type 0 where
   -- "outside those cases the port is proved equal to the definition"
   pub deliveries-manual : Deliveries (λ t. manual) (λ t. Undisputed (rulesOf t))
   pub writes-manual : Writes (λ t. manual) (λ t. OutsideWrite (rulesOf t))
+  -- events due and not delivered, deliveries one after the other
+  pub late-writes : LateWrites
+  pub deliveries-due : DeliveriesDue
+  pub splits : Splits
+  pub upward : Upward
+  pub fits-stay : FitsStay

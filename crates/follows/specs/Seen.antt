@@ -17,6 +17,7 @@ use Rattle.tim.specs.Timer.{max}
 use Rattle.tim.specs.Count.{cntAt}
 use Rattle.tim.specs.Next.{nextEvent}
 use Rattle.tim.specs.Change as T
+use Rattle.regs.specs.Regs.{regWritten}
 
 -- the rules that it counts by: the Rust's, and in manual mode those that document 02 takes from the manual
 abbrev pub rulesOf : Timer → Rules
@@ -55,7 +56,6 @@ per t = t .count .«psc_act» + 1
 -- at a cycle: the count that is read there, and the kernel clocks since its last step
 abbrev pub seen : Timer → ℕ → ℕ → M.Timer
 seen t div c = M.withCount (raw t) (t .count .running) (cond (t .count .running) (clocksAt t div c % per t) 0) (cntAt t c)
-
 -- ---- the timers that it is a view of
 
 -- its step is that of its prescaler and divider, without CEN it stands, and its record of matches has four places
@@ -74,7 +74,10 @@ pub record Left (div now : ℕ) (t : Timer) : Type 0 where
   pub timed : Timed t div
   pub based : t .count .base ≤ now
 
--- ---- the port's delivery: so many events at most, up to cycle c (crates/machine, Deliver.run)
+-- ---- the port's write of a register, and its delivery: so many events at most, up to cycle c (crates/machine, Deliver.handled)
+
+abbrev pub written : Timer → ℕ → ℕ → ℕ → ℕ → Timer
+written t off v now div = regWritten t off v now div .timer
 
 -- the next event is due by cycle c; a stopped timer has none
 abbrev pub dueBy : Due → ℕ → Bool

@@ -31,7 +31,7 @@ found m = view (m .words) (m .reals)
 abbrev pub leaves : Made → Board
 leaves m = view (m .words₁) (m .reals₁)
 
--- what the function's contract says of board and book (proofs/Joined.antt: `by-call`, `by-bookless`, `by-run-calls`)
+-- what the function's contract says of board and book (proofs/Joined.antt: `by-call`, `by-bookless`; Runs.antt: `by-run-calls`)
 pub record Kept (m : Made) : Type 0 where
   pub board : leaves m ≡ boardAfter (found m) (m .calls)
   pub book : Holds (joined (run (found m) (m .calls))) (m .lent) (m .left) (m .count)

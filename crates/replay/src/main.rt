@@ -15,6 +15,13 @@ use state::WORDS;
 // 100,001 events make at most four entries each: a longer book never matters.
 const PLACES: usize = 400004;
 
+// What a turn leads to: the next, the end of the run, or the end because the list cannot be read.
+const MORE: u8 = 0;
+
+const END: u8 = 1;
+
+const UNREAD: u8 = 2;
+
 // How many places of the book a call is lent: its last number of 64 bits, if the call takes a book.
 fn lent(op: u64, wide: u64) -> usize {
     match op {
@@ -94,7 +101,7 @@ fn lend(
     )
 }
 
-// A line is complete: a call is answered, a reason is told. Whether the run goes on.
+// A line is complete: a call is answered, a reason is told. Whether the run goes on: not when a write has failed.
 fn act(
     event: u8,
     state: &mut [u64; STATE],
@@ -125,7 +132,7 @@ fn act(
             used,
         );
         state[USED] = n as u64;
-        return true;
+        return reply::whole(n);
     }
     let m = reply::malformed(out, used, state[LINE], event);
     state[USED] = m as u64;
@@ -159,7 +166,7 @@ fn pass(
     true
 }
 
-// Reads a part of the list and takes it. Whether there is more.
+// Reads a part of the list and takes it.
 fn turn(
     state: &mut [u64; STATE],
     word: &mut [u8; WORD],
@@ -170,14 +177,17 @@ fn turn(
     levels: &mut [u8; PLACES],
     cycles: &mut [u64; PLACES],
     out: &mut [u8; OUT],
-) -> bool {
+) -> u8 {
     let mut part = io::large_buffer();
     let got = libc::read(0, &mut part);
-    if got <= 0 {
-        return false;
+    if got < 0 {
+        return UNREAD;
+    }
+    if got == 0 {
+        return END;
     }
     let n = io::count(got, &part);
-    pass(
+    if pass(
         &part[..n],
         state,
         word,
@@ -188,11 +198,14 @@ fn turn(
         levels,
         cycles,
         out,
-    )
+    ) {
+        return MORE;
+    }
+    END
 }
 
-// The list has ended, perhaps in the middle of a line.
-fn finish(
+// The line that the list ends in, perhaps an empty one.
+fn last(
     state: &mut [u64; STATE],
     word: &mut [u8; WORD],
     call: &mut [u32; ENCODED],
@@ -207,7 +220,30 @@ fn finish(
     if e != line::GO_ON {
         act(e, state, call, words, reals, pins, levels, cycles, out);
     }
-    reply::flush(out, line::size(state[USED]));
+}
+
+// The list has ended. What could not be read or written is told on standard error: the
+// language has no exit status.
+fn finish(
+    told: u8,
+    state: &mut [u64; STATE],
+    word: &mut [u8; WORD],
+    call: &mut [u32; ENCODED],
+    words: &mut [u64; WORDS],
+    reals: &mut [f64; REALS],
+    pins: &mut [u8; PLACES],
+    levels: &mut [u8; PLACES],
+    cycles: &mut [u64; PLACES],
+    out: &mut [u8; OUT],
+) {
+    if told == UNREAD {
+        io::write_all(2, b"replay: a read failed: the list ends before its end\n");
+    } else {
+        last(state, word, call, words, reals, pins, levels, cycles, out);
+    }
+    if !reply::flush(out, line::size(state[USED])) {
+        io::write_all(2, b"replay: a write failed: answers are missing\n");
+    }
 }
 
 // A proved loop has to end, and nothing says that a list does. So the loop counts its turns down from a number that no run
@@ -224,9 +260,10 @@ fn main() {
     let mut cycles = [0u64; PLACES];
     let mut out = [0u8; OUT];
     blank::clear(&mut words, &mut reals, 1.0, 1.0);
+    let mut told = MORE;
     let mut turns = u64::MAX;
-    while turns > 0
-        && turn(
+    while turns > 0 && told == MORE {
+        told = turn(
             &mut state,
             &mut word,
             &mut call,
@@ -236,11 +273,11 @@ fn main() {
             &mut levels,
             &mut cycles,
             &mut out,
-        )
-    {
+        );
         turns -= 1;
     }
     finish(
+        told,
         &mut state,
         &mut word,
         &mut call,

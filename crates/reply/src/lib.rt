@@ -3,14 +3,23 @@ use text::Written;
 
 pub const OUT: usize = 65536;
 
+// How far the buffer is filled once a write has failed: no piece fits any more, so the answers end there.
+const LOST: usize = 65537;
+
 // More than any piece that is put into the buffer at once.
 const PIECE: usize = 64;
 
-// Writes out what is in the buffer.
-pub fn flush(out: &[u8], n: usize) {
+// Writes out what is in the buffer. Whether everything is written.
+pub fn flush(out: &[u8], n: usize) -> bool {
     if n <= out.len() {
-        io::write_all(1, &out[..n]);
+        return io::write_all(1, &out[..n]);
     }
+    false
+}
+
+// Whether no write has failed.
+pub fn whole(n: usize) -> bool {
+    n <= OUT
 }
 
 // Makes room for a piece.
@@ -18,8 +27,10 @@ fn room(out: &[u8; OUT], n: usize) -> usize {
     if n <= OUT - PIECE {
         return n;
     }
-    flush(out, n);
-    0
+    if flush(out, n) {
+        return 0;
+    }
+    LOST
 }
 
 fn put(out: &mut [u8; OUT], n: usize, b: u8) -> usize {

@@ -49,6 +49,11 @@ const NOT_A_NUMBER: u8 = 5;
 
 const TOO_LARGE: u8 = 6;
 
+// What a read leads to beside them: the input has ended, or cannot be read.
+const END: u8 = 255;
+
+const UNREAD: u8 = 254;
+
 const SHORT: u64 = 4294967295;
 
 fn byte(x: u64) -> u8 {
@@ -410,6 +415,7 @@ fn told(
     report(kept, out)
 }
 
+// A report of a part of the input would be a wrong one: if it cannot be read to its end there is none.
 fn finish(
     reason: u8,
     state: &mut [u64; STATE],
@@ -417,16 +423,25 @@ fn finish(
     kept: &mut [u64; KEPT],
     out: &mut [u8; OUT],
 ) {
+    if reason == UNREAD {
+        io::write_all(2, b"shifts: a read failed: there is no report\n");
+        return;
+    }
     let n = told(reason, state, first, kept, out);
-    reply::flush(out, n);
+    if !reply::flush(out, n) {
+        io::write_all(2, b"shifts: a write failed: the report is not whole\n");
+    }
 }
 
-// Reads a part of the input and takes it: GO_ON, the end (255), or a reason.
+// Reads a part of the input and takes it: GO_ON, END, UNREAD, or a reason.
 fn turn(state: &mut [u64; STATE], first: &mut [u64; 6], kept: &mut [u64; KEPT]) -> u8 {
     let mut part = io::large_buffer();
     let got = libc::read(0, &mut part);
-    if got <= 0 {
-        return 255;
+    if got < 0 {
+        return UNREAD;
+    }
+    if got == 0 {
+        return END;
     }
     let n = io::count(got, &part);
     pass(&part[..n], state, first, kept)
@@ -446,7 +461,7 @@ fn main() {
         reason = turn(&mut state, &mut first, &mut kept);
         turns -= 1;
     }
-    if reason == 255 {
+    if reason == END {
         reason = GO_ON;
     }
     finish(reason, &mut state, &mut first, &mut kept, &mut out);

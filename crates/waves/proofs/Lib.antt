@@ -1,2 +1,4 @@
 pub mod Settled
 pub mod Waved
+pub mod Joined
+pub mod Bench

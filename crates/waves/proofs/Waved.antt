@@ -45,13 +45,13 @@ use Rattle.waves.specs.Waves.{onward, Settled, shown, Pilot, Waves}
 use Rattle.waves.proofs.Settled.{compare-count, settled-compared, settled-after, later}
 
 -- the event's own cycle
-abbrev due : Timer → ℕ
+abbrev pub due : Timer → ℕ
 due t = t .count .base + nextSteps t .steps * t .count .tick
 
 -- ---- a level that stays
 
 -- from cycle x on, up to the next event, the machine's level of channel ch is l
-abbrev Shows : Timer → ℕ → ℕ → ℕ → ℕ → Type 0
+abbrev pub Shows : Timer → ℕ → ℕ → ℕ → ℕ → Type 0
 Shows t div ch x l = (c : ℕ) → x ≤ c → Delivered t c → l ≡ bit (level (seen t div c) ch)
 
 -- a timer of the run: the facts that an event keeps
@@ -152,7 +152,7 @@ after-event t div ch x four g r (Compare c) is = after-compare t div ch x c four
 
 module _ (t₀ : Timer) (div a ch pin : ℕ) (call : Call t₀ div a) (quiet : Delivered t₀ a) (four : ch < 4) (l₀ : ℕ) where
   -- the machine's level
-  abbrev wave : ℕ → ℕ
+  abbrev pub wave : ℕ → ℕ
   wave c = bit (level (clocks (S.rulesOf t₀) (between t₀ div a c) (seen t₀ div a)) ch)
 
   -- after k events, the last at x
@@ -180,7 +180,7 @@ module _ (t₀ : Timer) (div a ch pin : ℕ) (call : Call t₀ div a) (quiet : D
     not-yet r c l = ap (λ (d : Due). S.dueBy d c) (event-runs t r) ∙ lt-leb (due t) c l
 
     -- at the end
-    all-told : (now : ℕ) → Delivered t now → (c : ℕ) → a ≤ c → c ≤ now → levelAt pin es l₀ c ≡ wave c
+    pub all-told : (now : ℕ) → Delivered t now → (c : ℕ) → a ≤ c → c ≤ now → levelAt pin es l₀ c ≡ wave c
     all-told now d c from le = go (ltb c x) refl
       where
         earlier : Delivered t c
@@ -196,13 +196,13 @@ module _ (t₀ : Timer) (div a ch pin : ℕ) (call : Call t₀ div a) (quiet : D
 
     -- one event more
     module _ (r : t .count .running ≡ true) (e : Next) (is : nextSteps t .next ≡ e) where
-      abbrev s : Timer
+      abbrev pub s : Timer
       s = applied t e (due t) div
 
-      abbrev q : Pads
+      abbrev pub q : Pads
       q = driveOutputs s (countAt s e) p .pads
 
-      abbrev fs : List Entry
+      abbrev pub fs : List Entry
       fs = entriesOf (due t) (driveOutputs s (countAt s e) p .changes)
 
       same : s .inst ≡ t .inst
@@ -223,7 +223,7 @@ module _ (t₀ : Timer) (div a ch pin : ℕ) (call : Call t₀ div a) (quiet : D
           ap (λ (y : Due). cond (S.dueBy y c) (S.deliver n c div (S.applied t div y)) t) d
           ∙ ap (λ (b : Bool). cond b (S.deliver n c div (S.applied t div (At (due t) e))) t) (le-leb (due t) c l)
 
-      told : (applied-is : S.applied t div (At (due t) e) ≡ s) → Told (suc k) s q (es ++ fs) (due t)
+      pub told : (applied-is : S.applied t div (At (due t) e) ≡ s) → Told (suc k) s q (es ++ fs) (due t)
       told applied-is = record {
         goes = f .goes;
         from = le-trans (o .from) x≤;
@@ -253,15 +253,15 @@ module _ (t₀ : Timer) (div a ch pin : ℕ) (call : Call t₀ div a) (quiet : D
 
   -- ---- every event of a delivery
 
-  applied-same : (t : Timer) (x : ℕ) (e : Next) → S.applied t div (At x e) ≡ applied t e x div
+  pub applied-same : (t : Timer) (x : ℕ) (e : Next) → S.applied t div (At x e) ≡ applied t e x div
   applied-same t x Update = refl
   applied-same t x (Compare c) = refl
 
-  due-same : (d : Due) (c : ℕ) → dueBy d c ≡ S.dueBy d c
+  pub due-same : (d : Due) (c : ℕ) → dueBy d c ≡ S.dueBy d c
   due-same (At x e) c = refl
   due-same Stopped c = refl
 
-  nothing-left : (b : Bool) → _≡_ {A = ℕ} (cond b 8 0) 0 → b ≡ false
+  pub nothing-left : (b : Bool) → _≡_ {A = ℕ} (cond b 8 0) 0 → b ≡ false
   nothing-left true z = absurd (omega arith)
   nothing-left false z = refl
 
@@ -273,7 +273,7 @@ module _ (t₀ : Timer) (div a ch pin : ℕ) (call : Call t₀ div a) (quiet : D
   ended now k t p es x n o d z c from le = rw append-nil (all-told k t p es x o now (d z) c from le)
 
   -- what one event and the rest of a run leave
-  abbrev rest : ℕ → ℕ → ℕ → Timer → Pads → Due → Run
+  abbrev pub rest : ℕ → ℕ → ℕ → Timer → Pads → Due → Run
   rest f now left t p d =
       D.after (turnOf t p d div .entries) (run f now div (left - length (turnOf t p d div .entries)) (turnOf t p d div .timer) (turnOf t p d div .pads))
 
@@ -307,36 +307,36 @@ module _ (t₀ : Timer) (div a ch pin : ℕ) (call : Call t₀ div a) (quiet : D
 
 -- ---- the statement
 
-grows : (base div per a c : ℕ) → 0 < div → 0 < per → a ≤ c → (a - base) / div / per ≤ (c - base) / div / per
+pub grows : (base div per a c : ℕ) → 0 < div → 0 < per → a ≤ c → (a - base) / div / per ≤ (c - base) / div / per
 grows base div per a c p q le =
     let one : (a - base) / div ≤ (c - base) / div = le-div-iff-mul-le {k = div} p .1 (omega (arith, div-mul-le-self (a - base) div)) in
     le-div-iff-mul-le {k = per} q .1 (omega (arith, div-mul-le-self ((a - base) / div) per))
 
-level-none : (pin l c : ℕ) → levelAt pin [] l c ≡ l
+pub level-none : (pin l c : ℕ) → levelAt pin [] l c ≡ l
 unfolding levelAt
 level-none pin l c = refl
 
-pub waves : Waves
-waves events places now t div a ch pin p o z c from le =
-    run-told t div a ch pin (o .call) (o .quiet) (o .channel) (shown p pin) events now places 0 t p [] a (record {
-      goes = record {
-        left = record { timed = o .call .timed; based = o .call .came };
-        within = o .call .within;
-        step = clocksAt t div a / per t;
-        ahead = λ r. omega (arith, early r);
-        next = λ r. few (early r);
-        there = λ y l. grows (t .count .base) div (per t) a y (o .call .timed .pos) (omega arith) l;
-        settled = λ r. o .settled;
-      };
-      from = le-refl a;
-      drives = o .drives;
-      has = o .has;
-      wired = record { sound = o .pads; pin-is = o .pin-is; route = o .route; push-pull = o .push-pull };
-      shows = o .shows;
-      reach = λ y f l. ap (λ (n : ℕ). S.deliver n y div t) (zero-add f);
-      past = λ y l m. absurd (omega arith);
-      present = λ y l. none y;
-    }) z c from le
+-- at cycle a, before any event
+pub begins : (t : Timer) (div a ch pin : ℕ) (p : Pads) (o : Pilot t div a ch pin p) → Told t div a ch pin (o .call) (o .quiet) (o .channel) (shown p pin) 0 t p [] a
+begins t div a ch pin p o = record {
+  goes = record {
+    left = record { timed = o .call .timed; based = o .call .came };
+    within = o .call .within;
+    step = clocksAt t div a / per t;
+    ahead = λ r. omega (arith, early r);
+    next = λ r. few (early r);
+    there = λ y l. grows (t .count .base) div (per t) a y (o .call .timed .pos) (omega arith) l;
+    settled = λ r. o .settled;
+  };
+  from = le-refl a;
+  drives = o .drives;
+  has = o .has;
+  wired = record { sound = o .pads; pin-is = o .pin-is; route = o .route; push-pull = o .push-pull };
+  shows = o .shows;
+  reach = λ y f l. ap (λ (n : ℕ). S.deliver n y div t) (zero-add f);
+  past = λ y l m. absurd (omega arith);
+  present = λ y l. none y;
+}
   where
     early : t .count .running ≡ true → a < due t
     early r = leb-false (due t) a (ap (λ (d : Due). S.dueBy d a) (sym (event-runs t r)) ∙ o .quiet)
@@ -350,3 +350,7 @@ waves events places now t div a ch pin p o z c from le =
 
     none : (y : ℕ) → levelAt pin [] (shown p pin) y ≡ shown p pin
     none y = level-none pin (shown p pin) y
+
+pub waves : Waves
+waves events places now t div a ch pin p o z c from le =
+    run-told t div a ch pin (o .call) (o .quiet) (o .channel) (shown p pin) events now places 0 t p [] a (begins t div a ch pin p o) z c from le

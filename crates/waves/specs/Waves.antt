@@ -1,8 +1,9 @@
--- The waveform on record: the level of a channel's pin at every cycle between two full deliveries is the machine's, whatever the mode, the
--- direction and the polarity. The proof: proofs/Waved.antt.
+-- The waveform on record: the level of a channel's pin at every cycle of a delivery, and of deliveries one after the other of `step`, is the
+-- machine's, whatever the mode, the direction and the polarity (`Pilot` has the premises). The proof: proofs/Waved.antt and proofs/Joined.antt; an instance: proofs/Bench.antt.
 use Prim.Native.Nat.{ℕ, suc, _+_, _-_, _/_, _≤_, _<_}
 use mathlib.Core.Path.{_≡_}
 use mathlib.Core.Bool.{true, false, cond}
+use mathlib.Core.List.{List, _++_}
 use lib.ListN.{getD}
 use Rattle.rm0440.specs.Clock.{clocks}
 use Rattle.rm0440.specs.Level.{level}
@@ -11,13 +12,18 @@ use Rattle.tim.specs.Timer.{down, isOutput, ccrAct}
 use Rattle.tim.specs.Next.{updateSteps}
 use Rattle.sig.specs.Signal.{timSignal}
 use Rattle.gpio.specs.Gpio.{bit}
-use Rattle.machine.specs.Board.{Pads, gpioAt, routeOf}
+use Rattle.machine.specs.Board.{Pads, timerAt, gpioAt, routeOf}
 use Rattle.machine.specs.Sys.{driver}
 use Rattle.machine.specs.Sound.{SoundPads}
 use Rattle.machine.specs.Deliver.{handled}
+use Rattle.machine.specs.Call.{Call as AnyCall}
+use Rattle.machine.specs.Step.{run}
+use Rattle.book.specs.Book.{Entry}
 use Rattle.book.specs.Level.{levelAt}
-use Rattle.follows.specs.Seen.{rulesOf, clocksAt, per, seen}
+use Rattle.accuracy.specs.Claim.{joined}
+use Rattle.follows.specs.Seen.{clocksAt, per, seen, rulesOf}
 use Rattle.follows.specs.Follows.{Call, Delivered, between}
+use Rattle.boards.specs.Boards.{divOf, after, Lent, deliveries, last}
 
 -- the count k steps after the reference, before the turn
 abbrev pub onward : Timer → ℕ → ℕ
@@ -53,3 +59,19 @@ Waves =
     (events places now : ℕ) (t : Timer) (div a ch pin : ℕ) (p : Pads) → Pilot t div a ch pin p → handled events now div places t p .number ≡ 0
     → (c : ℕ) → a ≤ c → c ≤ now
     → levelAt pin (handled events now div places t p .entries) (shown p pin) c ≡ bit (level (clocks (rulesOf t) (between t div a c) (seen t div a)) ch)
+
+-- ---- of `step`
+
+-- the entries of deliveries to timer i one after the other, joined
+abbrev pub recorded : List AnyCall → ℕ → List Lent → ℕ → ℕ → List Entry
+recorded cs i ds cycle places = joined (run (after cs) (deliveries i ds)) ++ last cs i ds cycle places .entries
+
+-- deliveries of which the last is answered 0, the others as may be (8 too), from a board that calls lead to: at every cycle from a to the last one's
+-- the record has the machine's level
+abbrev pub StepWaves : Type 0
+StepWaves =
+    (cs : List AnyCall) (i a ch pin : ℕ) (ds : List Lent) (cycle places : ℕ) → i < after cs .counts .timers → a ≤ after cs .counts .last
+    → Pilot (timerAt (after cs) i) (divOf (after cs) i) a ch pin (after cs .pads) → last cs i ds cycle places .number ≡ 0
+    → (c : ℕ) → a ≤ c → c ≤ cycle
+    → levelAt pin (recorded cs i ds cycle places) (shown (after cs .pads) pin) c
+    ≡ bit (level (clocks (rulesOf (timerAt (after cs) i)) (between (timerAt (after cs) i) (divOf (after cs) i) a c) (seen (timerAt (after cs) i) (divOf (after cs) i) a)) ch)

@@ -21,7 +21,7 @@ abbrev pub writtenOn : Board → ℕ → ℕ → ℕ → ℕ → ℕ → Outcome
 writtenOn b i offset size value cycle =
     writtenBy b i (register offset) (laneWrite (present (timerAt b i) (register offset) cycle) offset size value) cycle
 
--- a write that may go a short way: a whole one
+-- a write that may go the short way of DIER and SR: a whole one. CR1's and the compares' are open to partial writes too, once merged
 abbrev pub quick : ℕ → Bool
 quick size = eqb size 4
 

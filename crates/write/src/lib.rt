@@ -1,4 +1,5 @@
-// A write of a timer's register over the lent board (bus.rs, tim.rs write_reg): one general way by value, and short ways of whole writes.
+// A write of a timer's register over the lent board (bus.rs, tim.rs write_reg): one general way by value, and short ways: of whole writes of DIER and
+// SR, and of every write of CR1 and the compares.
 use answer::Answer;
 use state::REALS;
 use state::WORDS;
@@ -126,7 +127,7 @@ fn write_timer(
     made(count)
 }
 
-// ---- short ways of whole writes: of the registers that a running program writes, the words that change are stored
+// ---- short ways: of the registers that a running program writes, the words that change are stored
 
 // CR1. A write that starts, stops or turns the timer goes the general way.
 fn write_cr1(
@@ -307,8 +308,8 @@ fn write_other(
 }
 
 // A write of any size: the lane merged, then by its register. This, CR1's way and the compares' have two callers, so none is compiled into
-// the write of a flag register, which is spared what they keep: a whole write of DIER takes 1.04 of the Rust's time with the lane's
-// merging compiled in.
+// the write of a flag register, which is spared what they keep: with the lane's merging compiled in, a whole write of DIER takes more than the
+// Rust's time (docs/DECISIONS.md).
 fn write_any(
     words: &mut [u64; WORDS],
     reals: &mut [f64; REALS],
@@ -370,7 +371,7 @@ fn write_quick(
 
 // ---- any write, while the timer's clock is on
 
-// A short way may be taken: by a whole write, which needs no present value.
+// The short way of DIER and SR may be taken: by a whole write, which needs no present value.
 fn quick(size: u32) -> bool
     ensures { λ r. ⌜ r ≡ quick size ⌝ }
 {

@@ -1,0 +1,116 @@
+//! The library's board, call by call.
+
+use std::io::{self, Write};
+
+use board::ffi::{self, Book, State};
+
+use crate::list::{Call, SetUp};
+
+/// 100,001 events make at most four entries each: a longer book never matters.
+const PLACES: u64 = 400_004;
+
+/// A board with the book that is lent to its calls, and the answer to the last of them.
+pub struct Player {
+    state: State,
+    pins: Vec<u8>,
+    levels: Vec<u8>,
+    cycles: Vec<u64>,
+    answer: ffi::Answer,
+}
+
+/// What a call answered.
+#[derive(Clone, Copy, Debug)]
+pub struct Answer<'a> {
+    pub number: u32,
+    pub value: u64,
+    /// The entries: pin, level and cycle of each.
+    pub pins: &'a [u8],
+    pub levels: &'a [u8],
+    pub cycles: &'a [u64],
+}
+
+impl Player {
+    /// The first board.
+    pub fn new() -> Self {
+        let places = PLACES as usize;
+        Self {
+            state: State::new(),
+            pins: vec![0; places],
+            levels: vec![0; places],
+            cycles: vec![0; places],
+            answer: ffi::Answer { value: 0, number: 0, count: 0 },
+        }
+    }
+
+    /// Makes a call.
+    pub fn play(&mut self, call: &Call) -> Answer<'_> {
+        let lent = book(call).min(PLACES) as usize;
+        let book = &mut Book { pins: &mut self.pins[..lent], levels: &mut self.levels[..lent], cycles: &mut self.cycles[..lent] };
+        let s = &mut self.state;
+        self.answer = match *call {
+            Call::SetUp(SetUp { hz, vcc, pins, lines, ref timers, ref table }) => s.set_up(hz, vcc, pins, lines, timers, table),
+            Call::Clock { sys, hclk, dividers, cycle } => s.set_clock_tree(sys, hclk, dividers, cycle),
+            Call::Enable { word, value } => s.enable(word, value),
+            Call::Pin { pin, mode, open_drain, out, pullup, pulldown, function, cycle, .. } => {
+                s.set_pin(book, pin, mode, open_drain, out, pullup, pulldown, function, cycle)
+            }
+            Call::Drive { pin, kind, volts, cycle, .. } => s.drive_pin(book, pin, kind, volts, cycle),
+            Call::ResetPins { cycle, .. } => s.reset_pins(book, cycle),
+            Call::Read { timer, offset, size, cycle } => s.read(timer, offset, size, cycle),
+            Call::Write { timer, offset, size, value, cycle, .. } => s.write(book, timer, offset, size, value, cycle),
+            Call::Peek { timer, offset, cycle } => s.peek(timer, offset, cycle),
+            Call::Reset { timer, cycle, .. } => s.reset(book, timer, cycle),
+            Call::Deliver { timer, cycle, .. } => s.deliver(book, timer, cycle),
+            Call::Booked { timer } => s.booked(timer),
+            Call::Next => s.next(),
+            Call::Level { pin } => s.level(pin),
+            Call::Volts { pin } => s.volts(pin),
+            Call::Line { irq } => s.line(irq),
+            Call::Time { cycle } => s.time(cycle),
+            Call::Clear { irq } => s.clear_pending(irq),
+        };
+        self.answer()
+    }
+
+    /// The answer to the last call.
+    pub fn answer(&self) -> Answer<'_> {
+        let ffi::Answer { number, value, count } = self.answer;
+        let count = count as usize;
+        Answer { number, value, pins: &self.pins[..count], levels: &self.levels[..count], cycles: &self.cycles[..count] }
+    }
+
+    /// The cycle of a timer's next event; `None` if it is stopped or there is no such timer.
+    pub fn booked(&self, timer: u32) -> Option<u64> {
+        let a = self.state.booked(timer);
+        (a.number == 0 && a.value != u64::MAX).then_some(a.value)
+    }
+}
+
+/// The places that a call is lent.
+fn book(call: &Call) -> u64 {
+    match *call {
+        Call::Pin { book, .. }
+        | Call::Drive { book, .. }
+        | Call::ResetPins { book, .. }
+        | Call::Write { book, .. }
+        | Call::Reset { book, .. }
+        | Call::Deliver { book, .. } => book,
+        _ => 0,
+    }
+}
+
+impl Answer<'_> {
+    /// The entries, in order.
+    pub fn entries(&self) -> impl Iterator<Item = (u8, u8, u64)> + '_ {
+        self.pins.iter().zip(self.levels).zip(self.cycles).map(|((&pin, &level), &cycle)| (pin, level, cycle))
+    }
+
+    /// `NUMBER VALUE COUNT`, then ` PIN:LEVEL@CYCLE` for each entry, and the line's end.
+    pub fn write(&self, out: &mut impl Write) -> io::Result<()> {
+        write!(out, "{} {} {}", self.number, self.value, self.cycles.len())?;
+        for (pin, level, cycle) in self.entries() {
+            write!(out, " {pin}:{level}@{cycle}")?;
+        }
+        out.write_all(b"\n")
+    }
+}
