@@ -79,7 +79,7 @@ late-writes f t div off v now k h e =
     l = P.left t div (k .timed) now (k .came) off v
 
     go : (a : Bool) → (a ≡ true → Near u now) → cond a (matched (rulesOf t) (seen u div now)) (seen u div now) ≡ cond a (seen (deliver f now div u) div now) (seen u div now)
-    go true near = S.settles u div (l .timed) h now (l .based) f (inl (near refl)) e
+    go true near = S.settles (t .inst .manual) u (ap (λ (i : Inst). i .manual) (inst-written t off v now div)) div (l .timed) h now (l .based) f (inl (near refl)) e
     go false near = refl
 
 pub follows : Follows
