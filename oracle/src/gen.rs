@@ -38,13 +38,27 @@ pub struct Gen {
     /// One or two timers, calls that a stepped machine can follow; each call with nothing due that is not delivered.
     few: bool,
     in_time: bool,
+    /// Set-ups have timers in manual mode; of its own, so that the rest of a seed's list is the same.
+    modes: Option<Rng>,
+    /// OPM is never set, and the board knows nothing of manual mode.
+    no_pulse: bool,
 }
 
 impl Gen {
     pub fn new(seed: u64) -> Self {
         let mut rng = Rng::new(seed);
         let left = rng.below(8); // a few calls meet the blank board
-        Self { rng, board: Board::new(), setup: Setup::default(), plan: VecDeque::new(), left, start: 0, few: false, in_time: false }
+        Self { rng, board: Board::new(), setup: Setup::default(), plan: VecDeque::new(), left, start: 0, few: false, in_time: false, modes: None, no_pulse: false }
+    }
+
+    /// The same with each timer in manual mode or not, by chance.
+    pub fn with_manual(self, seed: u64) -> Self {
+        Self { modes: Some(Rng::new(seed ^ 0xf2)), ..self }
+    }
+
+    /// The same with OPM never set. Then manual mode changes nothing, so the answers are the published Rust's alone.
+    pub fn without_one_pulse(self) -> Self {
+        Self { no_pulse: true, ..self }
     }
 
     /// Lists for a machine that is stepped clock by clock: one or two timers, a pin to each channel, small prescalers, cycles near
@@ -61,8 +75,16 @@ impl Gen {
 
     /// The next call and its answer.
     pub fn step(&mut self) -> (Call, Answer) {
-        let call = self.choose();
-        let answer = self.board.call(&call);
+        let mut call = self.choose();
+        match &mut call {
+            Call::Write { offset, value, .. } if self.no_pulse && *offset & !3 == CR1 => *value &= !8,
+            Call::Setup(s) => s.manual = self.modes.as_mut().map_or(0, |rng| rng.small(1 << s.timers.len())),
+            _ => {}
+        }
+        let answer = match &call {
+            Call::Setup(s) if self.no_pulse => self.board.call(&Call::Setup(Setup { manual: 0, ..s.clone() })),
+            call => self.board.call(call),
+        };
         if self.in_time {
             let book = self.book();
             let due = match call {
