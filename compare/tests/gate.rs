@@ -9,7 +9,7 @@ use oracle::{Answer, Board, Call, Entry};
 /// Lists of the gate.
 const LISTS: u64 = 3_000;
 /// Those with timers in manual mode.
-const MANUAL: u64 = 800;
+const MANUAL: u64 = 500;
 
 #[test]
 fn random_lists() {

@@ -8,7 +8,7 @@ use oracle::silicon::cases;
 /// Lists of the gate.
 const LISTS: u64 = 240;
 /// Those with timers in manual mode.
-const MANUAL: u64 = 80;
+const MANUAL: u64 = 30;
 
 #[test]
 fn random_lists() {

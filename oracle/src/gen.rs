@@ -38,7 +38,7 @@ pub struct Gen {
     /// One or two timers, calls that a stepped machine can follow; each call with nothing due that is not delivered.
     few: bool,
     in_time: bool,
-    /// Set-ups have timers in manual mode; of its own, so that the rest of a seed's list is the same.
+    /// Set-ups have timers in manual mode, and those are fired now and then. A generator of its own: without it a seed's list is what it was.
     modes: Option<Rng>,
     /// OPM is never set, and the board knows nothing of manual mode.
     no_pulse: bool,
@@ -125,6 +125,9 @@ impl Gen {
             return Call::Setup(self.good_setup());
         }
         self.left -= 1;
+        if let Some(call) = self.fire() {
+            return call;
+        }
         if self.few {
             return self.choose_few();
         }
@@ -192,6 +195,20 @@ impl Gen {
                 None => Call::Next,
             },
         }
+    }
+
+    /// A manual timer is fired, or its run made a pulse, once in eight calls.
+    fn fire(&mut self) -> Option<Call> {
+        let rng = self.modes.as_mut()?;
+        if !rng.one_in(8) {
+            return None;
+        }
+        let timer = rng.small(self.board.specs().len() as u32);
+        let t = Some(timer as usize).filter(|&t| t < self.setup.timers.len() && self.setup.manual >> t & 1 != 0)?;
+        let v = self.board.view(t, self.board.last());
+        let more = rng.pick(&[0, 0, 0, 0x10, 0x80, 4, 2]);
+        let more = if v.running { 0 } else { more };
+        Some(Call::Write { timer, offset: CR1, size: 4, value: v.cr1 ^ more | 9, cycle: self.when(), book: self.book() })
     }
 
     /// One or two timers, mostly with channels; function 1 of pin k is the k-th channel.
