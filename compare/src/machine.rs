@@ -44,7 +44,7 @@ fn list_of(port: &mut Port, mut gen: Gen, seed: u64, tables: &mut [Table; 2]) ->
 }
 
 /// The first call of a list where the library and the machine part, and how.
-fn fails(port: &mut Port, calls: &[Call], table: &mut Table) -> Option<(usize, String)> {
+pub fn fails(port: &mut Port, calls: &[Call], table: &mut Table) -> Option<(usize, String)> {
     port.restart();
     let mut follow = Follow::new();
     calls.iter().enumerate().find_map(|(i, call)| {
