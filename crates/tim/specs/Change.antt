@@ -116,8 +116,8 @@ pulseEnds t = OPM (t .regs .cr1)
 abbrev pub withoutCen : ℕ → ℕ
 withoutCen cr1 = cr1 - cr1 % 2
 
--- what ends at an update: "In it [manual mode] the Rust's one-pulse stop also clears CEN" (F-2); else CEN stays set (docs/DIFFERENCES.md, one-pulse). It
--- matches nothing where it stops (one-pulse-last-match)
+-- what ends at an update: "In it [manual mode] the Rust's one-pulse stop also clears CEN" (F-2). Else CEN stays set, and in both modes nothing matches
+-- where it stops (docs/DIFFERENCES.md, one-pulse, one-pulse-last-match)
 unfoldable pub ended : Timer → Timer
 ended t =
     withRunning (withCr1 t (cond (pulseEnds t && t .inst .manual) (withoutCen (t .regs .cr1)) (t .regs .cr1))) (cond (pulseEnds t) false (t .count .running))

@@ -1,7 +1,7 @@
 // A general-purpose timer by value: the Rust's periph/tim.rs, without its registers (crate regs). It knows nothing of
 // pins, lines or booking.
 ghost use mathlib.Core.Path.{_≡_};
-ghost use mathlib.Core.Bool.{Bool, true, false};
+ghost use mathlib.Core.Bool.{Bool, true, false, cond, _&&_};
 ghost use Prim.Native.Nat.{ℕ, _+_, _-_, _*_, _/_, _%_, _<_, _≤_, min};
 ghost use lib.Dec.{eqb};
 ghost use lib.ListN.{getD, set};
@@ -605,26 +605,41 @@ impl Timer {
         self
     }
 
-    fn clear_cen(mut self) -> Timer
-        ensures { λ r. ⌜ r ≡ T.withCr1 self (C.withoutCen (self .regs .cr1)) ⌝ }
+    // A pulse ends, and in manual mode CEN with it.
+    fn drops_cen(self) -> bool
+        ensures { λ r. ⌜ r ≡ (C.pulseEnds self && self .inst .manual) ⌝ }
     {
-        let cr1 = self.regs.cr1 - self.regs.cr1 % 2;
-        self.regs.cr1 = cr1;
-        self
+        (self.regs.cr1 / 8 % 2 == 1) & self.inst.manual
     }
 
-    // What ends at an update: one-pulse, and in manual mode CEN with it.
-    fn end(self) -> Timer
+    fn end_cr1(self) -> u32
+        ensures { λ r. ⌜ r ≡ cond (C.pulseEnds self && self .inst .manual) (C.withoutCen (self .regs .cr1)) (self .regs .cr1) ⌝ }
+    {
+        if self.drops_cen() {
+            return self.regs.cr1 - self.regs.cr1 % 2;
+        }
+        self.regs.cr1
+    }
+
+    fn end_running(self) -> bool
+        ensures { λ r. ⌜ r ≡ cond (C.pulseEnds self) false (self .count .running) ⌝ }
+    {
+        if self.regs.cr1 / 8 % 2 == 1 {
+            return false;
+        }
+        self.count.running
+    }
+
+    // What ends at an update: one-pulse, and in manual mode CEN with it. Both fields are always stored: with a return for each case an event takes
+    // a quarter longer.
+    fn end(mut self) -> Timer
         ensures { λ r. ⌜ r ≡ C.ended self ⌝ }
     {
-        if self.regs.cr1 / 8 % 2 != 1 {
-            return self;
-        }
-        if self.inst.manual {
-            let t = self.clear_cen();
-            return t.with_running(false);
-        }
-        self.with_running(false)
+        let cr1 = self.end_cr1();
+        let running = self.end_running();
+        self.regs.cr1 = cr1;
+        self.count.running = running;
+        self
     }
 
     // Update event at cycle at: reload shadow registers, restart the period.
