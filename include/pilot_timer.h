@@ -120,9 +120,19 @@ void board_blank(uint64_t words[PILOT_BOARD_WORDS], double reals[PILOT_BOARD_REA
  *   the n of TIMn, 1 to 24, all different (2, 3 and 4 drive their channels); width, 16 or 32; channels, 0 to 4; bus (divider: 1 tim1, 2 tim2,
  *   3 ppre3, any other ppre4); enable word, 0 to 8; enable bit, 0 to 31; interrupt, ignored at or above lines.
  * table: the signals of the pins' alternate functions below 256, 0 for none, pin p's function f at 16 p + f; exactly 16 a pin.
+ * No timer is in manual mode.
  */
 pilot_answer board_set_up(uint64_t words[PILOT_BOARD_WORDS], double reals[PILOT_BOARD_REALS], double hz, double vcc, uint32_t pins, uint32_t lines,
                           const uint32_t *timers, size_t timers_len, const uint32_t *table, size_t table_len);
+
+/*
+ * The same with timers in manual mode: timer i where bit i of manual is 1; a bit of no timer says nothing. In manual mode the update that ends a
+ * one-pulse (CR1's OPM) clears CEN too, so that a write of CEN fires the next pulse, from the counter that the update left. Otherwise CEN stays set,
+ * as in the published Rust, and has to be written 0 before it starts the timer again. Nothing else differs.
+ */
+pilot_answer board_set_up_manual(uint64_t words[PILOT_BOARD_WORDS], double reals[PILOT_BOARD_REALS], double hz, double vcc, uint32_t pins,
+                                 uint32_t lines, uint32_t manual, const uint32_t *timers, size_t timers_len, const uint32_t *table,
+                                 size_t table_len);
 
 /* Changes the clock tree: frequencies in hertz, dividers 1 to 8,192. Refused with 4 or 5. */
 pilot_answer board_set_clock_tree(uint64_t words[PILOT_BOARD_WORDS], double reals[PILOT_BOARD_REALS], double sysclk_hz, double hclk_hz, uint32_t ppre1,

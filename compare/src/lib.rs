@@ -11,7 +11,7 @@ pub mod run;
 pub mod shrink;
 
 pub use port::{Fault, Port};
-pub use run::{list, Failure, Stats};
+pub use run::{list, manual_list, Failure, Stats};
 pub use shrink::report;
 
 /// Answers a call list as `oracle::run` does, with the library.

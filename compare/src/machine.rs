@@ -1,5 +1,5 @@
 //! Random lists of one or two timers through the library, with RM0440's timer as a machine (`oracle::silicon`) beside it:
-//! equal on all lists by the Rust's rules, and by the manual's outside the named cases.
+//! equal on all lists by the port's rules (the Rust's, and those of manual mode), and by the manual's outside the named cases.
 
 use std::fmt::Write;
 
@@ -14,7 +14,15 @@ use crate::shrink::shrink_by;
 /// The list of a seed: with late calls where it is odd, else in time. Where it fails, the list made small, in
 /// docs/CALLS.md's format.
 pub fn list(port: &mut Port, seed: u64, tables: &mut [Table; 2]) -> Result<(), String> {
-    let mut gen = Gen::few_timers(seed, seed.is_multiple_of(2));
+    list_of(port, Gen::few_timers(seed, seed.is_multiple_of(2)), seed, tables)
+}
+
+/// The same with timers in manual mode.
+pub fn manual_list(port: &mut Port, seed: u64, tables: &mut [Table; 2]) -> Result<(), String> {
+    list_of(port, Gen::few_timers(seed, seed.is_multiple_of(2)).with_manual(seed), seed, tables)
+}
+
+fn list_of(port: &mut Port, mut gen: Gen, seed: u64, tables: &mut [Table; 2]) -> Result<(), String> {
     let table = &mut tables[seed as usize % 2];
     let calls: Vec<Call> = (0..CALLS).map(|_| gen.step().0).collect();
     let Some((i, fault)) = fails(port, &calls, table) else {
@@ -36,7 +44,7 @@ pub fn list(port: &mut Port, seed: u64, tables: &mut [Table; 2]) -> Result<(), S
 }
 
 /// The first call of a list where the library and the machine part, and how.
-fn fails(port: &mut Port, calls: &[Call], table: &mut Table) -> Option<(usize, String)> {
+pub fn fails(port: &mut Port, calls: &[Call], table: &mut Table) -> Option<(usize, String)> {
     port.restart();
     let mut follow = Follow::new();
     calls.iter().enumerate().find_map(|(i, call)| {

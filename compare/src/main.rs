@@ -1,5 +1,6 @@
 //! `compare COUNT [SEED]`: at least COUNT random calls through the library and the oracle, from fresh seeds or from SEED on.
 //! `compare machine COUNT [SEED]`: the same with the library and RM0440's machine; prints the table of the cases met.
+//! `compare manual COUNT [SEED]`, `compare manual machine COUNT [SEED]`: the same with timers in manual mode.
 //! `compare duty COUNT [SEED]`: COUNT random books through the duty report and a counter.
 
 use std::collections::hash_map::RandomState;
@@ -8,19 +9,20 @@ use std::process::ExitCode;
 use std::time::{Duration, Instant};
 
 use compare::run::{CALLS, KINDS};
-use compare::{list, report, Port, Stats};
+use compare::{list, manual_list, report, Port, Stats};
 use oracle::follow::{report as report_cases, Table};
 
 fn main() -> ExitCode {
     let mut words = std::env::args().skip(1).peekable();
     let duty = words.next_if(|w| w == "duty").is_some();
+    let manual = words.next_if(|w| w == "manual").is_some();
     let machine = words.next_if(|w| w == "machine").is_some();
     let args: Option<Vec<u64>> = words.map(|a| a.parse().ok()).collect();
     let (count, seed) = match args.as_deref() {
         Some(&[count]) => (count, fresh()),
         Some(&[count, seed]) => (count, seed),
         _ => {
-            eprintln!("usage: compare [machine | duty] COUNT [SEED]");
+            eprintln!("usage: compare [duty | [manual] [machine]] COUNT [SEED]");
             return ExitCode::FAILURE;
         }
     };
@@ -35,7 +37,8 @@ fn main() -> ExitCode {
     if machine {
         let mut tables = [Table::default(), Table::default()];
         for i in 0..lists {
-            if let Err(failure) = compare::machine::list(&mut port, seed.wrapping_add(i), &mut tables) {
+            let list = if manual { compare::machine::manual_list } else { compare::machine::list };
+            if let Err(failure) = list(&mut port, seed.wrapping_add(i), &mut tables) {
                 println!("{failure}");
                 return ExitCode::FAILURE;
             }
@@ -49,6 +52,7 @@ fn main() -> ExitCode {
     }
     let mut stats = Stats::default();
     for i in 0..lists {
+        let list = if manual { manual_list } else { list };
         if let Err(failure) = list(&mut port, seed.wrapping_add(i), CALLS, &mut stats) {
             println!("{}", report(&mut port, *failure));
             return ExitCode::FAILURE;
@@ -90,5 +94,6 @@ fn print(s: &Stats, took: Duration) {
         println!("{name:>12}{}", numbers.iter().map(cell).collect::<String>());
     }
     println!("\n{} calls in {} lists, {} events, {} entries, all equal;", s.calls, s.lists, s.events, s.entries);
-    println!("{} peeks and queries besides, all equal. {:.1} s", s.looks, took.as_secs_f64());
+    println!("{} peeks and queries besides, all equal;", s.looks);
+    println!("{} pulses ended in manual mode, {} of them a timer's second or later. {:.1} s", s.pulses, s.again, took.as_secs_f64());
 }

@@ -193,7 +193,11 @@ fn set_up(s: &mut State, set: &Setup) -> ffi::Answer {
             *entry = signal;
         }
     }
-    s.set_up(f64::from_bits(set.hz), f64::from_bits(set.vcc), set.pins, set.lines, &timers, &table)
+    let (hz, vcc) = (f64::from_bits(set.hz), f64::from_bits(set.vcc));
+    match set.manual {
+        0 => s.set_up(hz, vcc, set.pins, set.lines, &timers, &table),
+        manual => s.set_up_manual(hz, vcc, set.pins, set.lines, manual, &timers, &table),
+    }
 }
 
 /// The places lent to a call; those that are lent none get 0 of them.

@@ -25,6 +25,9 @@ pub struct Stats {
     pub looks: u64,
     pub events: u64,
     pub entries: u64,
+    /// Pulses that ended in manual mode, and those of them that were a timer's second one or a later one.
+    pub pulses: u64,
+    pub again: u64,
     /// By call and number.
     pub answers: [[u64; 9]; KINDS.len()],
 }
@@ -39,8 +42,18 @@ pub struct Failure {
 
 /// The list of a seed: `n` calls, then a full look.
 pub fn list(port: &mut Port, seed: u64, n: u64, stats: &mut Stats) -> Result<(), Box<Failure>> {
+    list_of(port, Gen::new(seed), seed, n, stats)
+}
+
+/// The same with timers in manual mode: where the seed is odd without one-pulse, and held to the published Rust alone.
+pub fn manual_list(port: &mut Port, seed: u64, n: u64, stats: &mut Stats) -> Result<(), Box<Failure>> {
+    let gen = Gen::new(seed).with_manual(seed);
+    list_of(port, if seed.is_multiple_of(2) { gen } else { gen.without_one_pulse() }, seed, n, stats)
+}
+
+fn list_of(port: &mut Port, mut gen: Gen, seed: u64, n: u64, stats: &mut Stats) -> Result<(), Box<Failure>> {
     port.restart();
-    let mut gen = Gen::new(seed);
+    let mut fired = [false; 8];
     let mut rng = Rng::new(!seed);
     let mut calls = Vec::new();
     for i in 1..=n {
@@ -57,6 +70,18 @@ pub fn list(port: &mut Port, seed: u64, n: u64, stats: &mut Stats) -> Result<(),
         stats.answers[kind(call)][answer.number as usize] += 1;
         stats.entries += answer.entries.len() as u64;
         stats.events += if matches!(call, Call::Deliver { .. }) { answer.value } else { 0 };
+        match *call {
+            Call::Setup(_) if answer.number == 0 => fired = [false; 8],
+            // A delivery that handled events found the timer running.
+            Call::Deliver { timer, cycle, .. } if answer.value > 0 => {
+                let (t, b) = (timer as usize, gen.board());
+                if b.is_manual(t) && !b.view(t, cycle).running {
+                    stats.pulses += 1;
+                    stats.again += std::mem::replace(&mut fired[t], true) as u64;
+                }
+            }
+            _ => {}
+        }
         if i % INTERVAL == 0 || i == n {
             if let Err(asked) = look(&mut gen, port, &mut rng, stats) {
                 let (call, fault) = *asked;

@@ -200,6 +200,9 @@ impl Shrinker<'_> {
             for p in (0..pins.min(128)).rev() {
                 self.without(i, |c| without_pin(c, p));
             }
+            for bit in 0..32 {
+                self.attempt_at(i, |c| edit(c, |s| s.manual &= !(1 << bit)));
+            }
             self.attempt_at(i, |c| edit(c, |s| s.hz = 1f64.to_bits()));
             self.attempt_at(i, |c| edit(c, |s| s.vcc = 1f64.to_bits()));
             for lines in [0, 1, 8, 32] {
@@ -214,7 +217,11 @@ impl Shrinker<'_> {
 /// Takes a timer out of a set-up, or counts it out of another call's index.
 fn without_timer(call: &mut Call, t: u32) {
     match call {
-        Call::Setup(s) if s.timers.len() as u32 > t => drop(s.timers.drain(t as usize..=t as usize)),
+        Call::Setup(s) if s.timers.len() as u32 > t => {
+            s.timers.remove(t as usize);
+            let before = (1 << t) - 1;
+            s.manual = s.manual & before | s.manual >> 1 & !before;
+        }
         Call::Read { timer, .. }
         | Call::Write { timer, .. }
         | Call::Peek { timer, .. }

@@ -2,12 +2,14 @@
 
 use board::{Board as Safe, ClockTree, Drive, Error, Index, Mode, PinConfig, Setup, TimerIndex, TimerSpec};
 use compare::run::CALLS;
-use compare::{list, report, Port, Stats};
+use compare::{list, manual_list, report, Port, Stats};
 use oracle::gen::Gen;
 use oracle::{Answer, Board, Call, Entry};
 
 /// Lists of the gate.
 const LISTS: u64 = 3_000;
+/// Those with timers in manual mode.
+const MANUAL: u64 = 500;
 
 #[test]
 fn random_lists() {
@@ -23,12 +25,26 @@ fn random_lists() {
     assert!(met.clone().all(|n| n > 100), "{:?}", met.collect::<Vec<_>>());
 }
 
+/// Timers in manual mode: whole lists, the end of a pulse in front of the published Rust (oracle/src/board.rs); lists without one-pulse, the Rust alone.
+#[test]
+fn random_lists_in_manual_mode() {
+    let mut port = Port::new();
+    let mut stats = Stats::default();
+    for seed in 0..MANUAL {
+        if let Err(f) = manual_list(&mut port, seed, CALLS, &mut stats) {
+            panic!("{}", report(&mut port, *f));
+        }
+    }
+    assert!(stats.pulses > 1_000 && stats.again > 200, "{} pulses, {} again", stats.pulses, stats.again);
+}
+
 /// The safe board gives what the oracle gives, lent a book of its places, and says of each refusal what it is about.
 #[test]
 fn safe_board() {
     let mut told = [0; 9];
-    for (seed, places) in [(1, 4), (2, 7), (3, 128), (4, 1000), (5, 3)] {
-        let (mut gen, mut oracle, mut safe) = (Gen::new(seed), Board::new(), Safe::new(places));
+    for (seed, places, manual) in [(1, 4, false), (2, 7, false), (3, 128, true), (4, 1000, false), (5, 3, false)] {
+        let gen = Gen::new(seed);
+        let (mut gen, mut oracle, mut safe) = (if manual { gen.with_manual(seed) } else { gen }, Board::new(), Safe::new(places));
         let mut known = Known { places, ..Known::default() };
         for _ in 0..20_000 {
             let mut call = gen.step().0;
@@ -174,14 +190,14 @@ fn play(b: &mut Safe, call: &Call, error: &mut Option<Error>) -> Option<Answer> 
             if s.len != s.pins.wrapping_mul(16) || s.pins > 1000 {
                 return None;
             }
-            let timer = |t: &oracle::TimerSpec| TimerSpec::new(t.number).width(t.width).channels(t.channels).bus(t.bus).enable(t.word, t.bit).irq(t.irq);
+            let spec = |t: &oracle::TimerSpec| TimerSpec::new(t.number).width(t.width).channels(t.channels).bus(t.bus).enable(t.word, t.bit).irq(t.irq);
             let mut table = vec![0; s.len as usize];
             s.signals.iter().for_each(|&(i, signal)| table[i as usize] = signal);
             let mut pins = vec![[0; 16]; s.pins as usize];
             for (i, &signal) in table.iter().enumerate() {
                 pins[i / 16][i % 16] = u8::try_from(signal).ok()?;
             }
-            let timers = s.timers.iter().map(timer).collect();
+            let timers = s.timers.iter().zip(0..).map(|(t, i)| spec(t).manual(s.manual >> i & 1 != 0)).collect();
             plain(b.set_up(&Setup { hz: f64::from_bits(s.hz), vcc: f64::from_bits(s.vcc), lines: s.lines, timers, pins }).map(|()| 0))
         }
         Call::Clock { sys, hclk, dividers: [ppre1, ppre2, ppre3, ppre4, tim1, tim2], cycle } => {

@@ -1,12 +1,14 @@
 //! The library beside RM0440's machine: fixed seeds, for the gate.
 
-use compare::machine::list;
+use compare::machine::{list, manual_list};
 use compare::Port;
 use oracle::follow::{report, Table};
 use oracle::silicon::cases;
 
 /// Lists of the gate.
 const LISTS: u64 = 240;
+/// Those with timers in manual mode.
+const MANUAL: u64 = 30;
 
 #[test]
 fn random_lists() {
@@ -26,4 +28,17 @@ fn random_lists() {
     for t in &tables {
         assert!(t.plain_steps > t.steps / 2 && t.plain_writes > t.writes / 2, "{}", report(in_time, late));
     }
+}
+
+/// Timers in manual mode: one-pulse is the manual's, and a case only of the timers beside them that are not in it.
+#[test]
+fn random_lists_in_manual_mode() {
+    let (mut port, mut tables) = (Port::new(), [Table::default(), Table::default()]);
+    for seed in 0..MANUAL {
+        if let Err(failure) = manual_list(&mut port, seed, &mut tables) {
+            panic!("{failure}");
+        }
+    }
+    let pulses = |t: &Table| t.pulses;
+    assert!(tables.iter().map(pulses).all(|n| n > 100), "{:?}", tables.each_ref().map(pulses));
 }

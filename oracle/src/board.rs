@@ -1,5 +1,6 @@
 //! The board: document 01's refusals and lent book in front of the published Rust. Every refusal is decided
-//! before the Rust is entered, so a refused call cannot have changed anything.
+//! before the Rust is entered, so a refused call cannot have changed anything. Behind the Rust, of document 02: a pulse that
+//! ends in manual mode clears CEN (F-2).
 
 use mcs_core::arm::device::{Enable, TimerInstance};
 use mcs_sim::arm::bus::{Cx, Mmio};
@@ -46,6 +47,8 @@ pub struct Board {
     sched: Scheduler,
     timers: Vec<Timer>,
     specs: Vec<TimerSpec>,
+    /// Timers in manual mode, timer i at bit i.
+    manual: u32,
     /// The cycle of the last changing call.
     last: u64,
 }
@@ -76,7 +79,7 @@ impl Board {
         let mut nvic = Nvic::new(s.lines, 4);
         nvic.nirq = s.lines; // `new` cuts at 240, document 01 takes 256
         let timers = s.timers.iter().map(|t| Timer::new(&instance(t))).collect();
-        Self { sys, nvic, sched: Scheduler::new(), timers, specs: s.timers.clone(), last: 0 }
+        Self { sys, nvic, sched: Scheduler::new(), timers, specs: s.timers.clone(), manual: s.manual, last: 0 }
     }
 
     pub fn call(&mut self, call: &Call) -> Answer {
@@ -208,7 +211,12 @@ impl Board {
     fn deliver(&mut self, timer: u32, cycle: u64, book: u64) -> Outcome {
         let t = self.timer_change(timer, cycle, book)?;
         seen::lend(book);
+        let ran = self.view(t, cycle).running;
         self.at(t, cycle, |timer, cx| timer.on_event(0, cx));
+        // A delivery stops a timer at the end of a pulse alone, and handles no event of it after that.
+        if ran && self.is_manual(t) && !self.view(t, cycle).running {
+            self.timers[t].clear_cen();
+        }
         // What is due is booked no earlier than now: booked at now means still due.
         let number = if self.booked(t) == cycle { BACKLOG } else { 0 };
         Ok((number, seen::events()))
@@ -325,6 +333,10 @@ impl Board {
 
     pub fn view(&self, t: usize, cycle: u64) -> View {
         self.timers[t].seen(cycle)
+    }
+
+    pub fn is_manual(&self, t: usize) -> bool {
+        self.manual >> t & 1 != 0
     }
 
     /// Timer `t`'s enable bit is set.

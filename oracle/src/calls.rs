@@ -25,6 +25,8 @@ pub struct Setup {
     pub len: u32,
     /// Index and signal; of two pairs with one index the later holds.
     pub signals: Vec<(u32, u32)>,
+    /// Timer i is in manual mode where bit i is 1. A bit of no timer cannot be written.
+    pub manual: u32,
 }
 
 /// A call. Floats are their 64 bits.
@@ -103,17 +105,21 @@ fn number(word: &[u8]) -> Option<Option<u64>> {
     Some(digits.iter().try_fold(0, add))
 }
 
+/// A number that is at most `max`.
+fn fits(word: &[u8], max: u64) -> Result<u64, Malformed> {
+    match number(word).ok_or(Malformed::NotANumber)? {
+        Some(n) if n <= max => Ok(n),
+        _ => Err(Malformed::TooLarge),
+    }
+}
+
 /// The words of a line after its first.
 struct Words<'a, I: Iterator<Item = &'a [u8]>>(I);
 
 impl<'a, I: Iterator<Item = &'a [u8]>> Words<'a, I> {
     /// The next number, at most `max`; `None` at the end of the line.
     fn at_most(&mut self, max: u64) -> Result<Option<u64>, Malformed> {
-        let Some(word) = self.0.next() else { return Ok(None) };
-        match number(word).ok_or(Malformed::NotANumber)? {
-            Some(n) if n <= max => Ok(Some(n)),
-            _ => Err(Malformed::TooLarge),
-        }
+        self.0.next().map(|word| fits(word, max)).transpose()
     }
 
     fn wide(&mut self) -> Result<u64, Malformed> {
@@ -142,8 +148,14 @@ impl<'a, I: Iterator<Item = &'a [u8]>> Words<'a, I> {
             s.timers.push(self.timer()?);
         }
         s.len = self.short()?;
-        // With LEN 0 no index fits.
-        while let Some(index) = self.at_most(u32::MAX as u64)? {
+        while let Some(word) = self.0.next() {
+            if word == b"manual" {
+                let last = if s.timers.len() < 32 { (1 << s.timers.len()) - 1 } else { u32::MAX as u64 };
+                s.manual = self.at_most(last)?.ok_or(Malformed::Missing)? as u32;
+                break;
+            }
+            // With LEN 0 no index fits.
+            let index = fits(word, u32::MAX as u64)?;
             if index >= s.len as u64 {
                 return Err(Malformed::TooLarge);
             }
@@ -226,7 +238,8 @@ impl Display for Setup {
             write!(f, " {} {} {} {} {} {} {}", t.number, t.width, t.channels, t.bus, t.word, t.bit, t.irq)?;
         }
         write!(f, " {}", self.len)?;
-        self.signals.iter().try_for_each(|(i, s)| write!(f, " {i} {s}"))
+        self.signals.iter().try_for_each(|(i, s)| write!(f, " {i} {s}"))?;
+        if self.manual != 0 { write!(f, " manual {}", self.manual) } else { Ok(()) }
     }
 }
 

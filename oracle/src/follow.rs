@@ -1,5 +1,5 @@
-//! The machine of `silicon` beside a board: every call that a board has answered is made of the machine too, by the Rust's rules (or
-//! manual mode's), and all that can be seen of the timers must be equal. At every step and every write the manual's rules are
+//! The machine of `silicon` beside a board: every call that a board has answered is made of the machine too, by the port's rules
+//! (the Rust's, and those of manual mode where a timer is in it), and all that can be seen of the timers must be equal. At every step and every write the manual's rules are
 //! tried from the same state: outside the named cases they must do the same, and inside a difference is counted under the
 //! case's name.
 
@@ -30,6 +30,8 @@ pub struct Table {
     pub plain_writes: u64,
     /// By case: times met, times that it made a difference.
     pub met: BTreeMap<&'static str, [u64; 2]>,
+    /// Pulses that ended in manual mode.
+    pub pulses: u64,
     /// Times that a timer was followed no more, up to its reset: a delivery answered 8, or steps too many.
     pub left: u64,
 }
@@ -39,7 +41,7 @@ pub fn report(in_time: &Table, late: &Table) -> String {
     let mut text = String::new();
     for (what, t) in [("In time", in_time), ("With late calls", late)] {
         let Table { lists, calls, looks, steps, plain_steps, writes, plain_writes, left, .. } = t;
-        text += &format!("{what}: {calls} calls in {lists} lists, {looks} looks, all equal by the Rust's rules; {left} times a timer was left.\n");
+        text += &format!("{what}: {calls} calls in {lists} lists, {looks} looks, all equal by the port's rules; {left} times a timer was left.\n");
         text += &format!("By the manual's rules: {plain_steps} of {steps} steps and {plain_writes} of {writes} writes met no case, all equal.\n");
     }
     text += "\n| case | in time: met | another state | with late calls: met | another state |\n|---|---|---|---|---|\n";
@@ -122,6 +124,7 @@ impl Followed {
         let (drives, r) = (line.drives, line.rules);
         let done = line.deliver(cycle, |before, after, out| {
             table.steps += 1;
+            table.pulses += (r.one_pulse && before.on && !after.on) as u64;
             let does = |r: &Rules| {
                 let mut s = *before;
                 s.clock(r, &mut |_: &Timer, _| {});
@@ -155,8 +158,6 @@ impl Followed {
 /// A board's timers as machines.
 #[derive(Default)]
 pub struct Follow {
-    /// The timers that the next set-up has in manual mode, timer i at bit i.
-    pub manual: u32,
     specs: Vec<TimerSpec>,
     lines: u32,
     timers: Vec<Followed>,
@@ -209,11 +210,11 @@ impl Follow {
         }
         match *call {
             Call::Setup(ref s) => {
-                *self = Self { manual: self.manual, specs: s.timers.clone(), lines: s.lines, table: s.signals.iter().copied().collect(), ..Self::default() };
+                *self = Self { specs: s.timers.clone(), lines: s.lines, table: s.signals.iter().copied().collect(), ..Self::default() };
                 let hz = s.hz;
                 self.tree = Some((hz, [1; 6]));
                 for (k, t) in s.timers.iter().enumerate() {
-                    let rules = if self.manual >> k & 1 != 0 { Rules::manual_mode() } else { Rules::rust() };
+                    let rules = Rules::port(s.manual >> k & 1 != 0);
                     let max = if t.width == 32 { 0xffff_ffff } else { 0xffff };
                     let line = Timeline::new(rules, t.channels as usize, max, (2..=4).contains(&t.number));
                     self.timers.push(Followed { line, written: 0, stale: false, left: false });

@@ -38,13 +38,27 @@ pub struct Gen {
     /// One or two timers, calls that a stepped machine can follow; each call with nothing due that is not delivered.
     few: bool,
     in_time: bool,
+    /// Set-ups have timers in manual mode, and those are fired now and then. A generator of its own: without it a seed's list is what it was.
+    modes: Option<Rng>,
+    /// OPM is never set, and the board knows nothing of manual mode.
+    no_pulse: bool,
 }
 
 impl Gen {
     pub fn new(seed: u64) -> Self {
         let mut rng = Rng::new(seed);
         let left = rng.below(8); // a few calls meet the blank board
-        Self { rng, board: Board::new(), setup: Setup::default(), plan: VecDeque::new(), left, start: 0, few: false, in_time: false }
+        Self { rng, board: Board::new(), setup: Setup::default(), plan: VecDeque::new(), left, start: 0, few: false, in_time: false, modes: None, no_pulse: false }
+    }
+
+    /// The same with each timer in manual mode or not, by chance.
+    pub fn with_manual(self, seed: u64) -> Self {
+        Self { modes: Some(Rng::new(seed ^ 0xf2)), ..self }
+    }
+
+    /// The same with OPM never set. Then manual mode changes nothing, so the answers are the published Rust's alone.
+    pub fn without_one_pulse(self) -> Self {
+        Self { no_pulse: true, ..self }
     }
 
     /// Lists for a machine that is stepped clock by clock: one or two timers, a pin to each channel, small prescalers, cycles near
@@ -61,8 +75,16 @@ impl Gen {
 
     /// The next call and its answer.
     pub fn step(&mut self) -> (Call, Answer) {
-        let call = self.choose();
-        let answer = self.board.call(&call);
+        let mut call = self.choose();
+        match &mut call {
+            Call::Write { offset, value, .. } if self.no_pulse && *offset & !3 == CR1 => *value &= !8,
+            Call::Setup(s) => s.manual = self.modes.as_mut().map_or(0, |rng| rng.small(1 << s.timers.len())),
+            _ => {}
+        }
+        let answer = match &call {
+            Call::Setup(s) if self.no_pulse => self.board.call(&Call::Setup(Setup { manual: 0, ..s.clone() })),
+            call => self.board.call(call),
+        };
         if self.in_time {
             let book = self.book();
             let due = match call {
@@ -103,6 +125,9 @@ impl Gen {
             return Call::Setup(self.good_setup());
         }
         self.left -= 1;
+        if let Some(call) = self.fire() {
+            return call;
+        }
         if self.few {
             return self.choose_few();
         }
@@ -170,6 +195,20 @@ impl Gen {
                 None => Call::Next,
             },
         }
+    }
+
+    /// A manual timer is fired, or its run made a pulse, once in eight calls.
+    fn fire(&mut self) -> Option<Call> {
+        let rng = self.modes.as_mut()?;
+        if !rng.one_in(8) {
+            return None;
+        }
+        let timer = rng.small(self.board.specs().len() as u32);
+        let t = Some(timer as usize).filter(|&t| t < self.setup.timers.len() && self.setup.manual >> t & 1 != 0)?;
+        let v = self.board.view(t, self.board.last());
+        let more = rng.pick(&[0, 0, 0, 0x10, 0x80, 4, 2]);
+        let more = if v.running { 0 } else { more };
+        Some(Call::Write { timer, offset: CR1, size: 4, value: v.cr1 ^ more | 9, cycle: self.when(), book: self.book() })
     }
 
     /// One or two timers, mostly with channels; function 1 of pin k is the k-th channel.

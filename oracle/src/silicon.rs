@@ -81,6 +81,11 @@ impl Rules {
         Self::all(false)
     }
 
+    /// What the port follows: the Rust's rules, and in manual mode the manual's of each request that is there. So far that is F-2.
+    pub const fn port(manual: bool) -> Self {
+        Self { one_pulse: manual, ..Self::rust() }
+    }
+
     /// Document 02's manual mode: F-2, F-6, F-8 and F-11 by the manual, all else by the Rust.
     pub const fn manual_mode() -> Self {
         Self { one_pulse: true, reload_zero: true, centre_aligned: true, one_pulse_udis: true, ..Self::rust() }

@@ -82,8 +82,7 @@ fn readings() {
         if let Some(title) = line.strip_prefix("# ") {
             reading = title;
         }
-        let plain = line.replace(" manual 1", "");
-        let Some(call) = parse(plain.as_bytes()).unwrap_or_else(|e| panic!("{line}: {e}")) else { continue };
+        let Some(call) = parse(line.as_bytes()).unwrap_or_else(|e| panic!("{line}: {e}")) else { continue };
         let answer = board.call(&call);
         if let Some((_, wanted)) = line.split_once('#') {
             asked += 1;

@@ -7,8 +7,9 @@ use oracle::gen::Gen;
 
 #[test]
 fn calls_read_back() {
-    for seed in 0..5 {
-        let mut gen = Gen::new(seed);
+    for seed in 0..6 {
+        let gen = Gen::new(seed);
+        let mut gen = if seed < 5 { gen } else { gen.with_manual(seed) };
         for _ in 0..20_000 {
             let (call, _) = gen.step();
             let line = call.to_string();
@@ -74,6 +75,15 @@ fn malformed_lines() {
         ("setup 0 0 1 0 0 16 1 4294967296", TooLarge),
         ("setup 0 0 1 0 0 0 0 1", TooLarge),
         ("setup 0 0 1 0 0 16 1 x", NotANumber),
+        ("setup 0 0 1 0 0 16 manual 1", TooLarge),
+        ("setup 0 0 1 0 1 2 32 4 1 3 0 0 16 manual 2", TooLarge),
+        ("setup 0 0 1 0 1 2 32 4 1 3 0 0 16 manual 4294967296", TooLarge),
+        ("setup 0 0 1 0 1 2 32 4 1 3 0 0 16 manual", Missing),
+        ("setup 0 0 1 0 1 2 32 4 1 3 0 0 16 manual x", NotANumber),
+        ("setup 0 0 1 0 1 2 32 4 1 3 0 0 16 manua 1", NotANumber),
+        ("setup 0 0 1 0 1 2 32 4 1 3 0 0 16 1 manual 1", NotANumber),
+        ("setup 0 0 1 0 1 2 32 4 1 3 0 0 manual 1", NotANumber),
+        ("setup 0 0 1 0 1 2 32 4 1 3 0 0 16 manual 1 1", Surplus),
     ];
     for &(line, reason) in cases {
         assert_eq!(parse(line.as_bytes()), Err(reason), "{line:?}");
@@ -90,6 +100,14 @@ fn accepted_lines() {
     }
     assert!(parse(b"level 1 \xff").is_err());
     assert!(parse(b"setup 0 0 1 0 0 4294967295 4294967294 4294967295").is_ok());
+    let mask = |line: String| match parse(line.as_bytes()) {
+        Ok(Some(oracle::Call::Setup(s))) => s.manual,
+        other => panic!("{line}: {other:?}"),
+    };
+    let timers = |n: usize| format!("setup 0 0 1 0 {n}{} 16", " 0".repeat(7 * n));
+    assert_eq!([mask(timers(1)), mask(timers(1) + " manual 1"), mask(timers(8) + " 1 194 manual 0xa5")], [0, 1, 0xa5]);
+    // As many timers as the mask has bits, and more, are the board's to refuse.
+    assert_eq!([mask(timers(32) + " manual 4294967295"), mask(timers(33) + " manual 4294967295"), mask(timers(0) + " manual 0")], [u32::MAX, u32::MAX, 0]);
 }
 
 /// The malformed line is the last thing told, with its number among all lines.

@@ -13,6 +13,8 @@ pub struct SetUp {
     pub timers: Vec<u32>,
     /// LEN, cut off at [`LONGEST`], and its entries.
     pub table: Vec<u32>,
+    /// MASK: timer i is in manual mode where bit i is 1.
+    pub manual: u32,
 }
 
 /// A call. Numbers are as they are written.
@@ -201,12 +203,19 @@ impl Numbers<'_> {
         let (hz, vcc) = (self.float()?, self.float()?);
         let (pins, lines) = (self.short()?, self.short()?);
         let mut timers = Vec::new();
-        for _ in 0..7 * u64::from(self.short()?) {
+        let n = self.short()?;
+        for _ in 0..7 * u64::from(n) {
             timers.push(self.short()?);
         }
         let len = u64::from(self.short()?);
         let mut table = vec![0; len.min(LONGEST) as usize];
-        while let Some(index) = self.next()? {
+        let mut manual = 0;
+        while let Some(word) = self.0.next() {
+            if word == b"manual" {
+                manual = self.mask(n)?;
+                break;
+            }
+            let index = number(word)?;
             if index >= len {
                 return Err(Malformed::TooLarge);
             }
@@ -215,7 +224,12 @@ impl Numbers<'_> {
                 *entry = signal;
             }
         }
-        Ok(Call::SetUp(SetUp { hz, vcc, pins, lines, timers, table }))
+        Ok(Call::SetUp(SetUp { hz, vcc, pins, lines, timers, table, manual }))
+    }
+
+    /// A bit for each of `n` timers.
+    fn mask(&mut self, n: u32) -> Result<u32, Malformed> {
+        Some(self.short()?).filter(|&mask| u64::from(mask) >> n.min(32) == 0).ok_or(Malformed::TooLarge)
     }
 }
 
@@ -259,6 +273,21 @@ mod tests {
         // A table that is too long for every board is kept as one that is.
         let Ok(Some(Call::SetUp(s))) = parse(b"setup 0 0 0 0 0 4294967295 4294967294 1") else { panic!() };
         assert_eq!((s.timers.len(), s.table.len()), (0, 2049));
+    }
+
+    #[test]
+    fn manual_mode_stands_behind_the_pairs() {
+        let read = |rest: &str| match parse(format!("setup 0 0 1 0 2 2 32 4 1 3 0 0 3 16 4 1 3 1 0 16 {rest}").as_bytes()) {
+            Ok(Some(Call::SetUp(s))) => Ok((s.manual, s.table[1])),
+            Err(e) => Err(e),
+            other => panic!("{other:?}"),
+        };
+        assert_eq!([read(""), read("manual 0"), read("manual 0x3"), read("1 194 manual 2")], [Ok((0, 0)), Ok((0, 0)), Ok((3, 0)), Ok((2, 194))]);
+        assert_eq!(read("manual 4"), Err(Malformed::TooLarge));
+        assert_eq!(read("manual 4294967296"), Err(Malformed::TooLarge));
+        assert_eq!([read("manual"), read("1 manual 1")], [Err(Malformed::Missing), Err(Malformed::NotANumber)]);
+        assert_eq!([read("manually 1"), read("Manual 1"), read("manual manual")], [Err(Malformed::NotANumber); 3]);
+        assert_eq!([read("manual 1 1"), read("manual 1 manual 1")], [Err(Malformed::Surplus); 2]);
     }
 
     #[test]

@@ -48,7 +48,9 @@ impl Player {
         let book = &mut Book { pins: &mut self.pins[..lent], levels: &mut self.levels[..lent], cycles: &mut self.cycles[..lent] };
         let s = &mut self.state;
         self.answer = match *call {
-            Call::SetUp(SetUp { hz, vcc, pins, lines, ref timers, ref table }) => s.set_up(hz, vcc, pins, lines, timers, table),
+            Call::SetUp(SetUp { hz, vcc, pins, lines, ref timers, ref table, manual }) => {
+                s.set_up_manual(hz, vcc, pins, lines, manual, timers, table)
+            }
             Call::Clock { sys, hclk, dividers, cycle } => s.set_clock_tree(sys, hclk, dividers, cycle),
             Call::Enable { word, value } => s.enable(word, value),
             Call::Pin { pin, mode, open_drain, out, pullup, pulldown, function, cycle, .. } => {

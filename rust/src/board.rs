@@ -308,7 +308,9 @@ impl Board {
         let table: Vec<u32> = setup.pins.iter().flatten().map(|&s| s as u32).collect();
         // More pins than 32 bits count are too many all the same.
         let pins = u32::try_from(setup.pins.len()).unwrap_or(u32::MAX);
-        let a = self.state.set_up(setup.hz, setup.vcc, pins, setup.lines, &timers, &table);
+        // So are more timers than the mask has bits.
+        let manual = setup.timers.iter().take(32).zip(0..).fold(0, |mask, (t, i)| mask | u32::from(t.manual) << i);
+        let a = self.state.set_up_manual(setup.hz, setup.vcc, pins, setup.lines, manual, &timers, &table);
         Err(match a.number {
             0 => return Ok(()),
             1 => Error::WrongBoard(setup.limit().unwrap_or(Limit::Unknown)),

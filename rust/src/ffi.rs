@@ -81,6 +81,7 @@ unsafe extern "C" {
     safe fn board_reals() -> usize;
     fn board_blank(words: *mut u64, reals: *mut f64);
     fn board_set_up(words: *mut u64, reals: *mut f64, hz: f64, vcc: f64, pins: u32, lines: u32, timers: *const u32, timers_len: usize, table: *const u32, table_len: usize) -> Answer;
+    fn board_set_up_manual(words: *mut u64, reals: *mut f64, hz: f64, vcc: f64, pins: u32, lines: u32, manual: u32, timers: *const u32, timers_len: usize, table: *const u32, table_len: usize) -> Answer;
     fn board_set_clock_tree(words: *mut u64, reals: *mut f64, sysclk_hz: f64, hclk_hz: f64, ppre1: u32, ppre2: u32, ppre3: u32, ppre4: u32, tim1: u32, tim2: u32, cycle: u64) -> Answer;
     fn board_enable(words: *mut u64, reals: *const f64, word: u32, value: u32) -> Answer;
     fn board_set_pin(words: *mut u64, reals: *mut f64, pin: u32, mode: u32, open_drain: u32, out: u32, pullup: u32, pulldown: u32, function: u32, cycle: u64, pins: *mut u8, pins_len: usize, levels: *mut u8, levels_len: usize, cycles: *mut u64, cycles_len: usize) -> Answer;
@@ -189,10 +190,16 @@ impl State {
         change!(board_blank, self)
     }
 
-    /// Set up. `timers`: seven numbers each, as in [`TimerSpec`](crate::TimerSpec). `table`: 16 signals a pin.
+    /// Set up, no timer in manual mode. `timers`: seven numbers each, as in [`TimerSpec`](crate::TimerSpec). `table`: 16 signals a pin.
     #[inline]
     pub fn set_up(&mut self, hz: f64, vcc: f64, pins: u32, lines: u32, timers: &[u32], table: &[u32]) -> Answer {
         change!(board_set_up, self, hz, vcc, pins, lines, timers.as_ptr(), timers.len(), table.as_ptr(), table.len())
+    }
+
+    /// Set up with timer i in manual mode where bit i of `manual` is 1; a bit of no timer says nothing.
+    #[inline]
+    pub fn set_up_manual(&mut self, hz: f64, vcc: f64, pins: u32, lines: u32, manual: u32, timers: &[u32], table: &[u32]) -> Answer {
+        change!(board_set_up_manual, self, hz, vcc, pins, lines, manual, timers.as_ptr(), timers.len(), table.as_ptr(), table.len())
     }
 
     /// Changes the clock tree. `dividers`: PPRE1 to PPRE4, TIM1, TIM2.

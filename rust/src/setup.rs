@@ -46,17 +46,20 @@ pub struct TimerSpec {
     pub bit: u32,
     /// The interrupt line; at or above the board's lines it is ignored.
     pub irq: u32,
+    /// Manual mode: the end of a pulse clears CEN, so that a write of CEN fires the next one; see [`manual`](Self::manual).
+    pub manual: bool,
 }
 
 impl TimerSpec {
-    /// TIMn with 16 bits and 4 channels on bus 1, behind bit 0 of enable word 0, without an interrupt.
+    /// TIMn with 16 bits and 4 channels on bus 1, behind bit 0 of enable word 0, without an interrupt and not in manual mode.
     ///
     /// ```
     /// # use board::TimerSpec;
-    /// assert_eq!(TimerSpec::new(3), TimerSpec { number: 3, width: 16, channels: 4, bus: 1, word: 0, bit: 0, irq: u32::MAX });
+    /// let spec = TimerSpec::new(3);
+    /// assert_eq!(spec, TimerSpec { number: 3, width: 16, channels: 4, bus: 1, word: 0, bit: 0, irq: u32::MAX, manual: false });
     /// ```
     pub const fn new(number: u32) -> Self {
-        Self { number, width: 16, channels: 4, bus: 1, word: 0, bit: 0, irq: u32::MAX }
+        Self { number, width: 16, channels: 4, bus: 1, word: 0, bit: 0, irq: u32::MAX, manual: false }
     }
 
     /// 16 or 32 bits.
@@ -108,6 +111,38 @@ impl TimerSpec {
     /// ```
     pub const fn irq(self, irq: u32) -> Self {
         Self { irq, ..self }
+    }
+
+    /// Manual mode. As in the published Rust a timer in one-pulse mode stops at its update; in manual mode that clears CEN too, as ST's manual has it,
+    /// so a write of CEN starts the timer again. Without it CEN stays set, and has to be written 0 before it starts a timer.
+    ///
+    /// ```
+    /// use board::{Board, Reg, Setup, TimerSpec};
+    ///
+    /// let mut setup = Setup::new(16e6, 3.3);
+    /// let lock = setup.add_timer(TimerSpec::new(2).manual(true));
+    /// let pilot = setup.add_timer(TimerSpec::new(3).enable(0, 1));
+    /// setup.add_pin(&[]);
+    /// let mut board = Board::new(4);
+    /// board.set_up(&setup)?;
+    /// board.enable(0, 3)?;
+    /// for timer in [lock, pilot] {
+    ///     board.write_reg(timer, Reg::Arr, 9, 0)?;
+    ///     board.write_reg(timer, Reg::Cr1, 0b1001, 0)?; // OPM and CEN
+    /// }
+    /// board.deliver(lock, 10)?;
+    /// board.deliver(pilot, 10)?;
+    /// assert_eq!((board.read_reg(lock, Reg::Cr1, 10)?, board.read_reg(pilot, Reg::Cr1, 10)?), (0b1000, 0b1001));
+    ///
+    /// // The same write fires the one and not the other.
+    /// for timer in [lock, pilot] {
+    ///     board.write_reg(timer, Reg::Cr1, 0b1001, 50)?;
+    /// }
+    /// assert_eq!((board.booked(lock)?, board.booked(pilot)?), (Some(60), None));
+    /// # Ok::<(), board::Error>(())
+    /// ```
+    pub const fn manual(self, manual: bool) -> Self {
+        Self { manual, ..self }
     }
 }
 

@@ -243,6 +243,53 @@ fn sizes_are_found() {
     }
 }
 
+/// The mode is each timer's own, and a saved board keeps it. In it a pulse's end clears CEN, so the same write fires again.
+#[test]
+fn manual_mode_is_each_timers_own() {
+    for mask in [0u32, 1, 2, 0x55, 0x80, 0xfe, 0xff] {
+        let timers = (0..8).map(|i| TimerSpec::new(i + 1).enable(0, i).manual(mask >> i & 1 != 0)).collect();
+        let mut b = Board::new(4);
+        b.set_up(&Setup { timers, pins: vec![[0; 16]], ..Setup::new(16e6, 3.3) }).unwrap();
+        b.enable(0, 0xff).unwrap();
+        let mut restored = Board::new(4);
+        restored.restore(&b.save()).unwrap();
+        for b in [&mut b, &mut restored] {
+            for t in (0..8).map(TimerIndex) {
+                b.write_reg(t, Reg::Arr, 9, 0).unwrap();
+                b.write_reg(t, Reg::Cr1, 9, 0).unwrap();
+            }
+            for t in (0..8).map(TimerIndex) {
+                let manual = mask >> t.0 & 1 != 0;
+                b.deliver(t, 10).unwrap();
+                assert_eq!((b.read_reg(t, Reg::Cr1, 10), b.booked(t)), (Ok(if manual { 8 } else { 9 }), Ok(None)), "{mask:x} {t:?}");
+            }
+            for t in (0..8).map(TimerIndex) {
+                b.write_reg(t, Reg::Cr1, 9, 30).unwrap();
+                assert_eq!(b.booked(t), Ok((mask >> t.0 & 1 != 0).then_some(40)), "{mask:x} {t:?}");
+            }
+        }
+    }
+}
+
+/// To the exported call a bit of no timer says nothing, and without a bit it is the call without a mask.
+#[test]
+fn bits_of_no_timer() {
+    let set_up = |manual: Option<u32>| {
+        let (timers, table, mut s) = ([2, 32, 4, 1, 3, 0, 0, 3, 16, 4, 1, 3, 1, 0], [0; 16], ffi::State::new());
+        let a = match manual {
+            None => s.set_up(16e6, 3.3, 1, 0, &timers, &table),
+            Some(mask) => s.set_up_manual(16e6, 3.3, 1, 0, mask, &timers, &table),
+        };
+        assert_eq!(a.number, 0);
+        s
+    };
+    assert!(set_up(None).same(&set_up(Some(0))) && set_up(None).same(&set_up(Some(!3))));
+    assert!(set_up(Some(2)).same(&set_up(Some(!1))) && !set_up(Some(2)).same(&set_up(Some(1))));
+    // More timers than the mask has bits are too many, in manual mode or not.
+    let timers = vec![TimerSpec::new(2).manual(true); 40];
+    assert_eq!(Board::new(4).set_up(&Setup { timers, ..Setup::example() }), Err(Error::WrongBoard(Limit::Timers(40))));
+}
+
 /// The clock gate is seen whatever the registers hold, also when all of them are 0.
 #[test]
 fn gated_writes_are_told() {

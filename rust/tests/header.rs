@@ -205,7 +205,7 @@ fn the_archives_have_the_functions() {
     let mut exported: Vec<_> = nm.lines().filter_map(|l| l.split_whitespace().nth(2)).map(str::to_owned).collect();
     exported.sort();
     assert_eq!(names, exported);
-    assert_eq!(names.len(), 25);
+    assert_eq!(names.len(), 26);
 }
 
 #[test]

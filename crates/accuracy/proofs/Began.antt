@@ -15,7 +15,7 @@ use Rattle.tim.specs.declared.Timer.{Timer}
 use Rattle.tim.specs.declared.Inst.{Inst}
 use Rattle.regs.specs.declared.Written.{Written}
 use Rattle.clk.specs.Clk.{timerDiv}
-use Rattle.tim.specs.Timer.{isOutput, ccmrByte}
+use Rattle.tim.specs.Timer.{isOutput, ccmrByte, withCr1}
 use Rattle.tim.specs.Count.{synced}
 use Rattle.tim.specs.Change as C
 use Rattle.regs.specs.Regs as R
@@ -109,7 +109,7 @@ module _ (t : Timer) (v now div : ℕ) (off : CEN (cr1 t) ≡ false) where
   if-cr1 : If (R.cr1Written t v now div)
   unfolding R.cr1Written C.started C.recomputed
   if-cr1 =
-      let s = R.withCr1 (synced t now) (R.keptCr1 t v) in
+      let s = withCr1 (synced t now) (R.keptCr1 t v) in
       by-test If (CEN (s .regs .cr1))
       (λ e. by-test If (CEN (t .regs .cr1)) (λ on. absurd (never (sym off ∙ on))) (λ _ on. record { running = refl; base-is = refl; tick-is = refl }))
       (λ e. by-test If (CEN (t .regs .cr1)) (λ on. absurd (never (sym off ∙ on))) (λ _. if-turned (t .regs .cr1) s e))

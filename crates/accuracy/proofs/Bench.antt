@@ -2,7 +2,7 @@
 -- first board on.
 use Prim.Native.Nat.{ℕ, _+_, _-_, _*_}
 use mathlib.Core.Path.{_≡_, refl, ap, _∙_}
-use mathlib.Core.Bool.{Bool, true, not, _&&_}
+use mathlib.Core.Bool.{Bool, true, false, not, _&&_}
 use mathlib.Core.List.{List, [], _∷_, _++_}
 use lib.Dec.{eqb, ltb, leb}
 use borrow.Author.Tests.{eqb-true, ltb-true, leb-true, not-true}
@@ -32,7 +32,7 @@ setup n = record {
   vcc = one;
   pins = 2;
   lines = 0;
-  timers = record { n = n; width = 32; channels = 4; apb = 1; irq = 28; «en_reg» = 0; «en_bit» = 0 } ∷ [];
+  timers = record { n = n; width = 32; channels = 4; apb = 1; irq = 28; «en_reg» = 0; «en_bit» = 0; manual = false } ∷ [];
   table = (timSignal n 0 ∷ replicate 15 0) ++ (timSignal n 0 ∷ replicate 15 0);
 }
 

@@ -19,6 +19,7 @@ use Rattle.tim.specs.declared.Next.the-variants.{Update, Compare}
 use Rattle.tim.specs.Timer.{isOutput, ccrAct}
 use Rattle.tim.specs.Next.{compareSteps, compares, waiting, ahead, nextSteps}
 use Rattle.tim.specs.Change as C
+use Rattle.tim.proofs.Laws.{ends-not}
 use Rattle.stepping.proofs.Agrees.{next-best}
 use Rattle.gpio.specs.Gpio.{bit}
 use Rattle.machine.specs.Deliver.{applied, countAt}
@@ -200,14 +201,14 @@ module _ (a : Aim) (t : Timer) (f : Fixed a t) where
       })
       f
 
-  fixed-restarted : (at : ℕ) → Fixed a (C.ended (C.recomputedAfterUpdate (C.restarted t at (a .div))))
-  unfolding C.ended C.recomputedAfterUpdate C.restarted
-  fixed-restarted at = record {
+  fixed-over : (at : ℕ) → Fixed a (C.recomputedAfterUpdate (C.restarted t at (a .div)))
+  unfolding C.recomputedAfterUpdate C.restarted
+  fixed-over at = record {
     number = f .number;
     bus = f .bus;
     channel = f .channel;
     four = f .four;
-    running = rw (f .one-pulse) (f .running);
+    running = f .running;
     upward = f .upward;
     one-pulse = f .one-pulse;
     psc-is = f .psc-is;
@@ -223,6 +224,10 @@ module _ (a : Aim) (t : Timer) (f : Fixed a t) where
     polarity = f .polarity;
     mode = f .mode;
   }
+
+  -- one-pulse is clear, so nothing ends
+  fixed-restarted : (at : ℕ) → Fixed a (C.ended (C.recomputedAfterUpdate (C.restarted t at (a .div))))
+  fixed-restarted at = subst (Fixed a) (sym (ends-not (C.recomputedAfterUpdate (C.restarted t at (a .div))) (fixed-over at .one-pulse))) (fixed-over at)
 
   -- after an update a channel is done only if its compare is above the reload
   passed-restarted : (at : ℕ) → getD (C.ended (C.recomputedAfterUpdate (C.restarted t at (a .div))) .chan .«cc_done») (a .ch) false ≡ true → a .reload < a .compare

@@ -45,7 +45,7 @@ pub extern "C" fn board_blank(words: &mut [u64; WORDS], reals: &mut [f64; REALS]
 
 // ---- set-up, clocks, pins
 
-// Set up: seven numbers a timer (number, width, channels, bus, enable word, enable bit, interrupt), and the signal table.
+// Set up: seven numbers a timer (number, width, channels, bus, enable word, enable bit, interrupt), and the signal table. No timer is in manual mode.
 #[no_mangle]
 pub extern "C" fn board_set_up(
     words: &mut [u64; WORDS],
@@ -57,9 +57,32 @@ pub extern "C" fn board_set_up(
     timers: &[u32],
     table: &[u32],
 ) -> Answer
-    ensures { λ r. ⌜ Answers (step (view (now (words .entry)) (now (reals .entry))) (C.setUp (setupOf hz vcc pins lines (now (timers .entry)) (now (table .entry))))) r (now (words .entry)) (now (words .exit)) (now (reals .entry)) (now (reals .exit)) ⌝ }
+    ensures { λ r. ⌜ Answers (step (view (now (words .entry)) (now (reals .entry))) (C.setUp (setupOf hz vcc pins lines 0 (now (timers .entry)) (now (table .entry))))) r (now (words .entry)) (now (words .exit)) (now (reals .entry)) (now (reals .exit)) ⌝ }
 {
-    let number = setup::set_up(words, reals, hz, vcc, pins, lines, timers, table);
+    let number = setup::set_up(words, reals, hz, vcc, pins, lines, 0, timers, table);
+    Answer {
+        value: 0,
+        number: number as u32,
+        count: 0,
+    }
+}
+
+// Set up with timers in manual mode: timer i where bit i of `manual` is 1; a bit of no timer says nothing.
+#[no_mangle]
+pub extern "C" fn board_set_up_manual(
+    words: &mut [u64; WORDS],
+    reals: &mut [f64; REALS],
+    hz: f64,
+    vcc: f64,
+    pins: u32,
+    lines: u32,
+    manual: u32,
+    timers: &[u32],
+    table: &[u32],
+) -> Answer
+    ensures { λ r. ⌜ Answers (step (view (now (words .entry)) (now (reals .entry))) (C.setUp (setupOf hz vcc pins lines manual (now (timers .entry)) (now (table .entry))))) r (now (words .entry)) (now (words .exit)) (now (reals .entry)) (now (reals .exit)) ⌝ }
+{
+    let number = setup::set_up(words, reals, hz, vcc, pins, lines, manual, timers, table);
     Answer {
         value: 0,
         number: number as u32,

@@ -11,7 +11,7 @@ use Rattle.rm0440.specs.Bits.{field, isSet, CEN, ARPE, UDIS, URS}
 use Rattle.rm0440.specs.Output as Out
 use Rattle.tim.specs.declared.Timer.{Timer}
 use Rattle.tim.specs.declared.Inst.{Inst}
-use Rattle.tim.specs.Timer.{max, isOutput, ccmrByte, withCount}
+use Rattle.tim.specs.Timer.{max, isOutput, ccmrByte, withCount, withCr1}
 use Rattle.tim.specs.Count.{synced, atCount, cntAt}
 use Rattle.tim.specs.Change as T
 use Rattle.regs.specs.declared.Written.{Written}
@@ -71,7 +71,7 @@ fit-reset i div = (le-refl (T.maxOf i), le-refl (T.maxOf i))
 fit-cr1 : (t : Timer) (v now div : ℕ) → Fit t → Fit (R.cr1Written t v now div)
 unfolding R.cr1Written R.turned T.started T.stopped T.recomputed
 fit-cr1 t v now div f =
-    let s = R.withCr1 (synced t now) (R.keptCr1 t v) in
+    let s = withCr1 (synced t now) (R.keptCr1 t v) in
     let e : Fit s = fit-synced t now f in
     let turned : Fit (R.turned (t .regs .cr1) s) = either Fit (eqb (field 4 1 (t .regs .cr1)) (field 4 1 (s .regs .cr1))) e e in
     let stopped : Fit (T.stopped s now) = fit-synced s now e in

@@ -7,7 +7,6 @@ use native.Mathlib.Omega.{arith}
 use lib.Dec.{ltb, leb}
 use lib.ListN.{getD, length}
 use borrow.Author.Tests.{lt-leb, le-ltb}
-use Rattle.rm0440.specs.Rules.{rust}
 use Rattle.rm0440.specs.Clock.{clocks}
 use Rattle.rm0440.specs.Write as M
 use Rattle.tim.specs.declared.Timer.{Timer}

@@ -4,7 +4,7 @@ use Prim.Native.Nat.{ℕ, _%_, _≤_, _<_}
 use mathlib.Core.Path.{_≡_}
 use mathlib.Core.Bool.{true, false, cond}
 use mathlib.Core.List.{List, map}
-use Rattle.rm0440.specs.Rules.{Rules, manual, rust}
+use Rattle.rm0440.specs.Rules.{Rules, manual}
 use Rattle.rm0440.specs.State as State
 use Rattle.rm0440.specs.Clock.{matched, clocks}
 use Rattle.rm0440.specs.Read.{read}
@@ -42,7 +42,7 @@ abbrev pub StepDelivers : Type 0
 StepDelivers =
     (cs : List Call) (i a cycle places : ℕ) → i < after cs .counts .timers → WithinDown (timerAt (after cs) i) → timerAt (after cs) i .count .base ≤ a → a ≤ cycle
     → Delivered (timerAt (after cs) i) a → step (after cs) (C.deliver i cycle places) .number ≡ 0
-    → (clocks rust (between (timerAt (after cs) i) (divOf (after cs) i) a cycle) (seen (timerAt (after cs) i) (divOf (after cs) i) a)
+    → (clocks (rulesOf (timerAt (after cs) i)) (between (timerAt (after cs) i) (divOf (after cs) i) a cycle) (seen (timerAt (after cs) i) (divOf (after cs) i) a)
     ≡ seen (timerAt (step (after cs) (C.deliver i cycle places) .board) i) (divOf (after cs) i) cycle)
     × Delivered (timerAt (step (after cs) (C.deliver i cycle places) .board) i) cycle
 
@@ -57,7 +57,7 @@ StepWrites =
     → clockOn (after cs) (timerAt (after cs) i) ≡ true → step (after cs) (C.write i offset size value cycle places) .number ≡ 0
     → Within (timerAt (step (after cs) (C.write i offset size value cycle places) .board) i)
     → Delivered (deliver f cycle (divOf (after cs) i) (timerAt (step (after cs) (C.write i offset size value cycle places) .board) i)) cycle
-    → M.write rust (register offset) (merged (after cs) i offset size value cycle) (seen (timerAt (after cs) i) (divOf (after cs) i) cycle)
+    → M.write (rulesOf (timerAt (after cs) i)) (register offset) (merged (after cs) i offset size value cycle) (seen (timerAt (after cs) i) (divOf (after cs) i) cycle)
     ≡ seen (deliver f cycle (divOf (after cs) i) (timerAt (step (after cs) (C.write i offset size value cycle places) .board) i)) (divOf (after cs) i) cycle
 
 -- ---- timer i after calls cs: its divider, its rules, and what is seen of it at a cycle

@@ -29,9 +29,9 @@ pub figures-hold : map (λ (f : Figure). callsOf (f .words)) figures ≡ map (λ
 unfolding word word64 real64 bookCall changeCall questionCall callWith sizeOf lenOf bookOf callsFrom
 figures-hold = refl
 
--- set-up: one timer, three entries of the table
-pub set-up-figure : callsOf (0 ∷ 0 ∷ 0 ∷ 0 ∷ 0 ∷ 1 ∷ 2 ∷ 1 ∷ 3 ∷ 10 ∷ 11 ∷ 12 ∷ 13 ∷ 14 ∷ 15 ∷ 16 ∷ 20 ∷ 21 ∷ 22 ∷ [])
-    ≡ setUp (setupOf (Ieee.ofBits binary64 0) (Ieee.ofBits binary64 0) 1 2 (10 ∷ 11 ∷ 12 ∷ 13 ∷ 14 ∷ 15 ∷ 16 ∷ []) (20 ∷ 21 ∷ 22 ∷ [])) ∷ []
+-- set-up: one timer, in manual mode, three entries of the table
+pub set-up-figure : callsOf (0 ∷ 0 ∷ 0 ∷ 0 ∷ 0 ∷ 1 ∷ 2 ∷ 1 ∷ 3 ∷ 5 ∷ 10 ∷ 11 ∷ 12 ∷ 13 ∷ 14 ∷ 15 ∷ 16 ∷ 20 ∷ 21 ∷ 22 ∷ [])
+    ≡ setUp (setupOf (Ieee.ofBits binary64 0) (Ieee.ofBits binary64 0) 1 2 5 (10 ∷ 11 ∷ 12 ∷ 13 ∷ 14 ∷ 15 ∷ 16 ∷ []) (20 ∷ 21 ∷ 22 ∷ [])) ∷ []
 unfolding word word64 real64 bookCall changeCall questionCall callWith sizeOf lenOf bookOf callsFrom
 set-up-figure = refl
 

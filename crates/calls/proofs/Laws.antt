@@ -89,13 +89,13 @@ module _ (ns : List ℕ) where
       (either (λ (c : Call). lent c ≡ 0) (eqb op 16) refl refl))))))
 
   -- ---- changes
-  pub set-up-is : (hz vcc : Float) (pins lines n len : ℕ) → hz ≡ real64 ns 1 → vcc ≡ real64 ns 3 → pins ≡ word ns 5 → lines ≡ word ns 6 → n ≡ word ns 7 → len ≡ word ns 8
-      → setUp (setupOf hz vcc pins lines (take (9 + n * 7 - 9) (drop 9 ns)) (take (9 + n * 7 + len - (9 + n * 7)) (drop (9 + n * 7) ns))) ≡ changeCall 0 ns
+  pub set-up-is : (hz vcc : Float) (pins lines n len mask : ℕ) → hz ≡ real64 ns 1 → vcc ≡ real64 ns 3 → pins ≡ word ns 5 → lines ≡ word ns 6 → n ≡ word ns 7 → len ≡ word ns 8 → mask ≡ word ns 9
+      → setUp (setupOf hz vcc pins lines mask (take (10 + n * 7 - 10) (drop 10 ns)) (take (10 + n * 7 + len - (10 + n * 7)) (drop (10 + n * 7) ns))) ≡ changeCall 0 ns
   unfolding changeCall
-  set-up-is hz vcc pins lines n len a b c d e f =
-      let p : 9 + n * 7 - 9 ≡ n * 7 = omega arith in
-      let q : 9 + n * 7 + len - (9 + n * 7) ≡ len = omega arith in
-      rw (p, q, a, b, c, d, e, f)
+  set-up-is hz vcc pins lines n len mask a b c d e f g =
+      let p : 10 + n * 7 - 10 ≡ n * 7 = omega arith in
+      let q : 10 + n * 7 + len - (10 + n * 7) ≡ len = omega arith in
+      rw (p, q, a, b, c, d, e, f, g)
 
   pub clock-is : (t : ClockTree) (c : ℕ) → t ≡ treeAt ns → c ≡ word64 ns 11 → clockTree t c ≡ changeCall 1 ns
   unfolding changeCall
@@ -121,7 +121,7 @@ module _ (ns : List ℕ) where
   lent-change op =
       either (λ (c : Call). lent c ≡ 0) (eqb op 0) refl (either (λ (c : Call). lent c ≡ 0) (eqb op 1) refl (either (λ (c : Call). lent c ≡ 0) (eqb op 2) refl refl))
 
-  pub set-up-fits : (op : ℕ) → op ≡ 0 → sizeOf op ns ≤ length ns → 9 + word ns 7 * 7 + word ns 8 ≤ length ns
+  pub set-up-fits : (op : ℕ) → op ≡ 0 → sizeOf op ns ≤ length ns → 10 + word ns 7 * 7 + word ns 8 ≤ length ns
   unfolding sizeOf
   set-up-fits op e h = subst (λ (k : ℕ). sizeOf k ns ≤ length ns) e h
 

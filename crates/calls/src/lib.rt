@@ -65,7 +65,7 @@ fn question(words: &[u64; WORDS], reals: &[f64; REALS], calls: &[u32], op: u32) 
 // ---- changes without a book
 
 fn set_up(words: &mut [u64; WORDS], reals: &mut [f64; REALS], calls: &[u32]) -> Answer
-    requires { ⌜ 9 + E.word (now calls) 7 * 7 + E.word (now calls) 8 ≤ length (now calls) ⌝ }
+    requires { ⌜ 10 + E.word (now calls) 7 * 7 + E.word (now calls) 8 ≤ length (now calls) ⌝ }
     ensures { λ r. ⌜ Answers (step (view (now (words .entry)) (now (reals .entry))) (E.changeCall 0 (now (calls .entry)))) r (now (words .entry)) (now (words .exit)) (now (reals .entry)) (now (reals .exit)) ⌝ }
 {
     let hz = encoding::real64(calls, 1);
@@ -74,11 +74,12 @@ fn set_up(words: &mut [u64; WORDS], reals: &mut [f64; REALS], calls: &[u32]) -> 
     let lines = encoding::word(calls, 6);
     let n = encoding::word(calls, 7);
     let len = encoding::word(calls, 8);
-    let start = 9 + n as usize * 7;
+    let manual = encoding::word(calls, 9);
+    let start = 10 + n as usize * 7;
     let end = start + len as usize;
-    let timers = &calls[9..start];
+    let timers = &calls[10..start];
     let table = &calls[start..end];
-    let number = setup::set_up(words, reals, hz, vcc, pins, lines, timers, table);
+    let number = setup::set_up(words, reals, hz, vcc, pins, lines, manual, timers, table);
     Answer {
         value: 0,
         number: number as u32,

@@ -36,8 +36,8 @@ module _ {A : Type 0} (d : A) where
   four (a ∷ b ∷ e ∷ f ∷ g ∷ xs) h = absurd (omega arith)
 
 pub inst : (t : Inst) → Fits w32 (t .n) → Fits w32 (t .width) → Fits w32 (t .channels) → Fits w32 (t .apb) → Fits w32 (t .irq) → Fits w32 (t .«en_reg») → Fits w32 (t .«en_bit»)
-    → instAt (t .n ∷ t .width ∷ t .channels ∷ t .apb ∷ t .irq ∷ t .«en_reg» ∷ t .«en_bit» ∷ []) 0 ≡ t
-inst t a b c d e f g = simp (word a, word b, word c, word d, word e, word f, word g)
+    → instAt (t .n ∷ t .width ∷ t .channels ∷ t .apb ∷ t .irq ∷ t .«en_reg» ∷ t .«en_bit» ∷ boolByte (t .manual) ∷ []) 0 7 ≡ t
+inst t a b c d e f g = simp (word a, word b, word c, word d, word e, word f, word g, flag (t .manual))
 
 pub regs : (t : Regs) → t .psc < 65536 → Fits w32 (t .cr1) → Fits w32 (t .cr2) → Fits w32 (t .smcr) → Fits w32 (t .dier) → Fits w32 (t .sr) → Fits w32 (t .ccer) → Fits w32 (t .arr)
     → regsAt (t .cr1 ∷ t .cr2 ∷ t .smcr ∷ t .dier ∷ t .sr ∷ t .ccer ∷ t .psc ∷ t .arr ∷ []) 0 ≡ t

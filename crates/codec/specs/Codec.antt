@@ -1,5 +1,5 @@
 -- A timer as 40 words: one word for each field, in the order of the struct's fields. Every content of the words is a value in range: a
--- word counts by its remainder. Word 39 is spare.
+-- word counts by its remainder. Manual mode came later and is the last word.
 use mathlib.Core.List.{List, [], _∷_}
 use Prim.Native.Nat.{ℕ, _+_, _%_, _<_, _≤_}
 use lib.ListN.{getD}
@@ -19,8 +19,9 @@ u32At b k = getD b k 0 % 4294967296
 
 -- ---- a timer: its parts, from word k on
 
-abbrev pub instAt : List ℕ → ℕ → Inst
-instAt b k = record {
+-- what set-up fixes: seven words from word k on, and manual mode in word m
+abbrev pub instAt : List ℕ → ℕ → ℕ → Inst
+instAt b k m = record {
   n = u32At b k;
   width = u32At b (k + 1);
   channels = u32At b (k + 2);
@@ -28,6 +29,7 @@ instAt b k = record {
   irq = u32At b (k + 4);
   «en_reg» = u32At b (k + 5);
   «en_bit» = u32At b (k + 6);
+  manual = flagAt b m;
 }
 
 -- a prescaler is below 65536
@@ -71,4 +73,4 @@ pub record CountFit (k : Count) : Type 0 where
   pub base-lt : k .base < 9223372036854775808
 
 unfoldable pub decodeTimer : List ℕ → Timer
-decodeTimer b = record { inst = instAt b 0; regs = regsAt b 7; chan = chanAt b 15; count = countAt b 33 }
+decodeTimer b = record { inst = instAt b 0 39; regs = regsAt b 7; chan = chanAt b 15; count = countAt b 33 }

@@ -16,11 +16,11 @@ ghost use Rattle.gpio.specs.Gpio.{GpioFit};
 ghost use Rattle.codec.specs.Pin.{cfgAt, mcuAt, extOf, extCode, extVolts, decodeGpio};
 ghost use Rattle.codec.specs.Codec.{CountFit, instAt, regsAt, chanAt, countAt, decodeTimer};
 
-// The words of a timer. Word 39 is spare.
+// The words of a timer. The last one is manual mode.
 pub const TIMER_WORDS: usize = 40;
 
 fn unpack_inst(b: &[u64; 40]) -> Inst
-    ensures { λ r. ⌜ r ≡ instAt (now (b .entry)) 0 ⌝ }
+    ensures { λ r. ⌜ r ≡ instAt (now (b .entry)) 0 39 ⌝ }
 {
     Inst {
         n: (b[0] % 4294967296) as u32,
@@ -30,6 +30,7 @@ fn unpack_inst(b: &[u64; 40]) -> Inst
         irq: (b[4] % 4294967296) as u32,
         en_reg: (b[5] % 4294967296) as u32,
         en_bit: (b[6] % 4294967296) as u32,
+        manual: b[39] % 2 == 1,
     }
 }
 
@@ -105,8 +106,8 @@ pub fn unpack_timer(b: [u64; 40]) -> Timer
     }
 }
 
-fn pack_inst(t: Inst) -> [u64; 7]
-    ensures { λ r. ⌜ instAt r 0 ≡ t ⌝ }
+fn pack_inst(t: Inst) -> [u64; 8]
+    ensures { λ r. ⌜ instAt r 0 7 ≡ t ⌝ }
 {
     [
         t.n as u64,
@@ -116,6 +117,7 @@ fn pack_inst(t: Inst) -> [u64; 7]
         t.irq as u64,
         t.en_reg as u64,
         t.en_bit as u64,
+        t.manual as u64,
     ]
 }
 
@@ -228,7 +230,7 @@ pub fn pack_timer(t: Timer) -> [u64; 40]
         count[3],
         count[4],
         count[5],
-        0,
+        inst[7],
     ]
 }
 

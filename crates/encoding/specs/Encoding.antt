@@ -23,10 +23,10 @@ word64 ns k = word ns k + word ns (k + 1) * 4294967296
 unfoldable pub real64 : List ℕ → ℕ → Float
 real64 ns k = Ieee.ofBits binary64 (word64 ns k)
 
--- set-up: HZ VCC PINS LINES N LEN, then seven numbers a timer, then the signal table
+-- set-up: HZ VCC PINS LINES N LEN MASK, then seven numbers a timer, then the signal table
 abbrev pub setupAt : List ℕ → Setup
 setupAt ns =
-    setupOf (real64 ns 1) (real64 ns 3) (word ns 5) (word ns 6) (take (word ns 7 * 7) (drop 9 ns)) (take (word ns 8) (drop (9 + word ns 7 * 7) ns))
+    setupOf (real64 ns 1) (real64 ns 3) (word ns 5) (word ns 6) (word ns 9) (take (word ns 7 * 7) (drop 10 ns)) (take (word ns 8) (drop (10 + word ns 7 * 7) ns))
 
 -- SYS HCLK PPRE1 PPRE2 PPRE3 PPRE4 TIM1 TIM2
 abbrev pub treeAt : List ℕ → ClockTree
@@ -89,7 +89,7 @@ callWith ns places =
 -- 0 where the first word is no call's
 unfoldable pub sizeOf : ℕ → List ℕ → ℕ
 sizeOf op ns =
-    cond (eqb op 0) (9 + word ns 7 * 7 + word ns 8)
+    cond (eqb op 0) (10 + word ns 7 * 7 + word ns 8)
     (cond (eqb op 1) 13
     (cond (eqb op 2) 3
     (cond (eqb op 3) 12

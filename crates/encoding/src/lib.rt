@@ -52,13 +52,13 @@ pub fn real64(calls: &[u32], k: usize) -> f64
 
 // ---- a call's words
 
-// Of set-up: nine, seven a timer, and the signal table.
+// Of set-up: ten, seven a timer, and the signal table.
 fn set_up_size(calls: &[u32]) -> usize
-    ensures { λ r. ⌜ r ≡ 9 + E.word (now (calls .entry)) 7 * 7 + E.word (now (calls .entry)) 8 ⌝ }
+    ensures { λ r. ⌜ r ≡ 10 + E.word (now (calls .entry)) 7 * 7 + E.word (now (calls .entry)) 8 ⌝ }
 {
     let n = word(calls, 7);
     let len = word(calls, 8);
-    9 + n as usize * 7 + len as usize
+    10 + n as usize * 7 + len as usize
 }
 
 // 0 where the first word is no call's.

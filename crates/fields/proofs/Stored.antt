@@ -15,6 +15,7 @@ use Rattle.tim.specs.Count.{atCount}
 use Rattle.tim.specs.Change.{withDone}
 use Rattle.regs.specs.Regs.{withCcr, withCcrAct}
 use Rattle.codec.specs.Codec.{u32At, decodeTimer}
+use Rattle.codec.specs.Pin.{flagAt}
 use Rattle.machine.specs.Board.{timerAt, withTimer}
 use Rattle.state.proofs.Cut.{front-at}
 use Rattle.state.specs.View.{view}
@@ -52,13 +53,16 @@ module _ (w : List ℕ) (i : ℕ) (size : length w ≡ 5276) (h : i < 8) where
 
 -- ---- words read
 
--- seven numbers as the fixed parts
-abbrev pub instOf : ℕ → ℕ → ℕ → ℕ → ℕ → ℕ → ℕ → Inst
-instOf n width channels apb irq reg bit = record { n = n; width = width; channels = channels; apb = apb; irq = irq; «en_reg» = reg; «en_bit» = bit }
+-- seven numbers and a mode as the fixed parts
+abbrev pub instOf : ℕ → ℕ → ℕ → ℕ → ℕ → ℕ → ℕ → Bool → Inst
+instOf n width channels apb irq reg bit mode = record { n = n; width = width; channels = channels; apb = apb; irq = irq; «en_reg» = reg; «en_bit» = bit; manual = mode }
 
 module _ (w : List ℕ) (i : ℕ) (x : List Float) (h : i < 8) where
+  at-word : (k : ℕ) → k < 40 → getD (block w i) k 0 ≡ getD w (i * 40 + k) 0
+  at-word k f = front-at 0 40 (drop (i * 40) w) k f ∙ getD-drop (i * 40) w k 0
+
   word : (k : ℕ) → k < 40 → getD (block w i) k 0 % 4294967296 ≡ getD w (i * 40 + k) 0 % 4294967296
-  word k f = ap (λ (n : ℕ). n % 4294967296) (front-at 0 40 (drop (i * 40) w) k f ∙ getD-drop (i * 40) w k 0)
+  word k f = ap (λ (n : ℕ). n % 4294967296) (at-word k f)
 
   -- a mode word
   pub ccmr-read : (q : ℕ) → q < 2 → getD (timerAt (view w x) i .chan .ccmr) q 0 ≡ getD w (i * 40 + (15 + q)) 0 % 4294967296
@@ -76,10 +80,10 @@ module _ (w : List ℕ) (i : ℕ) (x : List Float) (h : i < 8) where
   cnt-read = ap (λ (t : Timer). t .count .cnt0) (held w i h x) ∙ word 35 (omega arith)
 
   -- the fixed parts
-  pub inst-read : instOf (u32At w (i * 40)) (u32At w (i * 40 + 1)) (u32At w (i * 40 + 2)) (u32At w (i * 40 + 3)) (u32At w (i * 40 + 4)) (u32At w (i * 40 + 5)) (u32At w (i * 40 + 6))
+  pub inst-read : instOf (u32At w (i * 40)) (u32At w (i * 40 + 1)) (u32At w (i * 40 + 2)) (u32At w (i * 40 + 3)) (u32At w (i * 40 + 4)) (u32At w (i * 40 + 5)) (u32At w (i * 40 + 6)) (flagAt w (i * 40 + 39))
       ≡ timerAt (view w x) i .inst
   unfolding decodeTimer
   inst-read =
       let start : i * 40 + 0 ≡ i * 40 = omega arith in
       sym (ap (λ (t : Timer). t .inst) (held w i h x)
-      ∙ simp (word 0 (omega arith) ∙ ap (u32At w) start, word 1 (omega arith), word 2 (omega arith), word 3 (omega arith), word 4 (omega arith), word 5 (omega arith), word 6 (omega arith)))
+      ∙ simp (word 0 (omega arith) ∙ ap (u32At w) start, word 1 (omega arith), word 2 (omega arith), word 3 (omega arith), word 4 (omega arith), word 5 (omega arith), word 6 (omega arith), at-word 39 (omega arith)))

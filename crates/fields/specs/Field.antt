@@ -1,7 +1,8 @@
 -- A timer with one register another.
 use Prim.Native.Nat.{ℕ, zero, suc}
 use Rattle.tim.specs.declared.Timer.{Timer}
-use Rattle.regs.specs.Regs.{withCr1, withCr2, withSmcr, withDier, withSr, withCcer}
+use Rattle.tim.specs.Timer.{withCr1}
+use Rattle.regs.specs.Regs.{withCr2, withSmcr, withDier, withSr, withCcer}
 
 -- register k of CR1, CR2, SMCR, DIER, SR, CCER
 abbrev pub withReg : Timer → ℕ → ℕ → Timer

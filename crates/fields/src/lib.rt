@@ -102,6 +102,7 @@ pub fn inst(words: &[u64; WORDS], i: usize) -> Inst
         irq: (words[k + 4] % 4294967296) as u32,
         en_reg: (words[k + 5] % 4294967296) as u32,
         en_bit: (words[k + 6] % 4294967296) as u32,
+        manual: words[k + 39] % 2 == 1,
     }
 }
 

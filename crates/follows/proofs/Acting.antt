@@ -9,7 +9,7 @@ use lib.ListN.{getD, set}
 use borrow.Author.Tests.{le-ltb}
 use Rattle.rm0440.specs.Bits.{ARPE}
 use Rattle.rm0440.specs.Output as Out
-use Rattle.rm0440.specs.Rules.{rust}
+use Rattle.rm0440.specs.Rules.{portRules}
 use Rattle.rm0440.specs.State as M
 use Rattle.rm0440.specs.Clock.{matched}
 use Rattle.rm0440.specs.Write.{overrun, past, leftCnt, leftArr, leftCcr, writeCnt, writeArr, writeCcmr, writeCcr}
@@ -27,39 +27,42 @@ none-over false d arr cnt h = refl
 none-over true true arr cnt h = refl
 none-over true false arr cnt h = le-ltb arr cnt (h refl)
 
-module _ (y : Timer) (div now : ℕ) where
-  -- ---- CNT
+-- what the port leaves
 
+module _ (y : Timer) (div now : ℕ) where
   abbrev pub newCnt : ℕ → Timer
   newCnt v = T.recomputed (withCount y (atCount (y .count) (bitAnd v (max y)) now))
-
-  cnt-raw : (v : ℕ) → raw (newCnt v) ≡ leftCnt rust v (seen y div now)
-  unfolding T.recomputed T.behind
-  cnt-raw v = refl
-
-  cnt-seen : (v : ℕ) → Within (newCnt v) → seen (newCnt v) div now ≡ leftCnt rust v (seen y div now)
-  unfolding T.recomputed
-  cnt-seen v h = seen-new (newCnt v) div now refl h ∙ cnt-raw v
-
-  pub acts-cnt : (v : ℕ) → Within (newCnt v) → writeCnt rust v (seen y div now) ≡ matched rust (seen (newCnt v) div now)
-  unfolding writeCnt T.recomputed
-  acts-cnt v h =
-      answers (seen y div now) (leftCnt rust v (seen y div now)) (none-over (y .count .running) (down y) (y .count .«arr_act») (bitAnd v (max y)) h)
-      ∙ ap (matched rust) (sym (cnt-seen v h))
-
-  -- ---- CCMRx: no case but mode-change-latch and preload-cleared, which are the Rust's rules themselves
-
-  pub acts-ccmr : (i v : ℕ) → writeCcmr rust i v (seen y div now) ≡ matched rust (seen (R.withCcmr y i v) div now)
-  unfolding writeCcmr cntAt
-  acts-ccmr i v = answers (seen y div now) (seen (R.withCcmr y i v) div now) (no-overrun y now)
-
-  -- ---- ARR and CCRx that act at once
 
   abbrev pub newArr : ℕ → Timer
   newArr v = T.recomputed (R.withArrAct (R.withArr y (bitAnd v (max y))) (bitAnd v (max y)))
 
   abbrev pub newCcr : ℕ → ℕ → Timer
   newCcr ch v = R.settled (R.withCcrAct (R.withCcr y ch (bitAnd v (max y))) ch (bitAnd v (max y))) ch
+
+module _ (p : Bool) (y : Timer) (div now : ℕ) where
+  -- ---- CNT
+
+  cnt-raw : (v : ℕ) → raw (newCnt y div now v) ≡ leftCnt (portRules p) v (seen y div now)
+  unfolding T.recomputed T.behind
+  cnt-raw v = refl
+
+  cnt-seen : (v : ℕ) → Within (newCnt y div now v) → seen (newCnt y div now v) div now ≡ leftCnt (portRules p) v (seen y div now)
+  unfolding T.recomputed
+  cnt-seen v h = seen-new (newCnt y div now v) div now refl h ∙ cnt-raw v
+
+  pub acts-cnt : (v : ℕ) → Within (newCnt y div now v) → writeCnt (portRules p) v (seen y div now) ≡ matched (portRules p) (seen (newCnt y div now v) div now)
+  unfolding writeCnt T.recomputed
+  acts-cnt v h =
+      answers p (seen y div now) (leftCnt (portRules p) v (seen y div now)) (none-over (y .count .running) (down y) (y .count .«arr_act») (bitAnd v (max y)) h)
+      ∙ ap (matched (portRules p)) (sym (cnt-seen v h))
+
+  -- ---- CCMRx: no case but mode-change-latch and preload-cleared, which are the Rust's rules themselves
+
+  pub acts-ccmr : (i v : ℕ) → writeCcmr (portRules p) i v (seen y div now) ≡ matched (portRules p) (seen (R.withCcmr y i v) div now)
+  unfolding writeCcmr cntAt
+  acts-ccmr i v = answers p (seen y div now) (seen (R.withCcmr y i v) div now) (no-overrun y now)
+
+  -- ---- ARR and CCRx that act at once
 
   module _ (near : Near y now) (here : cntAt y now ≡ y .count .cnt0) where
     -- the machine's state with the reload, and the record settled at a count
@@ -69,25 +72,25 @@ module _ (y : Timer) (div now : ℕ) where
         let a = M.withCount (M.withShadows s (y .count .«psc_act») (bitAnd v (max y)) (y .chan .«ccr_act»)) (y .count .running) (cond (y .count .running) (clocksAt y div now % per y) 0) c in
         M.withMatches a (y .chan .oc) (M.each (λ ch. cond (ltb ch (y .inst .channels)) (cond (down y) (ltb k (getD (y .chan .«ccr_act») ch 0)) (leb (getD (y .chan .«ccr_act») ch 0) k)) false))
 
-    arr-seen : (v : ℕ) → Within (newArr v) → seen (newArr v) div now ≡ leftArr rust v (seen y div now)
+    arr-seen : (v : ℕ) → Within (newArr y div now v) → seen (newArr y div now v) div now ≡ leftArr (portRules p) v (seen y div now)
     unfolding T.recomputed T.behind
     arr-seen v h =
-        ap (λ (c : ℕ). withReload v c (y .count .cnt0)) (near-cnt (newArr v) now near h ∙ sym here)
+        ap (λ (c : ℕ). withReload v c (y .count .cnt0)) (near-cnt (newArr y div now v) now near h ∙ sym here)
         ∙ ap (λ (k : ℕ). withReload v (cntAt y now) k) (sym here)
 
-    pub acts-arr : (v : ℕ) → ARPE (y .regs .cr1) ≡ false → Within (newArr v) → writeArr rust v (seen y div now) ≡ matched rust (seen (newArr v) div now)
+    pub acts-arr : (v : ℕ) → ARPE (y .regs .cr1) ≡ false → Within (newArr y div now v) → writeArr (portRules p) v (seen y div now) ≡ matched (portRules p) (seen (newArr y div now v) div now)
     unfolding writeArr T.recomputed
     acts-arr v a h =
-        rw a (answers (seen y div now) (leftArr rust v (seen y div now)) (none-over (y .count .running) (down y) (bitAnd v (max y)) (cntAt y now) (λ e. rw here (h e)))
-        ∙ ap (matched rust) (sym (arr-seen v h)))
+        rw a (answers p (seen y div now) (leftArr (portRules p) v (seen y div now)) (none-over (y .count .running) (down y) (bitAnd v (max y)) (cntAt y now) (λ e. rw here (h e)))
+        ∙ ap (matched (portRules p)) (sym (arr-seen v h)))
 
-    ccr-seen : (ch v : ℕ) → seen (newCcr ch v) div now ≡ leftCcr ch v (seen y div now)
+    ccr-seen : (ch v : ℕ) → seen (newCcr y div now ch v) div now ≡ leftCcr ch v (seen y div now)
     unfolding T.behind cntAt
     ccr-seen ch v =
         ap (λ (k : ℕ). M.withMatches (M.withShadows (M.withChannelRegs (seen y div now) (y .chan .ccmr) (set (y .chan .ccr) ch (bitAnd v (max y))))
         (y .count .«psc_act») (y .count .«arr_act») (set (y .chan .«ccr_act») ch (bitAnd v (max y)))) (y .chan .oc)
         (set (y .chan .«cc_done») ch (cond (down y) (ltb k (getD (set (y .chan .«ccr_act») ch (bitAnd v (max y))) ch 0)) (leb (getD (set (y .chan .«ccr_act») ch (bitAnd v (max y))) ch 0) k)))) (sym here)
 
-    pub acts-ccr : (ch v : ℕ) → Out.OCxPE (ccmrByte y ch) ≡ false → writeCcr rust ch v (seen y div now) ≡ matched rust (seen (newCcr ch v) div now)
+    pub acts-ccr : (ch v : ℕ) → Out.OCxPE (ccmrByte y ch) ≡ false → writeCcr (portRules p) ch v (seen y div now) ≡ matched (portRules p) (seen (newCcr y div now ch v) div now)
     unfolding writeCcr
-    acts-ccr ch v p = rw p (answers (seen y div now) (leftCcr ch v (seen y div now)) (no-overrun y now) ∙ ap (matched rust) (sym (ccr-seen ch v)))
+    acts-ccr ch v e = rw e (answers p (seen y div now) (leftCcr ch v (seen y div now)) (no-overrun y now) ∙ ap (matched (portRules p)) (sym (ccr-seen ch v)))

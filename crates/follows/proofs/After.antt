@@ -12,7 +12,7 @@ use Rattle.rm0440.specs.Counter.{restart}
 use Rattle.tim.specs.declared.Timer.{Timer}
 use Rattle.tim.specs.Timer as T
 use Rattle.tim.specs.Change as C
-use Rattle.rm0440.specs.Rules.{manualMode}
+use Rattle.rm0440.specs.Rules.{manualMode, Taken}
 use Rattle.rm0440.specs.State.{withBit, CMS}
 use Rattle.rm0440.specs.Clock.{blocked}
 use Rattle.follows.specs.Seen.{raw}
@@ -34,7 +34,7 @@ begins : (c : Bool) (a : ℕ) (d : Bool) → (c ≡ true → 0 < a) → Stands c
 begins c a true h = record { within = le-refl a; up = λ e f. absurd (let z : _≡_ {A = ℕ} 0 1 = cc in omega arith); downward = λ e f. h e }
 begins c a false h = record { within = omega arith; up = λ e f. h e; downward = λ e f. absurd (let z : _≡_ {A = ℕ} 0 1 = cc in omega arith) }
 
-module _ (m : Bool) (t : Timer) (c div : ℕ) where
+module _ (m : Taken) (t : Timer) (c div : ℕ) where
   -- the turn, a pulse's end aside
   abbrev pub over : Timer
   over = C.recomputedAfterUpdate (C.restarted (turned m (C.reloaded t)) c div)
@@ -55,11 +55,11 @@ module _ (m : Bool) (t : Timer) (c div : ℕ) where
   unfolding C.restarted C.recomputedAfterUpdate
   sized-over = refl
 
-  stands-over : (m ≡ true → 0 < C.reloaded t .count .«arr_act») → Stands (centre m over) (over .count .«arr_act») (T.down over) (over .count .cnt0)
+  stands-over : (m .centre-aligned ≡ true → 0 < C.reloaded t .count .«arr_act») → Stands (centre m over) (over .count .«arr_act») (T.down over) (over .count .cnt0)
   unfolding C.restarted C.recomputedAfterUpdate
   stands-over h =
       begins (centre m (turned m (C.reloaded t))) (C.reloaded t .count .«arr_act») (T.down (turned m (C.reloaded t)))
-      (λ e. h (manual-centre m (not (eqb (C.reloaded t .inst .channels) 0) && not (eqb (CMS (turned m (C.reloaded t) .regs .cr1)) 0)) e))
+      (λ e. h (manual-centre (m .centre-aligned) (not (eqb (C.reloaded t .inst .channels) 0) && not (eqb (CMS (turned m (C.reloaded t) .regs .cr1)) 0)) e))
 
   pub cr1-reloaded : C.reloaded t .regs .cr1 ≡ t .regs .cr1
   unfolding C.reloaded
@@ -86,7 +86,7 @@ module _ (m : Bool) (t : Timer) (c div : ℕ) where
       go true l = dir-small (not (T.down (C.reloaded t))) (C.reloaded t .regs .cr1) l
       go false l = l
 
-  stuck-over : stuck m over ≡ m && eqb (C.reloaded t .count .«arr_act») 0
+  stuck-over : stuck m over ≡ m .reload-zero && eqb (C.reloaded t .count .«arr_act») 0
   unfolding C.restarted C.recomputedAfterUpdate
   stuck-over = refl
 
@@ -99,6 +99,7 @@ module _ (m : Bool) (t : Timer) (c div : ℕ) where
     free = f;
     timed = refl;
     sized = refl;
-    stands = stands-over (above-zero m (C.reloaded t .count .«arr_act») f);
+    stands = stands-over (λ e. above-zero (m .reload-zero) (C.reloaded t .count .«arr_act») f (w .blocks e));
     small = λ e. small-over (w .small e);
+    blocks = w .blocks;
   }

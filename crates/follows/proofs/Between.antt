@@ -12,7 +12,7 @@ use Rattle.tim.specs.declared.Ahead.{Ahead}
 use Rattle.tim.specs.Timer as T
 use Rattle.tim.specs.Count.{ticksAt}
 use Rattle.tim.specs.Next as N
-use Rattle.rm0440.specs.Rules.{manualMode}
+use Rattle.rm0440.specs.Rules.{manualMode, Taken}
 use Rattle.rm0440.specs.State as M
 use Rattle.rm0440.specs.State.{withBit}
 use Rattle.rm0440.specs.Clock.{stepped, clocks}
@@ -28,7 +28,7 @@ use Rattle.follows.proofs.Event.{next, before-event, at-event}
 use Rattle.follows.proofs.Late as Late
 use Rattle.follows.proofs.Port.{centre, placeAfter, cntAt, cr1At, withWay, updateSteps, nextSteps, seen, Runs}
 
-module _ (m : Bool) (t : Timer) (div : ℕ) (w : Runs m t div) where
+module _ (m : Taken) (t : Timer) (div : ℕ) (w : Runs m t div) where
   pub ticks-are : (c : ℕ) → ticksAt t c ≡ clocksAt t div c / per t
   ticks-are c = ap (λ (y : ℕ). (c - t .count .base) / y) (w .timed ∙ mul-comm (per t) div) ∙ sym (div-div-eq-div-mul (c - t .count .base) div (per t))
 
@@ -87,7 +87,7 @@ on-way false a false x k s h =
     let l : x + k < a + 1 = omega arith in
     rw (mod-eq-of-lt l)
 
-module _ (m : Bool) (t : Timer) (div : ℕ) (w : Runs m t div) where
+module _ (m : Taken) (t : Timer) (div : ℕ) (w : Runs m t div) where
   -- DIR is the way at the reference
   pub way-same : withWay m t (T.down t) ≡ t .regs .cr1
   way-same = go (centre m t) refl

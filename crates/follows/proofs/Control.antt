@@ -6,12 +6,12 @@ use native.Mathlib.Omega.{arith}
 use lib.Dec.{eqb, ltb, leb}
 use lib.ListN.{getD}
 use Rattle.rm0440.specs.Bits.{CEN, field}
-use Rattle.rm0440.specs.Rules.{rust}
+use Rattle.rm0440.specs.Rules.{portRules}
 use Rattle.rm0440.specs.State as M
 use Rattle.rm0440.specs.Clock.{matched}
 use Rattle.rm0440.specs.Write.{answered, resettled, writeCr1}
 use Rattle.tim.specs.declared.Timer.{Timer}
-use Rattle.tim.specs.Timer.{down}
+use Rattle.tim.specs.Timer.{down, withCr1}
 use Rattle.tim.specs.Count.{cntAt, synced}
 use Rattle.tim.specs.Change as T
 use Rattle.regs.specs.Regs as R
@@ -22,7 +22,7 @@ use Rattle.follows.proofs.Acting.{none-over}
 
 module _ (y : Timer) (v now div : ℕ) where
   abbrev pub new : Timer
-  new = R.withCr1 y (R.keptCr1 y v)
+  new = withCr1 y (R.keptCr1 y v)
 
   -- the port's write, by CEN before and after it
   abbrev pub port : Bool → Bool → Timer
@@ -31,7 +31,7 @@ module _ (y : Timer) (v now div : ℕ) where
   abbrev pub newCr1 : Timer
   newCr1 = port (CEN (y .regs .cr1)) (CEN (R.keptCr1 y v))
 
-module _ (y : Timer) (v now div : ℕ) (near : Near y now) (here : cntAt y now ≡ y .count .cnt0) where
+module _ (p : Bool) (y : Timer) (v now div : ℕ) (near : Near y now) (here : cntAt y now ≡ y .count .cnt0) where
   abbrev u : Timer
   u = new y v now div
 
@@ -53,9 +53,9 @@ module _ (y : Timer) (v now div : ℕ) (near : Near y now) (here : cntAt y now �
   start-within q = q refl
 
   starts : CEN (y .regs .cr1) ≡ false → CEN (R.keptCr1 y v) ≡ true → y .count .cnt0 ≤ y .count .«arr_act»
-      → writeCr1 rust v (seen y div now) ≡ matched rust (seen (T.started u now div) div now)
+      → writeCr1 (portRules p) v (seen y div now) ≡ matched (portRules p) (seen (T.started u now div) div now)
   unfolding writeCr1
-  starts was is h = rw (is, was) (answers (seen y div now) (begun (cntAt y now)) over ∙ ap (matched rust) (sym (start-seen h)))
+  starts was is h = rw (is, was) (answers p (seen y div now) (begun (cntAt y now)) over ∙ ap (matched (portRules p)) (sym (start-seen h)))
     where
       over : (true && (true && (not (down u) && ltb (y .count .«arr_act») (cntAt y now)))) ≡ false
       over = none-over true (down u) (y .count .«arr_act») (cntAt y now) (λ e. rw here h)
@@ -83,27 +83,27 @@ module _ (y : Timer) (v now div : ℕ) (near : Near y now) (here : cntAt y now �
     over = none-over (y .count .running) (down u) (y .count .«arr_act») (cntAt y now) (λ e. rw here (h e))
 
     -- CEN set before and after
-    goes-on : CEN (y .regs .cr1) ≡ true → CEN (R.keptCr1 y v) ≡ true → writeCr1 rust v (seen y div now) ≡ matched rust (seen (R.turned (y .regs .cr1) u) div now)
+    goes-on : CEN (y .regs .cr1) ≡ true → CEN (R.keptCr1 y v) ≡ true → writeCr1 (portRules p) v (seen y div now) ≡ matched (portRules p) (seen (R.turned (y .regs .cr1) u) div now)
     unfolding writeCr1 R.turned
     goes-on was is = rw (is, was) (go (eqb (field 4 1 (y .regs .cr1)) (field 4 1 (R.keptCr1 y v))))
       where
-        go : (b : Bool) → answered rust (seen y div now) (cond (not b) (resettled told) told) ≡ matched rust (seen (cond b u (T.recomputed u)) div now)
-        go true = answers (seen y div now) told over ∙ ap (matched rust) (sym new-seen)
-        go false = answers (seen y div now) (resettled told) over ∙ ap (matched rust) (sym settled-seen)
+        go : (b : Bool) → answered (portRules p) (seen y div now) (cond (not b) (resettled told) told) ≡ matched (portRules p) (seen (cond b u (T.recomputed u)) div now)
+        go true = answers p (seen y div now) told over ∙ ap (matched (portRules p)) (sym new-seen)
+        go false = answers p (seen y div now) (resettled told) over ∙ ap (matched (portRules p)) (sym settled-seen)
 
     -- CEN clear before and after, and the counter stands
     stays-off : CEN (y .regs .cr1) ≡ false → CEN (R.keptCr1 y v) ≡ false → y .count .running ≡ false
-        → writeCr1 rust v (seen y div now) ≡ matched rust (seen (R.turned (y .regs .cr1) u) div now)
+        → writeCr1 (portRules p) v (seen y div now) ≡ matched (portRules p) (seen (R.turned (y .regs .cr1) u) div now)
     unfolding writeCr1 R.turned
     stays-off was is off = rw (is, was) (go (eqb (field 4 1 (y .regs .cr1)) (field 4 1 (R.keptCr1 y v))))
       where
         still : M.withCount told false 0 (cntAt y now) ≡ told
         still = rw off
 
-        go : (b : Bool) → answered rust (seen y div now) (cond (not b) (resettled (M.withCount told false 0 (cntAt y now))) (M.withCount told false 0 (cntAt y now)))
-            ≡ matched rust (seen (cond b u (T.recomputed u)) div now)
-        go true = answers (seen y div now) (M.withCount told false 0 (cntAt y now)) refl ∙ ap (matched rust) (still ∙ sym new-seen)
-        go false = answers (seen y div now) (resettled (M.withCount told false 0 (cntAt y now))) refl ∙ ap (matched rust) (ap resettled still ∙ sym settled-seen)
+        go : (b : Bool) → answered (portRules p) (seen y div now) (cond (not b) (resettled (M.withCount told false 0 (cntAt y now))) (M.withCount told false 0 (cntAt y now)))
+            ≡ matched (portRules p) (seen (cond b u (T.recomputed u)) div now)
+        go true = answers p (seen y div now) (M.withCount told false 0 (cntAt y now)) refl ∙ ap (matched (portRules p)) (still ∙ sym new-seen)
+        go false = answers p (seen y div now) (resettled (M.withCount told false 0 (cntAt y now))) refl ∙ ap (matched (portRules p)) (ap resettled still ∙ sym settled-seen)
 
     -- ---- a stop: the part of a step is dropped (stop-phase)
 
@@ -119,16 +119,16 @@ module _ (y : Timer) (v now div : ℕ) (near : Near y now) (here : cntAt y now �
             ap (λ (z : Timer). seen (T.withRunning z false) div now) (synced-stopped u now e)
             ∙ ap (λ (k : ℕ). M.withCount told false 0 k) (cnt-stopped (T.withRunning u false) now refl ∙ sym here)
 
-    stops : CEN (y .regs .cr1) ≡ true → CEN (R.keptCr1 y v) ≡ false → writeCr1 rust v (seen y div now) ≡ matched rust (seen (T.stopped u now) div now)
+    stops : CEN (y .regs .cr1) ≡ true → CEN (R.keptCr1 y v) ≡ false → writeCr1 (portRules p) v (seen y div now) ≡ matched (portRules p) (seen (T.stopped u now) div now)
     unfolding writeCr1
-    stops was is = rw (is, was) (answers (seen y div now) (M.withCount told false 0 (cntAt y now)) refl ∙ ap (matched rust) (sym stop-seen))
+    stops was is = rw (is, was) (answers p (seen y div now) (M.withCount told false 0 (cntAt y now)) refl ∙ ap (matched (portRules p)) (sym stop-seen))
 
     -- ---- any write
 
-    pub acts-cr1 : (CEN (y .regs .cr1) ≡ false → y .count .running ≡ false) → Within (newCr1 y v now div) → writeCr1 rust v (seen y div now) ≡ matched rust (seen (newCr1 y v now div) div now)
+    pub acts-cr1 : (CEN (y .regs .cr1) ≡ false → y .count .running ≡ false) → Within (newCr1 y v now div) → writeCr1 (portRules p) v (seen y div now) ≡ matched (portRules p) (seen (newCr1 y v now div) div now)
     acts-cr1 off q = go (CEN (y .regs .cr1)) (CEN (R.keptCr1 y v)) refl refl q
       where
-        go : (was is : Bool) → CEN (y .regs .cr1) ≡ was → CEN (R.keptCr1 y v) ≡ is → Within (port y v now div was is) → writeCr1 rust v (seen y div now) ≡ matched rust (seen (port y v now div was is) div now)
+        go : (was is : Bool) → CEN (y .regs .cr1) ≡ was → CEN (R.keptCr1 y v) ≡ is → Within (port y v now div was is) → writeCr1 (portRules p) v (seen y div now) ≡ matched (portRules p) (seen (port y v now div was is) div now)
         go true true a b q = goes-on a b
         go true false a b q = stops a b
         go false true a b q = starts a b (start-within q)

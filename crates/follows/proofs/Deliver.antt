@@ -17,7 +17,7 @@ use Rattle.tim.specs.declared.Due.{Due}
 use Rattle.tim.specs.declared.Due.the-variants.{At, Stopped}
 use Rattle.tim.specs.Timer as T
 use Rattle.tim.specs.Next as N
-use Rattle.rm0440.specs.Rules.{Rules, manualMode}
+use Rattle.rm0440.specs.Rules.{Rules, manualMode, Taken}
 use Rattle.rm0440.specs.State as M
 use Rattle.rm0440.specs.Clock.{going, meets, matched, clock, clocks, equal}
 use Rattle.follows.proofs.Leap as Leap
@@ -33,18 +33,18 @@ use Rattle.follows.proofs.Turn.{to-update, to-compare}
 use Rattle.follows.proofs.Match.{absorbed}
 use Rattle.follows.proofs.After.{over, goes-on, ends-so, base-over, runs-over}
 
-event-runs : (m : Bool) (t : Timer) → moves m t ≡ true → nextEvent m t ≡ At (t .count .base + nextSteps m t .steps * t .count .tick) (nextSteps m t .next)
+event-runs : (m : Taken) (t : Timer) → moves m t ≡ true → nextEvent m t ≡ At (t .count .base + nextSteps m t .steps * t .count .tick) (nextSteps m t .next)
 unfolding nextEvent
 event-runs m t e = ap (λ (b : Bool). cond b (At (t .count .base + nextSteps m t .steps * t .count .tick) (nextSteps m t .next)) Stopped) e
 
-pub event-stopped : (m : Bool) (t : Timer) → moves m t ≡ false → nextEvent m t ≡ Stopped
+pub event-stopped : (m : Taken) (t : Timer) → moves m t ≡ false → nextEvent m t ≡ Stopped
 unfolding nextEvent
 event-stopped m t e = ap (λ (b : Bool). cond b (At (t .count .base + nextSteps m t .steps * t .count .tick) (nextSteps m t .next)) Stopped) e
 
-moving : (m : Bool) (t : Timer) (div : ℕ) → Runs m t div → moves m t ≡ true
+moving : (m : Taken) (t : Timer) (div : ℕ) → Runs m t div → moves m t ≡ true
 moving m t div w = rw (w .free) (w .runs)
 
-halted : (m : Bool) (t : Timer) → t .count .running ≡ false → moves m t ≡ false
+halted : (m : Taken) (t : Timer) → t .count .running ≡ false → moves m t ≡ false
 halted m t e = ap (λ (b : Bool). not (stuck m t) && b) e ∙ go (not (stuck m t))
   where
     go : (b : Bool) → b && false ≡ false
@@ -53,7 +53,7 @@ halted m t e = ap (λ (b : Bool). not (stuck m t) && b) e ∙ go (not (stuck m t
 
 -- ---- a timer that is stopped or blocked
 
-module _ (m : Bool) where
+module _ (m : Taken) where
   unmet : (o e n d : Bool) → n ≡ false → o && (e && (false || (n && not d))) ≡ false
   unmet o e true d h = absurd (let z : _≡_ {A = ℕ} 0 1 = cc in omega arith)
   unmet false e false d h = refl
@@ -96,7 +96,7 @@ module _ (m : Bool) where
 
 -- ---- from k steps on
 
-module _ (m : Bool) (t : Timer) (div : ℕ) (w : Runs m t div) (k n : ℕ) (from : k * per t ≤ n) where
+module _ (m : Taken) (t : Timer) (div : ℕ) (w : Runs m t div) (k n : ℕ) (from : k * per t ≤ n) where
   abbrev r : Rules
   r = manualMode m
 
@@ -158,7 +158,7 @@ module _ (m : Bool) (t : Timer) (div : ℕ) (w : Runs m t div) (k n : ℕ) (from
 -- ---- after one event
 
 -- a timer k steps from its reference, all events before that delivered, and cycle c within the n-th kernel clock from there
-pub record Ready (m : Bool) (t : Timer) (div k n c : ℕ) : Type 0 where
+pub record Ready (m : Taken) (t : Timer) (div k n c : ℕ) : Type 0 where
   pub runs : Runs m t div
   pub early : k < updateSteps m t
   pub none-before : k ≤ nextSteps m t .steps
@@ -166,10 +166,10 @@ pub record Ready (m : Bool) (t : Timer) (div k n c : ℕ) : Type 0 where
   pub reached : t .count .base + n * div ≤ c
   pub not-past : c < t .count .base + n * div + div
 
-abbrev pub Simulated : Bool → ℕ → Timer → ℕ → ℕ → ℕ → ℕ → Type 0
+abbrev pub Simulated : Taken → ℕ → Timer → ℕ → ℕ → ℕ → ℕ → Type 0
 Simulated m f t div k n c = clocks (manualMode m) (n - k * per t) (matched (manualMode m) (Leap.at (raw t) 0 k)) ≡ seen m (deliver m f c div t) div c
 
-abbrev pub Simulates : Bool → ℕ → Type 0
+abbrev pub Simulates : Taken → ℕ → Type 0
 Simulates m f = (t : Timer) (div k n c : ℕ) → Ready m t div k n c → dueBy (nextEvent m (deliver m f c div t)) c ≡ false → Simulated m f t div k n c
 
 -- a compare that is handled makes no event earlier
@@ -180,7 +180,7 @@ undone (x ∷ xs) zero (suc i) h = h
 undone (x ∷ xs) (suc ch) zero h = h
 undone (x ∷ xs) (suc ch) (suc i) h = undone xs ch i h
 
-fewer : (m : Bool) (t : Timer) (ch i : ℕ) → N.compares (compared m t ch) i ≡ true → N.compares t i ≡ true
+fewer : (m : Taken) (t : Timer) (ch i : ℕ) → N.compares (compared m t ch) i ≡ true → N.compares t i ≡ true
 unfolding N.compares compared
 fewer m t ch i h =
     let p = both (not (getD (set (t .chan .«cc_done») ch true) i false) && T.isOutput t i) (N.ahead t i) h in
@@ -195,7 +195,7 @@ taken-so : (t : Timer) (i : ℕ) → Event.takes (raw t) i ≡ true → N.compar
 unfolding N.compares
 taken-so t i q = q
 
-module _ (m : Bool) (f : ℕ) (ih : Simulates m f) (t : Timer) (div k n c : ℕ) (y : Ready m t div k n c) (le : nextSteps m t .steps * per t ≤ n) where
+module _ (m : Taken) (f : ℕ) (ih : Simulates m f) (t : Timer) (div k n c : ℕ) (y : Ready m t div k n c) (le : nextSteps m t .steps * per t ≤ n) where
   abbrev s : ℕ
   s = nextSteps m t .steps
 
@@ -212,7 +212,7 @@ module _ (m : Bool) (f : ℕ) (ih : Simulates m f) (t : Timer) (div k n c : ℕ)
 
     runs₂ : Runs m (compared m t ch) div
     unfolding compared
-    runs₂ = record { pos = w .pos; runs = w .runs; free = w .free; timed = w .timed; sized = length-set (t .chan .«cc_done») ch true ∙ w .sized; stands = w .stands; small = w .small }
+    runs₂ = record { pos = w .pos; runs = w .runs; free = w .free; timed = w .timed; sized = length-set (t .chan .«cc_done») ch true ∙ w .sized; stands = w .stands; small = w .small; blocks = w .blocks }
 
     later : nextSteps m t .steps ≤ nextSteps m (compared m t ch) .steps
     unfolding compared
@@ -320,7 +320,7 @@ module _ (m : Bool) (f : ℕ) (ih : Simulates m f) (t : Timer) (div k n c : ℕ)
 
 -- ---- any number of events
 
-module _ (m : Bool) where
+module _ (m : Taken) where
   abbrev dueAt : Timer → ℕ
   dueAt t = t .count .base + nextSteps m t .steps * t .count .tick
 

@@ -1,4 +1,4 @@
--- tim's deliveries, late calls and outputs: the theorems over the period without manual mode, and stopped timers. Assumes nothing.
+-- tim's deliveries, late calls and outputs: the theorems over the period with the rules that the port takes, and stopped timers. Assumes nothing.
 use Prim.Native.Nat.{ℕ, zero, suc, _+_, _-_, _*_, _/_, _%_, _≤_, _<_}
 use mathlib.Core.Path.{_≡_, refl, sym, ap, _∙_}
 use mathlib.Core.Bool.{Bool, true, false, cond, not, _&&_}
@@ -6,7 +6,7 @@ use native.Mathlib.Nat.{zero-div}
 use native.Mathlib.Omega.{arith}
 use lib.Dec.{lit<}
 use lib.ListN.{getD}
-use Rattle.rm0440.specs.Rules.{rust}
+use Rattle.rm0440.specs.Rules.{portTakes, portRules}
 use Rattle.rm0440.specs.State as M
 use Rattle.rm0440.specs.Clock.{meets, matched, clocks}
 use Rattle.rm0440.specs.Late.{passed, passes}
@@ -29,76 +29,77 @@ use Rattle.follows.proofs.Output as Output
 use Rattle.follows.proofs.Instances.{cnt-at, seen-is, next-is, event-is, deliver-is, on-course}
 
 -- nothing due before, nothing due after
-due-is : (t : Timer) (c : ℕ) → dueBy (nextEvent t) c ≡ false → dueBy (Port.nextEvent false t) c ≡ false
-due-is t c d = ap (λ (e : Due). dueBy e c) (event-is t) ∙ d
+due-is : (p : Bool) (t : Timer) (c : ℕ) → dueBy (nextEvent t) c ≡ false → dueBy (Port.nextEvent (portTakes p) t) c ≡ false
+due-is p t c d = ap (λ (e : Due). dueBy e c) (event-is p t) ∙ d
 
-pub left-is : (f c div : ℕ) (t : Timer) → dueBy (nextEvent (deliver f c div t)) c ≡ false → dueBy (Port.nextEvent false (Port.deliver false f c div t)) c ≡ false
-left-is f c div t d = ap (λ (u : Timer). dueBy (Port.nextEvent false u) c) (deliver-is f c div t) ∙ due-is (deliver f c div t) c d
+pub left-is : (p : Bool) (f c div : ℕ) (t : Timer) → t .inst .manual ≡ p → dueBy (nextEvent (deliver f c div t)) c ≡ false
+    → dueBy (Port.nextEvent (portTakes p) (Port.deliver (portTakes p) f c div t)) c ≡ false
+left-is p f c div t is d = ap (λ (u : Timer). dueBy (Port.nextEvent (portTakes p) u) c) (deliver-is p f c div t is) ∙ due-is p (deliver f c div t) c d
 
-pub seen-left : (f c div : ℕ) (t : Timer) → Port.seen false (Port.deliver false f c div t) div c ≡ seen (deliver f c div t) div c
-seen-left f c div t = ap (λ (u : Timer). Port.seen false u div c) (deliver-is f c div t) ∙ seen-is (deliver f c div t) div c
+pub seen-left : (p : Bool) (f c div : ℕ) (t : Timer) → t .inst .manual ≡ p → Port.seen (portTakes p) (Port.deliver (portTakes p) f c div t) div c ≡ seen (deliver f c div t) div c
+seen-left p f c div t is = ap (λ (u : Timer). Port.seen (portTakes p) u div c) (deliver-is p f c div t is) ∙ seen-is p (deliver f c div t) div c
 
-module _ (t : Timer) (div : ℕ) (w : Timed t div) (h : Within t) where
+module _ (p : Bool) (t : Timer) (div : ℕ) (w : Timed t div) (h : Within t) where
   -- ---- a delivery
 
-  pub follows : (f a c : ℕ) → t .count .base ≤ a → a ≤ c → dueBy (nextEvent t) a ≡ false → dueBy (nextEvent (deliver f c div t)) c ≡ false
-      → clocks rust (clocksAt t div c - clocksAt t div a) (seen t div a) ≡ seen (deliver f c div t) div c
-  follows f a c b le d e = go (t .count .running) refl
+  pub follows : t .inst .manual ≡ p → (f a c : ℕ) → t .count .base ≤ a → a ≤ c → dueBy (nextEvent t) a ≡ false → dueBy (nextEvent (deliver f c div t)) c ≡ false
+      → clocks (portRules p) (clocksAt t div c - clocksAt t div a) (seen t div a) ≡ seen (deliver f c div t) div c
+  follows is f a c b le d e = go (t .count .running) refl
     where
       n : ℕ
       n = clocksAt t div c - clocksAt t div a
 
-      go : (r : Bool) → t .count .running ≡ r → clocks rust n (seen t div a) ≡ seen (deliver f c div t) div c
+      go : (r : Bool) → t .count .running ≡ r → clocks (portRules p) n (seen t div a) ≡ seen (deliver f c div t) div c
       go true r =
-          ap (clocks rust n) (sym (seen-is t div a))
-          ∙ delivers false t div (on-course t div w r h) f a c b le (due-is t a d) (left-is f c div t e) ∙ seen-left f c div t
+          ap (clocks (portRules p) n) (sym (seen-is p t div a))
+          ∙ delivers (portTakes p) t div (on-course p t div w r h) f a c b le (due-is p t a d) (left-is p f c div t is e) ∙ seen-left p f c div t is
       go false r =
-          ap (clocks rust n) (sym (seen-is t div a) ∙ sym (seen-stopped false t r div a)) ∙ still false t r n
-          ∙ seen-stopped false t r div c ∙ ap (λ (u : Timer). Port.seen false u div c) (sym (deliver-stopped false t r f c div)) ∙ seen-left f c div t
+          ap (clocks (portRules p) n) (sym (seen-is p t div a) ∙ sym (seen-stopped (portTakes p) t r div a)) ∙ still (portTakes p) t r n
+          ∙ seen-stopped (portTakes p) t r div c ∙ ap (λ (u : Timer). Port.seen (portTakes p) u div c) (sym (deliver-stopped (portTakes p) t r f c div)) ∙ seen-left p f c div t is
 
   -- ---- a call that finds events due, or none
 
-  stands : (n : ℕ) → t .count .running ≡ false → passes rust n (raw t) ≡ raw t
+  stands : (n : ℕ) → t .count .running ≡ false → passes (portRules p) n (raw t) ≡ raw t
   unfolding passes passed
   stands zero r = refl
-  stands (suc n) r = ap (passed rust) (stands n r) ∙ rw r
+  stands (suc n) r = ap (passed (portRules p)) (stands n r) ∙ rw r
 
-  pub passes-by : (c : ℕ) → passes rust (clocksAt t div c) (seen t div (t .count .base)) ≡ seen t div c
+  pub passes-by : (c : ℕ) → passes (portRules p) (clocksAt t div c) (seen t div (t .count .base)) ≡ seen t div c
   passes-by c = go (t .count .running) refl
     where
-      go : (r : Bool) → t .count .running ≡ r → passes rust (clocksAt t div c) (seen t div (t .count .base)) ≡ seen t div c
+      go : (r : Bool) → t .count .running ≡ r → passes (portRules p) (clocksAt t div c) (seen t div (t .count .base)) ≡ seen t div c
       go true r =
-          ap (passes rust (clocksAt t div c)) (sym (seen-is t div (t .count .base))) ∙ late false t div (on-course t div w r h) c ∙ seen-is t div c
+          ap (passes (portRules p) (clocksAt t div c)) (sym (seen-is p t div (t .count .base))) ∙ late (portTakes p) t div (on-course p t div w r h) c ∙ seen-is p t div c
       go false r =
-          ap (passes rust (clocksAt t div c)) (sym (seen-is t div (t .count .base)) ∙ sym (seen-stopped false t r div (t .count .base)))
-          ∙ stands (clocksAt t div c) r ∙ seen-stopped false t r div c ∙ seen-is t div c
+          ap (passes (portRules p) (clocksAt t div c)) (sym (seen-is p t div (t .count .base)) ∙ sym (seen-stopped (portTakes p) t r div (t .count .base)))
+          ∙ stands (clocksAt t div c) r ∙ seen-stopped (portTakes p) t r div c ∙ seen-is p t div c
 
   -- ---- with nothing due no count is met
 
-  pub silent : (c : ℕ) → t .count .base ≤ c → dueBy (nextEvent t) c ≡ false → Silent rust (seen t div c)
+  pub silent : (c : ℕ) → t .count .base ≤ c → dueBy (nextEvent t) c ≡ false → Silent (portRules p) (seen t div c)
   silent c b d = go (t .count .running) refl
     where
-      go : (r : Bool) → t .count .running ≡ r → Silent rust (seen t div c)
-      go false r = mute false (seen t div c) r
+      go : (r : Bool) → t .count .running ≡ r → Silent (portRules p) (seen t div c)
+      go false r = mute (portTakes p) (seen t div c) r
       go true r = record { q0 = q 0 (lit< tt); q1 = q 1 (lit< tt); q2 = q 2 (lit< tt); q3 = q 3 (lit< tt) }
         where
-          y : Port.Runs false t div
-          y = on-course t div w r h
+          y : Port.Runs (portTakes p) t div
+          y = on-course p t div w r h
 
           k : ℕ
           k = clocksAt t div c / per t
 
-          early : k < Port.nextSteps false t .steps
-          early = none-due false t div y c b (due-is t c d)
+          early : k < Port.nextSteps (portTakes p) t .steps
+          early = none-due (portTakes p) t div y c b (due-is p t c d)
 
           there : seen t div c ≡ Leap.at (raw t) (clocksAt t div c % per t) k
-          there = sym (seen-is t div c) ∙ seen-at false t div y c (clocksAt t div c) refl (omega (arith, best false t div y .by-update, early))
+          there = sym (seen-is p t div c) ∙ seen-at (portTakes p) t div y c (clocksAt t div c) refl (omega (arith, best (portTakes p) t div y .by-update, early))
 
-          q : (ch : ℕ) → ch < 4 → meets rust (seen t div c) ch ≡ false
-          q ch l = ap (λ (s : M.Timer). meets rust s ch) there ∙ not-yet rust (raw t) refl refl refl k (rw (ap (λ (a : Ahead). a .steps) (next-same false t div y)) at early) ch l
+          q : (ch : ℕ) → ch < 4 → meets (portRules p) (seen t div c) ch ≡ false
+          q ch l = ap (λ (s : M.Timer). meets (portRules p) s ch) there ∙ not-yet (portRules p) (raw t) refl refl refl k (rw (ap (λ (a : Ahead). a .steps) (next-same (portTakes p) t div y)) at early) ch l
 
-  pub quiet : (c : ℕ) → t .count .base ≤ c → dueBy (nextEvent t) c ≡ false → matched rust (seen t div c) ≡ seen t div c
-  quiet c b d = matched-none rust (seen t div c) (silent c b d)
+  pub quiet : (c : ℕ) → t .count .base ≤ c → dueBy (nextEvent t) c ≡ false → matched (portRules p) (seen t div c) ≡ seen t div c
+  quiet c b d = matched-none (portRules p) (seen t div c) (silent c b d)
 
   -- ---- outputs
 
@@ -112,12 +113,12 @@ module _ (t : Timer) (div : ℕ) (w : Timed t div) (h : Within t) where
       → ((j : ℕ) → k ≤ j → suc j < nextSteps t .steps → getD (t .chan .«cc_done») ch false ≡ true → isOutput t ch ≡ true → Leap.onward (raw t) (suc j) ≡ ccrAct t ch → ⊥)
       → (c : ℕ) → t .count .base ≤ c → dueBy (nextEvent t) c ≡ false → k ≤ clocksAt t div c / per t → level (seen t div c) ch ≡ T.output t ch (Leap.onward (raw t) k)
   steady r ch l k kept c b d le =
-      let y = on-course t div w r h in
-      let same : Port.nextSteps false t .steps ≡ nextSteps t .steps = ap (λ (a : Ahead). a .steps) (next-is t) in
-      let early : clocksAt t div c / per t < Port.nextSteps false t .steps = none-due false t div y c b (due-is t c d) in
-      ap (λ (s : M.Timer). level s ch) (sym (seen-is t div c))
-      ∙ Output.level-at false t div y ch l c early
-      ∙ Output.from-step false t div y ch l k (clocksAt t div c / per t) le early (λ j q z. kept j q (rw (sym same) z))
+      let y = on-course p t div w r h in
+      let same : Port.nextSteps (portTakes p) t .steps ≡ nextSteps t .steps = ap (λ (a : Ahead). a .steps) (next-is p t) in
+      let early : clocksAt t div c / per t < Port.nextSteps (portTakes p) t .steps = none-due (portTakes p) t div y c b (due-is p t c d) in
+      ap (λ (s : M.Timer). level s ch) (sym (seen-is p t div c))
+      ∙ Output.level-at (portTakes p) t div y ch l c early
+      ∙ Output.from-step (portTakes p) t div y ch l k (clocksAt t div c / per t) le early (λ j q z. kept j q (rw (sym same) z))
 
   pub stays : t .count .running ≡ true → (ch : ℕ) → ch < 4
       → ((j : ℕ) → suc j < nextSteps t .steps → getD (t .chan .«cc_done») ch false ≡ true → isOutput t ch ≡ true → Leap.onward (raw t) (suc j) ≡ ccrAct t ch → ⊥)

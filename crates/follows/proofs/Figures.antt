@@ -15,7 +15,7 @@ use Rattle.follows.specs.Seen.{seen, rulesOf, written}
 -- timer 2, by a value of CR1, running from count 0 at cycle 0; reload 99, a step of 10 cycles
 abbrev running : ℕ → Timer
 running cr1 = record {
-  inst = record { n = 2; width = 32; channels = 1; apb = 1; irq = 28; «en_reg» = 0; «en_bit» = 0 };
+  inst = record { n = 2; width = 32; channels = 1; apb = 1; irq = 28; «en_reg» = 0; «en_bit» = 0; manual = false };
   regs = record { cr1 = cr1; cr2 = 0; smcr = 0; dier = 0; sr = 0; ccer = 0; psc = 9; arr = 99 };
   chan = record {
     ccmr = 0 ∷ 0 ∷ [];

@@ -8,7 +8,7 @@ use lib.Bits.{bitOr}
 use lib.ListN.{getD, set}
 use Rattle.rm0440.specs.Bits.{isSet, UDIS, URS}
 use Rattle.rm0440.specs.Output as Out
-use Rattle.rm0440.specs.Rules.{rust}
+use Rattle.rm0440.specs.Rules.{portRules}
 use Rattle.rm0440.specs.State as M
 use Rattle.rm0440.specs.Clock.{matched}
 use Rattle.rm0440.specs.Write.{generated, generatedCc, writeEgr}
@@ -44,9 +44,9 @@ flagged y now div = go (UDIS (y .regs .cr1)) (URS (y .regs .cr1))
     go false true = refl
     go false false = refl
 
-fresh-raw : (y : Timer) (now div : ℕ) → raw (flaggedUg y now div) ≡ generated rust (seen y div now)
+fresh-raw : (p : Bool) (y : Timer) (now div : ℕ) → raw (flaggedUg y now div) ≡ generated (portRules p) (seen y div now)
 unfolding T.restarted T.recomputedAfterUpdate
-fresh-raw y now div = refl
+fresh-raw p y now div = refl
 
 fresh-within : (y : Timer) (now div : ℕ) → Within (flaggedUg y now div)
 unfolding T.restarted T.recomputedAfterUpdate
@@ -60,9 +60,9 @@ pub fresh-base : (y : Timer) (now div : ℕ) → flaggedUg y now div .count .bas
 unfolding T.restarted T.recomputedAfterUpdate
 fresh-base y now div = refl
 
-pub ug-seen : (y : Timer) (now div : ℕ) → seen (T.generated y now div) div now ≡ generated rust (seen y div now)
-ug-seen y now div =
-    ap (λ (u : Timer). seen u div now) (flagged y now div) ∙ seen-new (flaggedUg y now div) div now (fresh-base y now div) (fresh-within y now div) ∙ fresh-raw y now div
+pub ug-seen : (p : Bool) (y : Timer) (now div : ℕ) → seen (T.generated y now div) div now ≡ generated (portRules p) (seen y div now)
+ug-seen p y now div =
+    ap (λ (u : Timer). seen u div now) (flagged y now div) ∙ seen-new (flaggedUg y now div) div now (fresh-base y now div) (fresh-within y now div) ∙ fresh-raw p y now div
 
 -- ---- CC1G to CC4G
 
@@ -95,22 +95,22 @@ four-is v y =
     ∙ ap (R.egrMatch v 3) (one-is v 2 (one 1 (isSet 2 v && isOutput y 1) (one 0 (isSet 1 v && isOutput y 0) y)))
     ∙ one-is v 3 (one 2 (isSet 3 v && isOutput y 2) (one 1 (isSet 2 v && isOutput y 1) (one 0 (isSet 1 v && isOutput y 0) y)))
 
-pub four-seen : (v : ℕ) (y : Timer) (div now : ℕ) → seen (four v y) div now ≡ generatedCc rust v (seen y div now)
+pub four-seen : (p : Bool) (v : ℕ) (y : Timer) (div now : ℕ) → seen (four v y) div now ≡ generatedCc (portRules p) v (seen y div now)
 unfolding cntAt T.ccFlag
-four-seen v y div now = refl
+four-seen p v y div now = refl
 
 -- ---- the whole
 
-module _ (y : Timer) (v now div : ℕ) where
-  abbrev pub newEgr : Timer
-  newEgr = four v (cond (isSet 0 v) (T.generated y now div) y)
+abbrev pub newEgr : Timer → ℕ → ℕ → ℕ → Timer
+newEgr y v now div = four v (cond (isSet 0 v) (T.generated y now div) y)
 
+module _ (p : Bool) (y : Timer) (v now div : ℕ) where
   -- with UG what the new count meets is delivered; without, what the count meets is delivered already
-  pub acts-egr : Silent rust (seen y div now) → writeEgr rust v (seen y div now) ≡ matched rust (seen newEgr div now)
+  pub acts-egr : Silent (portRules p) (seen y div now) → writeEgr (portRules p) v (seen y div now) ≡ matched (portRules p) (seen (newEgr y v now div) div now)
   unfolding writeEgr cntAt
   acts-egr q = go (isSet 0 v)
     where
-      go : (b : Bool) → cond b (matched rust (generatedCc rust v (generated rust (seen y div now)))) (generatedCc rust v (seen y div now))
-          ≡ matched rust (seen (four v (cond b (T.generated y now div) y)) div now)
-      go true = ap (matched rust) (sym (four-seen v (T.generated y now div) div now ∙ ap (generatedCc rust v) (ug-seen y now div)))
-      go false = sym (four-seen v y div now) ∙ sym (matched-none rust (seen (four v y) div now) (record { q0 = q .q0; q1 = q .q1; q2 = q .q2; q3 = q .q3 }))
+      go : (b : Bool) → cond b (matched (portRules p) (generatedCc (portRules p) v (generated (portRules p) (seen y div now)))) (generatedCc (portRules p) v (seen y div now))
+          ≡ matched (portRules p) (seen (four v (cond b (T.generated y now div) y)) div now)
+      go true = ap (matched (portRules p)) (sym (four-seen p v (T.generated y now div) div now ∙ ap (generatedCc (portRules p) v) (ug-seen p y now div)))
+      go false = sym (four-seen p v y div now) ∙ sym (matched-none (portRules p) (seen (four v y) div now) (record { q0 = q .q0; q1 = q .q1; q2 = q .q2; q3 = q .q3 }))

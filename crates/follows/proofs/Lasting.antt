@@ -1,7 +1,7 @@
 -- Events, a reset and another divider leave a timer with its step that of prescaler and divider. Assumes nothing.
 use Prim.Native.Nat.{ℕ, _+_, _*_, _≤_, _<_}
 use mathlib.Core.Path.{_≡_, refl, sym, ap, _∙_}
-use mathlib.Core.Bool.{Bool, true, false, cond}
+use mathlib.Core.Bool.{Bool, true, false, cond, _&&_}
 use native.Mathlib.Nat.{le-refl}
 use native.Mathlib.Omega.{arith}
 use lib.ListN.{length-set}
@@ -16,18 +16,21 @@ use Rattle.follows.specs.Seen.{Timed, Within, Left}
 use Rattle.follows.proofs.Standing.{either-sync}
 
 module _ (t : Timer) (div : ℕ) (w : Timed t div) where
-  stops : (o r : Bool) → r ≡ false → cond o false r ≡ false
-  stops true r e = refl
-  stops false r e = e
-
   pub timed-updated : (x : ℕ) → Timed (T.updated t x div) div
   unfolding T.updated T.reloaded T.restarted T.recomputedAfterUpdate T.ended
   timed-updated x = record { pos = w .pos; timed = refl; halted = halted (UDIS (t .regs .cr1)); sized = refl }
     where
-      halted : (u : Bool) → CEN (cond u t (T.withFlag (T.loaded t) T.UIF) .regs .cr1) ≡ false
+      -- a pulse that ends stands, and one that goes on has its CR1
+      over : (o m r : Bool) (v : ℕ) → (CEN v ≡ false → r ≡ false) → CEN (cond (o && m) (T.withoutCen v) v) ≡ false → cond o false r ≡ false
+      over true m r v h e = refl
+      over false m r v h e = h e
+
+      halted : (u : Bool)
+          → CEN (cond (OPM (cond u t (T.withFlag (T.loaded t) T.UIF) .regs .cr1) && cond u t (T.withFlag (T.loaded t) T.UIF) .inst .manual)
+          (T.withoutCen (cond u t (T.withFlag (T.loaded t) T.UIF) .regs .cr1)) (cond u t (T.withFlag (T.loaded t) T.UIF) .regs .cr1)) ≡ false
           → cond (OPM (cond u t (T.withFlag (T.loaded t) T.UIF) .regs .cr1)) false (cond u t (T.withFlag (T.loaded t) T.UIF) .count .running) ≡ false
-      halted true e = stops (OPM (t .regs .cr1)) (t .count .running) (w .halted e)
-      halted false e = stops (OPM (t .regs .cr1)) (t .count .running) (w .halted e)
+      halted true e = over (OPM (t .regs .cr1)) (t .inst .manual) (t .count .running) (t .regs .cr1) (w .halted) e
+      halted false e = over (OPM (t .regs .cr1)) (t .inst .manual) (t .count .running) (t .regs .cr1) (w .halted) e
 
   updated-base : (x : ℕ) → T.updated t x div .count .base ≡ x
   unfolding T.updated T.reloaded T.restarted T.recomputedAfterUpdate T.ended

@@ -63,13 +63,13 @@ module _ (t : Timer) (div : ℕ) (w : Timed t div) (now : ℕ) (b : t .count .ba
   cr1 v q =
       subst (Leaves true (writeCr1 (rulesOf t) v s)) (sym (P.cr1-port t div w now v))
       (acting (writeCr1 (rulesOf t) v s) _
-      (ap (writeCr1 (rulesOf t) v) (sym (st .shown)) ∙ acts-cr1 y v now div (st .near) (st .here) (st .within) (st .timed .halted) (subst Within (P.cr1-port t div w now v) q))
+      (ap (writeCr1 (rulesOf t) v) (sym (st .shown)) ∙ acts-cr1 (t .inst .manual) y v now div (st .near) (st .here) (st .within) (st .timed .halted) (subst Within (P.cr1-port t div w now v) q))
       (P.cr1-fine t div w now b v .near))
 
   cnt : (v : ℕ) → Within (R.cntWritten t v now) → Leaves true (writeCnt (rulesOf t) v s) (R.cntWritten t v now)
   cnt v q =
       subst (Leaves true (writeCnt (rulesOf t) v s)) (sym (P.cnt-port t div w now v))
-      (acting (writeCnt (rulesOf t) v s) _ (ap (writeCnt (rulesOf t) v) (sym (st .shown)) ∙ acts-cnt y div now v (subst Within (P.cnt-port t div w now v) q)) (P.cnt-fine t div w now b v .near))
+      (acting (writeCnt (rulesOf t) v s) _ (ap (writeCnt (rulesOf t) v) (sym (st .shown)) ∙ acts-cnt (t .inst .manual) y div now v (subst Within (P.cnt-port t div w now v) q)) (P.cnt-fine t div w now b v .near))
 
   -- EGR: UG acts; without it a flag is stored
   egr-y : (v : ℕ) → Leaves (isSet 0 v) (writeEgr (rulesOf t) v (seen y div now)) (newEgr y v now div)
@@ -79,9 +79,9 @@ module _ (t : Timer) (div : ℕ) (w : Timed t div) (now : ℕ) (b : t .count .ba
       go : (g : Bool) → isSet 0 v ≡ g → Leaves g (cond g (matched (rulesOf t) (generatedCc (rulesOf t) v (W.generated (rulesOf t) (seen y div now)))) (generatedCc (rulesOf t) v (seen y div now)))
           (four v (cond g (T.generated y now div) y))
       go true e =
-          acting _ (four v (T.generated y now div)) (ap (matched (rulesOf t)) (sym (four-seen v (T.generated y now div) div now ∙ ap (generatedCc (rulesOf t) v) (ug-seen y now div))))
+          acting _ (four v (T.generated y now div)) (ap (matched (rulesOf t)) (sym (four-seen (t .inst .manual) v (T.generated y now div) div now ∙ ap (generatedCc (rulesOf t) v) (ug-seen (t .inst .manual) y now div))))
           (subst (λ (g : Bool). Near (four v (cond g (T.generated y now div) y)) now) e (P.egr-fine t div w now b v .near))
-      go false e = waiting _ _ (sym (four-seen v y div now))
+      go false e = waiting _ _ (sym (four-seen (t .inst .manual) v y div now))
 
   egr : (v : ℕ) → Leaves (isSet 0 v) (writeEgr (rulesOf t) v s) (R.egrWritten t v now div)
   egr v =
@@ -96,7 +96,7 @@ module _ (t : Timer) (div : ℕ) (w : Timed t div) (now : ℕ) (b : t .count .ba
   arr-y : (v : ℕ) (a : Bool) → ARPE (y .regs .cr1) ≡ a → Within (cond a (R.withArr y (bitAnd v (max y))) (newArr y div now v))
       → Leaves (not a) (writeArr (rulesOf t) v (seen y div now)) (cond a (R.withArr y (bitAnd v (max y))) (newArr y div now v))
   arr-y v true e q = waiting _ _ (arr-waits v e)
-  arr-y v false e q = acting _ _ (acts-arr y div now (st .near) (st .here) v e q) (P.arr-fine t div w now b v false .near)
+  arr-y v false e q = acting _ _ (acts-arr (t .inst .manual) y div now (st .near) (st .here) v e q) (P.arr-fine t div w now b v false .near)
 
   arr : (v : ℕ) → Within (R.arrWritten t v now .timer) → Leaves (not (ARPE (t .regs .cr1))) (writeArr (rulesOf t) v s) (R.arrWritten t v now .timer)
   arr v q =
@@ -108,7 +108,7 @@ module _ (t : Timer) (div : ℕ) (w : Timed t div) (now : ℕ) (b : t .count .ba
   ccmr : (i v : ℕ) → Leaves true (writeCcmr (rulesOf t) i v s) (R.ccmrWritten t i v now .timer)
   ccmr i v =
       subst (Leaves true (writeCcmr (rulesOf t) i v s)) (sym (P.ccmr-port t div w now i v))
-      (subst (λ (x : M.Timer). Leaves true (writeCcmr (rulesOf t) i v x) (R.withCcmr y i v)) (st .shown) (acting _ _ (acts-ccmr y div now i v) (st .near)))
+      (subst (λ (x : M.Timer). Leaves true (writeCcmr (rulesOf t) i v x) (R.withCcmr y i v)) (st .shown) (acting _ _ (acts-ccmr (t .inst .manual) y div now i v) (st .near)))
 
   -- CCRx: kept for the next update, or in use at once
   ccr-waits : (ch v : ℕ) → Out.OCxPE (ccmrByte y ch) ≡ true → writeCcr (rulesOf t) ch v (seen y div now) ≡ seen (R.withCcr y ch (bitAnd v (max y))) div now
@@ -118,7 +118,7 @@ module _ (t : Timer) (div : ℕ) (w : Timed t div) (now : ℕ) (b : t .count .ba
   ccr-y : (ch v : ℕ) (a : Bool) → Out.OCxPE (ccmrByte y ch) ≡ a
       → Leaves (not a) (writeCcr (rulesOf t) ch v (seen y div now)) (cond a (R.withCcr y ch (bitAnd v (max y))) (newCcr y div now ch v))
   ccr-y ch v true e = waiting _ _ (ccr-waits ch v e)
-  ccr-y ch v false e = acting _ _ (acts-ccr y div now (st .near) (st .here) ch v e) (st .near)
+  ccr-y ch v false e = acting _ _ (acts-ccr (t .inst .manual) y div now (st .near) (st .here) ch v e) (st .near)
 
   ccr : (ch v : ℕ) → Leaves (not (Out.OCxPE (ccmrByte t ch))) (writeCcr (rulesOf t) ch v s) (R.ccrWritten t ch v now .timer)
   ccr ch v =

@@ -12,7 +12,7 @@ use Rattle.rm0440.specs.Output as Out
 use Rattle.tim.specs.declared.Timer.{Timer}
 use Rattle.tim.specs.Timer as T
 use Rattle.tim.specs.Change as C
-use Rattle.rm0440.specs.Rules.{Rules, manualMode}
+use Rattle.rm0440.specs.Rules.{Rules, manualMode, Taken}
 use Rattle.rm0440.specs.State as M
 use Rattle.rm0440.specs.State.{CMS}
 use Rattle.rm0440.specs.Clock.{flags, going, meets, matched, equal}
@@ -26,7 +26,7 @@ abbrev pub hitOne : Rules → ℕ → M.Timer → M.Timer
 hitOne r ch s =
     M.withMatches (M.withSr (cond (flags r s) (M.withBit (ch + 1) true (s .sr)) (s .sr)) s) (set (s .ref) ch (Out.atMatch (M.mode s ch) (getD (s .ref) ch false))) (set (s .done) ch true)
 
-module _ (m : Bool) (s : M.Timer) where
+module _ (m : Taken) (s : M.Timer) where
   abbrev r : Rules
   r = manualMode m
 
@@ -73,7 +73,7 @@ module _ (m : Bool) (s : M.Timer) where
 
 -- ---- the port's event, k steps on the way
 
-module _ (m : Bool) (t : Timer) (k : ℕ) where
+module _ (m : Taken) (t : Timer) (k : ℕ) where
   hits : (ch : ℕ) → ch < 4 → Leap.at (raw (compared m t ch)) 0 k ≡ hitOne (manualMode m) ch (Leap.at (raw t) 0 k)
   unfolding compared C.ccFlag
   hits zero h = refl

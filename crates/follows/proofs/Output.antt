@@ -13,7 +13,7 @@ use Rattle.tim.specs.declared.Timer.{Timer}
 use Rattle.tim.specs.declared.Ahead.{Ahead}
 use Rattle.tim.specs.Timer as T
 use Rattle.tim.specs.Change as C
-use Rattle.rm0440.specs.Rules.{manualMode}
+use Rattle.rm0440.specs.Rules.{manualMode, Taken}
 use Rattle.rm0440.specs.State as M
 use Rattle.rm0440.specs.Clock.{meets}
 use Rattle.rm0440.specs.Level.{level}
@@ -63,7 +63,7 @@ unequal true true false h p q = h
 unequal true true true h p q = absurd (let z : _≡_ {A = ℕ} 0 1 = cc in omega arith)
 unequal false e d h p q = absurd (let z : _≡_ {A = ℕ} 0 1 = cc in omega arith)
 
-module _ (m : Bool) (t : Timer) (div : ℕ) (w : Runs m t div) (ch : ℕ) (four : ch < 4) where
+module _ (m : Taken) (t : Timer) (div : ℕ) (w : Runs m t div) (ch : ℕ) (four : ch < 4) where
   -- at the step after j no compare is met that the record calls done (done-equality)
   abbrev pub Kept : ℕ → Type 0
   Kept j = getD (t .chan .«cc_done») ch false ≡ true → T.isOutput t ch ≡ true → Leap.onward (raw t) (suc j) ≡ T.ccrAct t ch → ⊥

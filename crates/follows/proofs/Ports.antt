@@ -13,7 +13,7 @@ use Rattle.rm0440.specs.Output as Out
 use Rattle.rm0440.specs.Registers.{keptMask}
 use Rattle.tim.specs.declared.Timer.{Timer}
 use Rattle.tim.specs.declared.Count.{Count}
-use Rattle.tim.specs.Timer.{max, withRegs, withCount, ccmrByte}
+use Rattle.tim.specs.Timer.{max, withRegs, withCount, ccmrByte, withCr1}
 use Rattle.tim.specs.Count.{cntAt, synced, atCount}
 use Rattle.tim.specs.Change as T
 use Rattle.regs.specs.declared.Written.{Written}
@@ -132,8 +132,8 @@ module _ (t : Timer) (div : ℕ) (w : Timed t div) (now : ℕ) where
   pub cr1-port : (v : ℕ) → R.cr1Written t v now div ≡ newCr1 y v now div
   unfolding R.cr1Written
   cr1-port v =
-      either-sync t now (λ (z : Timer). cond (CEN (R.keptCr1 t v)) (cond (CEN (t .regs .cr1)) (R.turned (t .regs .cr1) (R.withCr1 z (R.keptCr1 t v))) (T.started (R.withCr1 z (R.keptCr1 t v)) now div))
-      (cond (CEN (t .regs .cr1)) (T.stopped (R.withCr1 z (R.keptCr1 t v)) now) (R.turned (t .regs .cr1) (R.withCr1 z (R.keptCr1 t v)))) ≡ newCr1 z v now div) (λ e. refl) (λ e. refl)
+      either-sync t now (λ (z : Timer). cond (CEN (R.keptCr1 t v)) (cond (CEN (t .regs .cr1)) (R.turned (t .regs .cr1) (withCr1 z (R.keptCr1 t v))) (T.started (withCr1 z (R.keptCr1 t v)) now div))
+      (cond (CEN (t .regs .cr1)) (T.stopped (withCr1 z (R.keptCr1 t v)) now) (R.turned (t .regs .cr1) (withCr1 z (R.keptCr1 t v)))) ≡ newCr1 z v now div) (λ e. refl) (λ e. refl)
 
   pub egr-port : (v : ℕ) → R.egrWritten t v now div ≡ newEgr y v now div
   unfolding R.egrWritten R.egrUpdate

@@ -6,6 +6,7 @@ use native.Mathlib.Nat.{zero-add, le-trans}
 use native.Mathlib.Omega.{arith}
 use lib.Dec.{leb}
 use borrow.Author.Tests.{leb-true, leb-false, le-leb}
+use Rattle.rm0440.specs.Rules.{portTakes}
 use Rattle.rm0440.specs.State as M
 use Rattle.rm0440.specs.Clock.{matched, clocks}
 use Rattle.tim.specs.declared.Timer.{Timer}
@@ -44,11 +45,11 @@ deliveries-due f t div c k d = go (t .count .running) refl
         let at : raw t ≡ Leap.at (raw t) 0 0 =
         ap (λ (b : Bool). M.withCount (raw t) b 0 (t .count .cnt0)) r ∙ ap (M.withCount (raw t) true 0) (sym (none-on (down t) (t .count .cnt0))) in
         ap (λ (s : M.Timer). clocks (rulesOf t) n (matched (rulesOf t) s)) (start ∙ at)
-        ∙ from-there false t div (on-course t div (k .timed) r (k .within)) f n c refl (k .came) (left-is f c div t d) ∙ seen-left f c div t
+        ∙ from-there (portTakes (t .inst .manual)) t div (on-course (t .inst .manual) t div (k .timed) r (k .within)) f n c refl (k .came) (left-is (t .inst .manual) f c div t refl d) ∙ seen-left (t .inst .manual) f c div t refl
     go false r =
         ap (λ (s : M.Timer). clocks (rulesOf t) n (matched (rulesOf t) s)) start
-        ∙ ap (clocks (rulesOf t) n) (matched-none (rulesOf t) (raw t) (mute false (raw t) r)) ∙ still false t r n
-        ∙ seen-stopped false t r div c ∙ ap (λ (u : Timer). Port.seen false u div c) (sym (deliver-stopped false t r f c div)) ∙ seen-left f c div t
+        ∙ ap (clocks (rulesOf t) n) (matched-none (rulesOf t) (raw t) (mute (portTakes (t .inst .manual)) (raw t) r)) ∙ still (portTakes (t .inst .manual)) t r n
+        ∙ seen-stopped (portTakes (t .inst .manual)) t r div c ∙ ap (λ (u : Timer). Port.seen (portTakes (t .inst .manual)) u div c) (sym (deliver-stopped (portTakes (t .inst .manual)) t r f c div)) ∙ seen-left (t .inst .manual) f c div t refl
 
 -- ---- two deliveries
 

@@ -9,7 +9,7 @@ use native.Mathlib.Omega.{arith}
 use lib.Dec.{ltb}
 use borrow.Author.Tests.{lt-ltb}
 use Rattle.rm0440.specs.Counter.{stepCycles}
-use Rattle.rm0440.specs.Rules.{rust}
+use Rattle.rm0440.specs.Rules.{portTakes, portRules}
 use Rattle.rm0440.specs.State as M
 use Rattle.rm0440.specs.Clock.{matched, clock, clocks}
 use Rattle.rm0440.specs.Write.{reset}
@@ -32,45 +32,45 @@ use Rattle.follows.proofs.Standing.{either-sync, Near, near-cnt, Stands
 
 -- ---- a match inside a step, seen at its beginning or later
 
-one-clock : (s : M.Timer) (n : ℕ) → n < s .psc → clock rust (matched rust (Leap.at s n 0)) ≡ matched rust (Leap.at s (suc n) 0)
+one-clock : (p : Bool) (s : M.Timer) (n : ℕ) → n < s .psc → clock (portRules p) (matched (portRules p) (Leap.at s n 0)) ≡ matched (portRules p) (Leap.at s (suc n) 0)
 unfolding clock matched
-one-clock s n h = rw (lt-ltb n (s .psc) h, add-one n)
+one-clock p s n h = rw (lt-ltb n (s .psc) h, add-one n)
 
-within-step : (s : M.Timer) (n : ℕ) → n ≤ s .psc → clocks rust n (matched rust (Leap.at s 0 0)) ≡ matched rust (Leap.at s n 0)
+within-step : (p : Bool) (s : M.Timer) (n : ℕ) → n ≤ s .psc → clocks (portRules p) n (matched (portRules p) (Leap.at s 0 0)) ≡ matched (portRules p) (Leap.at s n 0)
 unfolding clocks
-within-step s zero h = refl
-within-step s (suc n) h = ap (clock rust) (within-step s n (omega arith)) ∙ one-clock s n (omega arith)
+within-step p s zero h = refl
+within-step p s (suc n) h = ap (clock (portRules p)) (within-step p s n (omega arith)) ∙ one-clock p s n (omega arith)
 
 -- ---- a delivery at the cycle of a write
 
-module _ (u : Timer) (div : ℕ) (w : Timed u div) (h : Within u) (now : ℕ) (b : u .count .base ≤ now) where
+module _ (p : Bool) (u : Timer) (is : u .inst .manual ≡ p) (div : ℕ) (w : Timed u div) (h : Within u) (now : ℕ) (b : u .count .base ≤ now) where
   deliver-none : (f : ℕ) → dueBy (nextEvent u) now ≡ false → deliver f now div u ≡ u
   unfolding deliver
   deliver-none zero d = refl
   deliver-none (suc f) d = rw d
 
-  undue : (f : ℕ) → dueBy (nextEvent u) now ≡ false → matched rust (seen u div now) ≡ seen (deliver f now div u) div now
-  undue f d = quiet u div w h now b d ∙ ap (λ (z : Timer). seen z div now) (sym (deliver-none f d))
+  undue : (f : ℕ) → dueBy (nextEvent u) now ≡ false → matched (portRules p) (seen u div now) ≡ seen (deliver f now div u) div now
+  undue f d = quiet p u div w h now b d ∙ ap (λ (z : Timer). seen z div now) (sym (deliver-none f d))
 
   due-now : (f : ℕ) → u .count .running ≡ true → ticksAt u now ≡ 0 → dueBy (nextEvent (deliver f now div u)) now ≡ false
-      → matched rust (seen u div now) ≡ seen (deliver f now div u) div now
+      → matched (portRules p) (seen u div now) ≡ seen (deliver f now div u) div now
   due-now f r none d =
-      let y = on-course u div w r h in
-      let z : clocksAt u div now / per u ≡ 0 = sym (ticks-are false u div y now) ∙ none in
+      let y = on-course p u div w r h in
+      let z : clocksAt u div now / per u ≡ 0 = sym (ticks-are (portTakes p) u div y now) ∙ none in
       let zz : clocksAt u div now / per u * per u ≡ 0 = ap (λ (q : ℕ). q * per u) z ∙ zero-mul (per u) in
       let l : clocksAt u div now < per u = omega (arith, zz, lt-div-mul-add {a = clocksAt u div now} {b = per u} (omega arith)) in
       let m : clocksAt u div now % per u ≡ clocksAt u div now = mod-eq-of-lt l in
       let there : seen u div now ≡ Leap.at (raw u) (clocksAt u div now) 0 =
-      sym (seen-is u div now) ∙ seen-at false u div y now (clocksAt u div now) refl (rw z (update-later false u div y)) ∙ rw (z, m) in
-      ap (matched rust) there ∙ sym (within-step (raw u) (clocksAt u div now) (omega arith))
-      ∙ from-there false u div y f (clocksAt u div now) now refl b (left-is f now div u d) ∙ seen-left f now div u
+      sym (seen-is p u div now) ∙ seen-at (portTakes p) u div y now (clocksAt u div now) refl (rw z (update-later (portTakes p) u div y)) ∙ rw (z, m) in
+      ap (matched (portRules p)) there ∙ sym (within-step p (raw u) (clocksAt u div now) (omega arith))
+      ∙ from-there (portTakes p) u div y f (clocksAt u div now) now refl b (left-is p f now div u is d) ∙ seen-left p f now div u is
 
   pub settles : (f : ℕ) → Near u now ⊎ (dueBy (nextEvent u) now ≡ false) → dueBy (nextEvent (deliver f now div u)) now ≡ false
-      → matched rust (seen u div now) ≡ seen (deliver f now div u) div now
+      → matched (portRules p) (seen u div now) ≡ seen (deliver f now div u) div now
   settles f (inr n) d = undue f n
   settles f (inl near) d = go (u .count .running) refl
     where
-      go : (r : Bool) → u .count .running ≡ r → matched rust (seen u div now) ≡ seen (deliver f now div u) div now
+      go : (r : Bool) → u .count .running ≡ r → matched (portRules p) (seen u div now) ≡ seen (deliver f now div u) div now
       go true r = due-now f r (near r) d
       go false r = undue f (ap (λ (e : Due). dueBy e now) (event-stopped u r))
 

@@ -7,7 +7,7 @@ use native.Mathlib.Omega.{arith}
 use lib.Dec.{ltb}
 use borrow.Author.Tests.{le-ltb}
 use Rattle.rm0440.specs.Counter.{after}
-use Rattle.rm0440.specs.Rules.{rust}
+use Rattle.rm0440.specs.Rules.{portRules}
 use Rattle.rm0440.specs.State as M
 use Rattle.rm0440.specs.Clock.{matched}
 use Rattle.rm0440.specs.Write.{overrun, answered}
@@ -19,10 +19,10 @@ use Rattle.stepping.proofs.Synced.{cnt-runs, cnt-stopped, moved, synced-runs, s
 use Rattle.stepping.proofs.Agrees.{sync-keeps-count}
 use Rattle.follows.specs.Seen.{raw, clocksAt, per, seen, Timed, Within}
 
--- by the Rust's rules a write sets off what a delivery at its cycle finds: no rule of its own
-pub answers : (old s : M.Timer) → overrun rust s ≡ false → answered rust old s ≡ matched rust s
+-- by the port's rules a write sets off what a delivery at its cycle finds: no rule of its own
+pub answers : (p : Bool) (old s : M.Timer) → overrun (portRules p) s ≡ false → answered (portRules p) old s ≡ matched (portRules p) s
 unfolding answered matched
-answers old s e = rw e
+answers p old s e = rw e
 
 -- ---- a synchronized timer is the same timer, or its reference is moved
 

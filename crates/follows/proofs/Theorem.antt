@@ -6,7 +6,6 @@ use mathlib.Core.Logic.{inl}
 use native.Mathlib.Nat.{min-eq-right}
 use native.Mathlib.Omega.{arith}
 use Rattle.rm0440.specs.Counter.{tickDown, after}
-use Rattle.rm0440.specs.Rules.{rust}
 use Rattle.rm0440.specs.Read.{readChannel, read}
 use Rattle.rm0440.specs.Level.{level}
 use Rattle.rm0440.specs.Clock.{matched}
@@ -14,9 +13,11 @@ use Rattle.rm0440.specs.Write.{write}
 use Rattle.rm0440.proofs.SameClock.{clock-same, clocks-same}
 use Rattle.rm0440.proofs.SameEgr.{write-same}
 use Rattle.tim.specs.declared.Timer.{Timer}
+use Rattle.tim.specs.declared.Inst.{Inst}
 use Rattle.tim.specs.Count.{ticksAt, cntAt}
 use Rattle.tim.specs.Change as T
 use Rattle.regs.specs.Regs as R
+use Rattle.regs.proofs.Fixed.{inst-written}
 use Rattle.follows.specs.Seen.{seen, rulesOf, Left, written, deliver}
 use Rattle.follows.specs.Follows.{between, Deliveries, Writes, Late, Reads, Outputs, Stays, Resets, Retimes, Goes, AboveReload, ClampDown, ClocksAgree, WritesAgree, Undisputed, acts, LateWrites, Follows}
 use Rattle.follows.proofs.Delivered as D
@@ -30,20 +31,20 @@ use Rattle.follows.proofs.Fits.{fits-stay}
 use Rattle.follows.proofs.Lasting.{updated-within}
 use Rattle.stepping.proofs.Agrees.{counts-overflown, counts-down-clamped, event-overflown}
 
-deliveries : Deliveries rust (λ s n. Unit {0})
-deliveries f t div a c k le d e u = D.follows t div (k .timed) (k .within) f a c (k .came) le d e
+deliveries : Deliveries rulesOf (λ t s n. Unit {0})
+deliveries f t div a c k le d e u = D.follows (t .inst .manual) t div (k .timed) (k .within) refl f a c (k .came) le d e
 
-writes : Writes rust (λ off v s. Unit {0})
+writes : Writes rulesOf (λ t off v s. Unit {0})
 writes f t div off v now k d h e u =
-    let w = W.writes t div (k .timed) (k .within) now (k .came) d off v h in
+    let w = W.writes (t .inst .manual) t div (k .timed) (k .within) now (k .came) d off v h in
     let l = P.left t div (k .timed) now (k .came) off v in
-    w .same ∙ S.settles (R.regWritten t off v now div .timer) div (l .timed) h now (l .based) f (w .settled) e
+    w .same ∙ S.settles (t .inst .manual) (R.regWritten t off v now div .timer) (ap (λ (i : Inst). i .manual) (inst-written t off v now div)) div (l .timed) h now (l .based) f (w .settled) e
 
 goes : Goes
 goes t div off v now k h = let l = P.left t div (k .timed) now (k .came) off v in record { timed = l .timed; within = h; came = l .based }
 
 late : Late
-late t div now k = D.passes-by t div (k .timed) (k .within) now
+late t div now k = D.passes-by (t .inst .manual) t div (k .timed) (k .within) now
 
 reads : Reads
 unfolding read readChannel R.regRead R.channelRead
@@ -54,7 +55,7 @@ unfolding level T.output
 outputs t div ch now = refl
 
 stays : Stays
-stays t div ch now k r l kept d = D.stays t div (k .timed) (k .within) r ch l kept now (k .came) d
+stays t div ch now k r l kept d = D.stays (t .inst .manual) t div (k .timed) (k .within) r ch l kept now (k .came) d
 
 above-reload : AboveReload
 above-reload t c r d e = (counts-overflown t r c d e, event-overflown t r d (omega arith))
@@ -78,7 +79,7 @@ late-writes f t div off v now k h e =
     l = P.left t div (k .timed) now (k .came) off v
 
     go : (a : Bool) → (a ≡ true → Near u now) → cond a (matched (rulesOf t) (seen u div now)) (seen u div now) ≡ cond a (seen (deliver f now div u) div now) (seen u div now)
-    go true near = S.settles u div (l .timed) h now (l .based) f (inl (near refl)) e
+    go true near = S.settles (t .inst .manual) u (ap (λ (i : Inst). i .manual) (inst-written t off v now div)) div (l .timed) h now (l .based) f (inl (near refl)) e
     go false near = refl
 
 pub follows : Follows
@@ -97,8 +98,8 @@ follows = record {
   ends = updated-within;
   clocks-agree = clock-same;
   writes-agree = write-same;
-  deliveries-manual = λ f t div a c k le d e u. sym (clocks-same rust (seen t div a) (between t div a c) (u .fits) (u .outside)) ∙ deliveries f t div a c k le d e tt;
-  writes-manual = λ f t div off v now k d h e o. sym (write-same rust off v (seen t div now) o) ∙ writes f t div off v now k d h e tt;
+  deliveries-manual = λ f t div a c k le d e u. sym (clocks-same (rulesOf t) (seen t div a) (between t div a c) (u .fits) (u .outside)) ∙ deliveries f t div a c k le d e tt;
+  writes-manual = λ f t div off v now k d h e o. sym (write-same (rulesOf t) off v (seen t div now) o) ∙ writes f t div off v now k d h e tt;
   late-writes = late-writes;
   deliveries-due = deliveries-due;
   splits = splits;

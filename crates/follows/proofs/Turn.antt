@@ -11,7 +11,7 @@ use Rattle.tim.specs.declared.Ahead.{Ahead}
 use Rattle.tim.specs.declared.Next.the-variants.{Update, Compare}
 use Rattle.tim.specs.Timer as T
 use Rattle.tim.specs.Change as C
-use Rattle.rm0440.specs.Rules.{Rules, manualMode}
+use Rattle.rm0440.specs.Rules.{Rules, manualMode, Taken}
 use Rattle.rm0440.specs.State as M
 use Rattle.rm0440.specs.State.{withBit}
 use Rattle.rm0440.specs.Clock.{wraps, counted, loaded, restarted, allAhead, pulseEnded, updateEvent, wrapped, matched, stepped, clocks}
@@ -24,16 +24,16 @@ use Rattle.follows.proofs.Between.{to-event, next-same, best}
 
 -- ---- the machine's overflow or underflow is that update
 
-down-turned : (m : Bool) (t : Timer) → centre m t ≡ true → T.down (turned m t) ≡ not (T.down t)
+down-turned : (m : Taken) (t : Timer) → centre m t ≡ true → T.down (turned m t) ≡ not (T.down t)
 down-turned m t e =
     ap (λ (b : Bool). cond (eqb (t .inst .channels) 0) false (DIR (cond b (withBit 4 (not (T.down t)) (t .regs .cr1)) (t .regs .cr1)))) e
     ∙ ap (λ (z : Bool). cond z false (DIR (withBit 4 (not (T.down t)) (t .regs .cr1)))) (centre-channels (manualMode m) (raw t) e)
     ∙ dir-is (not (T.down t)) (t .regs .cr1)
 
-down-kept : (m : Bool) (t : Timer) → centre m t ≡ false → T.down (turned m t) ≡ T.down t
+down-kept : (m : Taken) (t : Timer) → centre m t ≡ false → T.down (turned m t) ≡ T.down t
 down-kept m t e = ap (λ (b : Bool). cond (eqb (t .inst .channels) 0) false (DIR (cond b (withBit 4 (not (T.down t)) (t .regs .cr1)) (t .regs .cr1)))) e
 
-module _ (m : Bool) (t : Timer) (x c div : ℕ) (runs : t .count .running ≡ true) where
+module _ (m : Taken) (t : Timer) (x c div : ℕ) (runs : t .count .running ≡ true) where
   -- a restart, with the way and the count that begin
   abbrev begun : ℕ → ℕ → M.Timer
   begun v k = M.withCr1 v (M.withCount (raw t) true 0 k)
@@ -60,12 +60,12 @@ module _ (m : Bool) (t : Timer) (x c div : ℕ) (runs : t .count .running ≡ tr
           ap (begun (t .regs .cr1)) (ap (λ (d : Bool). restart d (t .count .«arr_act»)) (sym (down-kept m t e)))
           ∙ ap (λ (b : Bool). begun (cond b (withBit 4 (not (T.down t)) (t .regs .cr1)) (t .regs .cr1)) (restart (T.down (turned m t)) (t .count .«arr_act»))) (sym e)
 
-ended-raw : (m o : Bool) (y : Timer) → allAhead (pulseEnded (manualMode m) o (raw y)) ≡ raw (ended m o (C.recomputedAfterUpdate y))
+ended-raw : (m : Taken) (o : Bool) (y : Timer) → allAhead (pulseEnded (manualMode m) o (raw y)) ≡ raw (ended m o (C.recomputedAfterUpdate y))
 unfolding pulseEnded C.recomputedAfterUpdate
 ended-raw m true y = refl
 ended-raw m false y = refl
 
-module _ (m : Bool) (t : Timer) (j c div : ℕ) (runs : t .count .running ≡ true) where
+module _ (m : Taken) (t : Timer) (j c div : ℕ) (runs : t .count .running ≡ true) where
   abbrev r : Rules
   r = manualMode m
 
@@ -103,15 +103,15 @@ module _ (m : Bool) (t : Timer) (j c div : ℕ) (runs : t .count .running ≡ tr
   unfolding wrapped updateEvent updated C.reloaded
   wrapped-is = go (UDIS (t .regs .cr1))
     where
-      go : (u : Bool) → allAhead (cond u (cond m (restarted r (Leap.at (raw t) 0 j)) (pulseEnded r (OPM (t .regs .cr1)) (restarted r (Leap.at (raw t) 0 j))))
+      go : (u : Bool) → allAhead (cond u (cond (m .one-pulse-udis) (restarted r (Leap.at (raw t) 0 j)) (pulseEnded r (OPM (t .regs .cr1)) (restarted r (Leap.at (raw t) 0 j))))
           (pulseEnded r (OPM (t .regs .cr1)) (restarted r (M.flag 0 (loaded (Leap.at (raw t) 0 j))))))
-          ≡ raw (ended m (OPM (t .regs .cr1) && not (m && u)) (C.recomputedAfterUpdate (C.restarted (turned m (cond u t (C.withFlag (C.loaded t) C.UIF))) c div)))
-      go true = under m (OPM (t .regs .cr1))
-      go false = plain m (OPM (t .regs .cr1))
+          ≡ raw (ended m (OPM (t .regs .cr1) && not (m .one-pulse-udis && u)) (C.recomputedAfterUpdate (C.restarted (turned m (cond u t (C.withFlag (C.loaded t) C.UIF))) c div)))
+      go true = under (m .one-pulse-udis) (OPM (t .regs .cr1))
+      go false = plain (m .one-pulse-udis) (OPM (t .regs .cr1))
 
 -- ---- the clocks to the next event of the port
 
-module _ (m : Bool) (t : Timer) (div : ℕ) (w : Runs m t div) (j : ℕ) (is : nextSteps m t .steps ≡ suc j) where
+module _ (m : Taken) (t : Timer) (div : ℕ) (w : Runs m t div) (j : ℕ) (is : nextSteps m t .steps ≡ suc j) where
   steps-is : next (manualMode m) (raw t) .steps ≡ suc j
   steps-is = ap (λ (a : Ahead). a .steps) (sym (next-same m t div w)) ∙ is
 

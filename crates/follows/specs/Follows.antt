@@ -1,6 +1,7 @@
 -- The statement. "RM0440 decides the proved definition, and each disagreement is a line of docs/DIFFERENCES.md with its exact cases. Outside those
 -- cases the port is proved equal to the definition; inside them, to the Rust's rule, written out beside the manual's." (document 01)
--- The definition is the machine of crates/rm0440 by the rules `manual`; the Rust's rules beside them are `rust`; the cases are Cases and WriteCases there.
+-- The definition is the machine of crates/rm0440 by the rules `manual`; those of the port's timer t are `rulesOf t`: `rust`, and in manual mode (document
+-- 02) `rust` but for what that takes from the manual. The cases are Cases and WriteCases there.
 -- The proof: proofs/Theorem.antt.
 use Prim.Native.Nat.{ℕ, suc, _+_, _-_, _%_, _≤_, _<_}
 use mathlib.Core.Path.{_≡_}
@@ -10,7 +11,7 @@ use lib.ListN.{getD}
 use Rattle.rm0440.specs.Bits.{isSet, ARPE}
 use Rattle.rm0440.specs.Output.{OCxPE}
 use Rattle.rm0440.specs.Counter.{tickUp, tickDown, after}
-use Rattle.rm0440.specs.Rules.{Rules, manual, rust}
+use Rattle.rm0440.specs.Rules.{Rules, manual}
 use Rattle.rm0440.specs.State as M
 use Rattle.rm0440.specs.Clock.{matched, clock, clocks}
 use Rattle.rm0440.specs.Write.{isCcr, ccrChannel, write, reset}
@@ -43,26 +44,26 @@ pub record Call (t : Timer) (div now : ℕ) : Type 0 where
   pub within : Within t
   pub came : t .count .base ≤ now
 
--- ---- the machine by rules r, at the calls that P admits
+-- ---- the machine by the rules r of a timer, at the calls that P admits
 
 -- a delivery at cycle c, answered 0, from a cycle a at which nothing was due: so many kernel clocks
-abbrev pub Deliveries : Rules → (M.Timer → ℕ → Type 0) → Type 0
+abbrev pub Deliveries : (Timer → Rules) → (Timer → M.Timer → ℕ → Type 0) → Type 0
 Deliveries r P =
-    (f : ℕ) (t : Timer) (div a c : ℕ) → Call t div a → a ≤ c → Delivered t a → Delivered (deliver f c div t) c → P (seen t div a) (between t div a c)
-    → clocks r (between t div a c) (seen t div a) ≡ seen (deliver f c div t) div c
+    (f : ℕ) (t : Timer) (div a c : ℕ) → Call t div a → a ≤ c → Delivered t a → Delivered (deliver f c div t) c → P t (seen t div a) (between t div a c)
+    → clocks (r t) (between t div a c) (seen t div a) ≡ seen (deliver f c div t) div c
 
 -- a write of any register at a cycle where nothing is due, and what it makes due at once delivered: the machine's write
-abbrev pub Writes : Rules → (ℕ → ℕ → M.Timer → Type 0) → Type 0
+abbrev pub Writes : (Timer → Rules) → (Timer → ℕ → ℕ → M.Timer → Type 0) → Type 0
 Writes r P =
     (f : ℕ) (t : Timer) (div off v now : ℕ) → Call t div now → Delivered t now
-    → Within (written t off v now div) → Delivered (deliver f now div (written t off v now div)) now → P off v (seen t div now)
-    → write r off v (seen t div now) ≡ seen (deliver f now div (written t off v now div)) div now
+    → Within (written t off v now div) → Delivered (deliver f now div (written t off v now div)) now → P t off v (seen t div now)
+    → write (r t) off v (seen t div now) ≡ seen (deliver f now div (written t off v now div)) div now
 
--- ---- inside the cases and outside: the Rust's rule
+-- ---- inside the cases and outside: the rules of the timer
 
 -- a call at any cycle, with events due or not, sees the machine of whose clocks the counters alone are seen (lost-update, lost-compare, late-flags)
 abbrev pub Late : Type 0
-Late = (t : Timer) (div now : ℕ) → Call t div now → passes rust (clocksAt t div now) (seen t div (t .count .base)) ≡ seen t div now
+Late = (t : Timer) (div now : ℕ) → Call t div now → passes (rulesOf t) (clocksAt t div now) (seen t div (t .count .base)) ≡ seen t div now
 
 -- every register, flags and counter read as the machine's
 abbrev pub Reads : Type 0
@@ -186,9 +187,9 @@ WritesAgree = (r : Rules) (off v : ℕ) (s : M.Timer) → OutsideWrite r off v s
 -- ---- the whole
 
 pub record Follows : Type 0 where
-  -- "inside them, to the Rust's rule"
-  pub deliveries : Deliveries rust (λ s n. Unit {0})
-  pub writes : Writes rust (λ off v s. Unit {0})
+  -- "inside them, to the Rust's rule"; in manual mode to those that it takes
+  pub deliveries : Deliveries rulesOf (λ t s n. Unit {0})
+  pub writes : Writes rulesOf (λ t off v s. Unit {0})
   pub late : Late
   pub reads : Reads
   pub outputs : Outputs
@@ -203,8 +204,8 @@ pub record Follows : Type 0 where
   pub clocks-agree : ClocksAgree
   pub writes-agree : WritesAgree
   -- "outside those cases the port is proved equal to the definition"
-  pub deliveries-manual : Deliveries manual (Undisputed rust)
-  pub writes-manual : Writes manual (OutsideWrite rust)
+  pub deliveries-manual : Deliveries (λ t. manual) (λ t. Undisputed (rulesOf t))
+  pub writes-manual : Writes (λ t. manual) (λ t. OutsideWrite (rulesOf t))
   -- events due and not delivered, deliveries one after the other
   pub late-writes : LateWrites
   pub deliveries-due : DeliveriesDue

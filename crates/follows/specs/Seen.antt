@@ -7,7 +7,7 @@ use lib.Dec.{leb}
 use lib.ListN.{length}
 use Rattle.rm0440.specs.Bits.{CEN}
 use Rattle.rm0440.specs.Counter.{stepCycles, stepsBetween}
-use Rattle.rm0440.specs.Rules.{Rules, rust}
+use Rattle.rm0440.specs.Rules.{Rules, portRules}
 use Rattle.rm0440.specs.State as M
 use Rattle.tim.specs.declared.Timer.{Timer}
 use Rattle.tim.specs.declared.Next.the-variants.{Update, Compare}
@@ -18,6 +18,10 @@ use Rattle.tim.specs.Count.{cntAt}
 use Rattle.tim.specs.Next.{nextEvent}
 use Rattle.tim.specs.Change as T
 use Rattle.regs.specs.Regs.{regWritten}
+
+-- the rules that it counts by: the Rust's, and in manual mode those that document 02 takes from the manual
+abbrev pub rulesOf : Timer → Rules
+rulesOf t = portRules (t .inst .manual)
 
 -- ---- the view
 
@@ -52,10 +56,6 @@ per t = t .count .«psc_act» + 1
 -- at a cycle: the count that is read there, and the kernel clocks since its last step
 abbrev pub seen : Timer → ℕ → ℕ → M.Timer
 seen t div c = M.withCount (raw t) (t .count .running) (cond (t .count .running) (clocksAt t div c % per t) 0) (cntAt t c)
-
--- the rules that the port has for timer t
-abbrev pub rulesOf : Timer → Rules
-rulesOf t = rust
 
 -- ---- the timers that it is a view of
 

@@ -2,7 +2,7 @@
 use text::Number;
 use text::Reading;
 
-// Places of the state: the number of the line; 0 before the first word, 1 in it, 2 between numbers, 3 in a number; whether a
+// Places of the state: the number of the line; 0 before the first word, 1 in it, 2 between numbers, 3 in a number, 4 in `manual`; whether a
 // comment runs; whether a carriage return waits for the line's end.
 pub const LINE: usize = 0;
 
@@ -42,13 +42,16 @@ const INDEX: usize = 15;
 // How far the buffer of answers is filled.
 pub const USED: usize = 16;
 
-pub const STATE: usize = 17;
+// A set-up's N.
+const TIMERS: usize = 17;
+
+pub const STATE: usize = 18;
 
 // The longest word of a call has 10 letters.
 pub const WORD: usize = 11;
 
 // A set-up of 9 timers and 2,049 table entries: more is refused as these are.
-pub const ENCODED: usize = 2121;
+pub const ENCODED: usize = 2122;
 
 // What a byte leads to: nothing yet, a call, or why there is none.
 pub const GO_ON: u8 = 0;
@@ -126,14 +129,59 @@ fn digit(state: &mut [u64; STATE], b: u8) {
     state[VALUE] = s.value;
 }
 
-// A byte of the first word.
-fn first_letter(state: &mut [u64; STATE], word: &mut [u8; WORD], b: u8) {
-    state[PHASE] = 1;
+// A letter of a word that is kept.
+fn keep(state: &mut [u64; STATE], word: &mut [u8; WORD], b: u8) {
     let n = size(state[LETTERS]);
     if n < WORD {
         word[n] = b;
         bump(state, LETTERS, 1);
     }
+}
+
+// A byte of the first word.
+fn first_letter(state: &mut [u64; STATE], word: &mut [u8; WORD], b: u8) {
+    state[PHASE] = 1;
+    keep(state, word, b);
+}
+
+// The call has all the numbers that it can have: a set-up with its mask.
+fn is_full(state: &[u64; STATE]) -> bool {
+    if state[OP] == 0 {
+        return state[FIELD] == 10;
+    }
+    wanted(state) == 0
+}
+
+// A set-up's pairs may end, and `manual` follow.
+fn may_be_manual(state: &[u64; STATE]) -> bool {
+    if state[OP] != 0 {
+        return false;
+    }
+    state[FIELD] == 7
+}
+
+fn is_manual(word: &[u8; WORD], n: usize) -> bool {
+    if n != 6 {
+        return false;
+    }
+    (word[0] == b'm')
+        & (word[1] == b'a')
+        & (word[2] == b'n')
+        & (word[3] == b'u')
+        & (word[4] == b'a')
+        & (word[5] == b'l')
+}
+
+// The word behind the pairs ends: its mask is next.
+fn manual_end(state: &mut [u64; STATE], word: &[u8; WORD]) -> u8 {
+    let n = size(state[LETTERS]);
+    state[PHASE] = 2;
+    state[LETTERS] = 0;
+    if is_manual(word, n) {
+        state[FIELD] = 9;
+        return GO_ON;
+    }
+    NOT_A_NUMBER
 }
 
 // A byte that belongs to a word.
@@ -144,12 +192,19 @@ fn letter(state: &mut [u64; STATE], word: &mut [u8; WORD], b: u8) -> u8 {
         return GO_ON;
     }
     if phase == 2 {
-        if state[OP] != 0 {
-            if wanted(state) == 0 {
-                return SURPLUS;
-            }
+        if is_full(state) {
+            return SURPLUS;
         }
         state[PHASE] = 3;
+        if b == b'm' {
+            if may_be_manual(state) {
+                state[PHASE] = 4;
+            }
+        }
+    }
+    if state[PHASE] == 4 {
+        keep(state, word, b);
+        return GO_ON;
     }
     digit(state, b);
     GO_ON
@@ -173,7 +228,9 @@ fn first_word(state: &mut [u64; STATE], word: &[u8; WORD], call: &mut [u32; ENCO
 // A set-up's N.
 fn timer_count(state: &mut [u64; STATE], call: &mut [u32; ENCODED], v: u64) -> u8 {
     put(call, 7, least(v, 9));
-    state[AT] = 9;
+    put(call, 9, 0);
+    state[AT] = 10;
+    state[TIMERS] = v;
     state[LEFT] = 7 * (v % 4294967296);
     if v == 0 {
         state[FIELD] = 6;
@@ -186,7 +243,7 @@ fn timer_count(state: &mut [u64; STATE], call: &mut [u32; ENCODED], v: u64) -> u
 // A number of a timer: nine timers are kept.
 fn timer_number(state: &mut [u64; STATE], call: &mut [u32; ENCODED], v: u64) -> u8 {
     let at = size(state[AT]);
-    if at < 72 {
+    if at < 73 {
         put(call, at, v);
         bump(state, AT, 1);
     }
@@ -237,10 +294,23 @@ fn table_signal(state: &mut [u64; STATE], call: &mut [u32; ENCODED], v: u64) -> 
     let index = state[INDEX];
     let table = state[TABLE];
     if index < 2049 {
-        if table < 73 {
+        if table < 74 {
             put(call, size(table + index), v);
         }
     }
+    GO_ON
+}
+
+// A set-up's MASK: a bit for each timer.
+fn manual_mask(state: &mut [u64; STATE], call: &mut [u32; ENCODED], v: u64) -> u8 {
+    let n = state[TIMERS];
+    if n < 32 {
+        if v >> n != 0 {
+            return TOO_LARGE;
+        }
+    }
+    put(call, 9, v);
+    state[FIELD] = 10;
     GO_ON
 }
 
@@ -255,7 +325,8 @@ fn setup_number(state: &mut [u64; STATE], call: &mut [u32; ENCODED], v: u64) -> 
         5 => timer_number(state, call, v),
         6 => table_length(state, call, v),
         7 => table_index(state, v),
-        _ => table_signal(state, call, v),
+        8 => table_signal(state, call, v),
+        _ => manual_mask(state, call, v),
     }
 }
 
@@ -325,13 +396,16 @@ fn word_end(state: &mut [u64; STATE], word: &[u8; WORD], call: &mut [u32; ENCODE
     if phase == 3 {
         return number_end(state, call);
     }
+    if phase == 4 {
+        return manual_end(state, word);
+    }
     GO_ON
 }
 
 // Whether the call has all its numbers.
 fn complete(state: &[u64; STATE]) -> bool {
     if state[OP] == 0 {
-        return state[FIELD] == 7;
+        return (state[FIELD] == 7) | (state[FIELD] == 10);
     }
     wanted(state) == 0
 }

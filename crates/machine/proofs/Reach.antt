@@ -20,7 +20,7 @@ use Rattle.tim.specs.declared.Due.{Due}
 use Rattle.tim.specs.declared.Due.the-variants.{At, Stopped}
 use Rattle.tim.specs.declared.Next.{Next}
 use Rattle.tim.specs.declared.Next.the-variants.{Update, Compare}
-use Rattle.tim.specs.Timer.{isOutput, ccmrByte}
+use Rattle.tim.specs.Timer.{isOutput, ccmrByte, withCr1}
 use Rattle.tim.specs.Count.{synced}
 use Rattle.tim.specs.Next.{nextEvent}
 use Rattle.tim.specs.Change as C
@@ -97,7 +97,7 @@ inst-matched t ch = refl
 inst-cr1 : (t : Timer) (v now div : ℕ) → R.cr1Written t v now div .inst ≡ t .inst
 unfolding R.cr1Written
 inst-cr1 t v now div =
-    let s = R.withCr1 (synced t now) (R.keptCr1 t v) in
+    let s = withCr1 (synced t now) (R.keptCr1 t v) in
     let e : s .inst ≡ t .inst = inst-synced t now in
     let turned : R.turned (t .regs .cr1) s .inst ≡ t .inst = inst-turned (t .regs .cr1) s ∙ e in
     either (λ (u : Timer). u .inst ≡ t .inst) (CEN (s .regs .cr1))

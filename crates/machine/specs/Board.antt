@@ -52,7 +52,7 @@ pub record Board : Type 0 where
 -- ---- places that hold no timer and no pin
 
 abbrev pub noInst : Inst
-noInst = record { n = 0; width = 0; channels = 0; apb = 0; irq = 0; «en_reg» = 0; «en_bit» = 0 }
+noInst = record { n = 0; width = 0; channels = 0; apb = 0; irq = 0; «en_reg» = 0; «en_bit» = 0; manual = false }
 
 abbrev pub noTimer : Timer
 noTimer = record {

@@ -9,9 +9,9 @@ use lib.ListN.{length}
 use borrow.Author.Tests.{eq-eqb, eqb-true, le-ltb, leb-true}
 use Rattle.rm0440.specs.Bits.{CEN, DIR}
 use Rattle.tim.specs.declared.Timer.{Timer}
-use Rattle.tim.specs.Timer.{down}
+use Rattle.tim.specs.Timer.{down, withCr1}
 use Rattle.tim.specs.Count.{upFrom, cntAt, synced}
-use Rattle.regs.specs.Regs.{keptCr1, withCr1, turned, cr1Written, astray}
+use Rattle.regs.specs.Regs.{keptCr1, turned, cr1Written, astray}
 use Rattle.machine.specs.Board.{Board, timerAt, withTimer}
 use Rattle.fields.proofs.Words.{changed-twice}
 use Rattle.regfile.specs.Steady.{steady}

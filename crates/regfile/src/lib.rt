@@ -7,6 +7,7 @@ ghost use Prim.Native.Nat.{ℕ, _<_};
 ghost use lib.Ieee.{Float};
 ghost use lib.ListN.{set};
 ghost use Rattle.tim.specs.Count.{synced};
+ghost use Rattle.tim.specs.Timer.{withCr1};
 ghost use Rattle.tim.specs.Change.{withDone, behindOf};
 ghost use Rattle.regs.specs.Regs as R;
 ghost use Rattle.state.specs.View.{view};
@@ -71,7 +72,7 @@ fn stays(old: u32, new: u32) -> bool
 // CR1 of a timer that the write neither starts, stops nor turns: CR1 and the reference are stored.
 fn write_steady(words: &mut [u64; WORDS], i: usize, new: u32, cycle: u64)
     requires { ⌜ (i < 8) × (cycle < 9223372036854775808) ⌝ }
-    ensures { λ _. ⌜ ((x : List Float) → view (now (words .exit)) x ≡ withTimer (view (now (words .entry)) x) i (R.withCr1 (synced (timerAt (view (now (words .entry)) x) i) cycle) new)) ⌝ }
+    ensures { λ _. ⌜ ((x : List Float) → view (now (words .exit)) x ≡ withTimer (view (now (words .entry)) x) i (withCr1 (synced (timerAt (view (now (words .entry)) x) i) cycle) new)) ⌝ }
 {
     sync(words, i, cycle);
     fields::set_reg(words, i, 0, new);

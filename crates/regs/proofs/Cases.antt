@@ -10,7 +10,8 @@ use Rattle.rm0440.specs.Bits.{isSet}
 use Rattle.tim.specs.declared.Timer.{Timer}
 use Rattle.tim.specs.Count.{synced}
 use Rattle.tim.specs.Change.{started, stopped}
-use Rattle.regs.specs.Regs.{cr1Written, turned, withCr1, keptCr1, isCcr}
+use Rattle.tim.specs.Timer.{withCr1}
+use Rattle.regs.specs.Regs.{cr1Written, turned, keptCr1, isCcr}
 
 -- bit 0
 pub bit0-set : (x y : ℕ) → y ≡ x → y % 2 ≡ 1 → isSet 0 x ≡ true

@@ -9,7 +9,7 @@ use Rattle.rm0440.specs.Output as Out
 use Rattle.rm0440.specs.Registers.{keptMask, mask, bits}
 use Rattle.tim.specs.declared.Timer.{Timer}
 use Rattle.regs.specs.declared.Written.{Written}
-use Rattle.tim.specs.Timer.{Fit, Ready, isOutput, ccmrByte}
+use Rattle.tim.specs.Timer.{Fit, Ready, isOutput, ccmrByte, withCr1}
 use Rattle.tim.specs.Count.{synced}
 use Rattle.tim.specs.Change.{recomputed}
 use Rattle.tim.proofs.Fit.{either, fit-synced, fit-recomputed, fit-matched, fit-started, fit-stopped, fit-generated}
@@ -86,7 +86,7 @@ fit-channel t f v now h off =
 pub fit-cr1 : (t : Timer) → Fit t → (v now div : ℕ) → now < 9223372036854775808 → 0 < div → div ≤ 8192 → Fit (R.cr1Written t v now div)
 unfolding R.cr1Written
 fit-cr1 t f v now div h p d =
-    let s = R.withCr1 (synced t now) (R.keptCr1 t v) in
+    let s = withCr1 (synced t now) (R.keptCr1 t v) in
     let g : Fit s = fit-synced t f now h in
     let same : Fit (R.turned (t .regs .cr1) s) = fit-turned (t .regs .cr1) s g in
     either Fit (CEN (R.keptCr1 t v))

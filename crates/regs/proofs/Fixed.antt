@@ -7,7 +7,7 @@ use Rattle.rm0440.specs.Output as Out
 use Rattle.tim.specs.declared.Timer.{Timer}
 use Rattle.tim.specs.declared.Inst.{Inst}
 use Rattle.regs.specs.declared.Written.{Written}
-use Rattle.tim.specs.Timer.{isOutput, ccmrByte}
+use Rattle.tim.specs.Timer.{isOutput, ccmrByte, withCr1}
 use Rattle.tim.specs.Count.{synced}
 use Rattle.tim.specs.Change.{recomputed}
 use Rattle.tim.proofs.Fit.{either}
@@ -27,7 +27,7 @@ module _ (t : Timer) (v now div : ℕ) where
   pub inst-cr1 : R.cr1Written t v now div .inst ≡ t .inst
   unfolding R.cr1Written
   inst-cr1 =
-      let s = R.withCr1 (synced t now) (R.keptCr1 t v) in
+      let s = withCr1 (synced t now) (R.keptCr1 t v) in
       let e : s .inst ≡ t .inst = inst-synced t now in
       let turns = inst-turned (t .regs .cr1) s ∙ e in
       either (λ (x : Timer). x .inst ≡ t .inst) (CEN (R.keptCr1 t v))

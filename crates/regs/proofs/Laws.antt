@@ -19,11 +19,11 @@ use Rattle.tim.specs.declared.Timer.{Timer}
 use Rattle.tim.specs.declared.Regs.{Regs}
 use Rattle.tim.specs.declared.Ahead.{Ahead}
 use Rattle.regs.specs.declared.Written.{Written}
-use Rattle.tim.specs.Timer.{withRegs, down, ccmrByte, ccrAct}
+use Rattle.tim.specs.Timer.{withRegs, down, ccmrByte, ccrAct, withCr1}
 use Rattle.tim.specs.Count.{upFrom, downFrom, ticksAt, cntAt, synced}
 use Rattle.tim.specs.Next.{compares, consider, nextSteps, nextEvent}
 use Rattle.tim.specs.Change.{recomputed, recomputedAfterUpdate, reloaded, restarted, ended, updated, started, stopped}
-use Rattle.regs.specs.Regs.{kept, keptCr1, keptWidth, keptSr, withCr1, withPsc, only, turned, cr1Written, cntWritten, arrWritten, ccrWritten, ccmrWritten, ccerWritten, channelWritten, regWritten, channelRead, regRead, isCcr}
+use Rattle.regs.specs.Regs.{kept, keptCr1, keptWidth, keptSr, withPsc, only, turned, cr1Written, cntWritten, arrWritten, ccrWritten, ccmrWritten, ccerWritten, channelWritten, regWritten, channelRead, regRead, isCcr}
 
 -- "CR1 3ff, DIER 5f5f, CCER 3333, PSC ffff; CR2, SMCR, CCMR all 32", and SR's 1e5f: the table as numbers
 pub masks : map keptMask (0 ∷ 1 ∷ 2 ∷ 3 ∷ 4 ∷ 6 ∷ 7 ∷ 8 ∷ 10 ∷ [])

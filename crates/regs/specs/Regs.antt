@@ -11,7 +11,7 @@ use Rattle.rm0440.specs.Registers.{keptMask}
 use Rattle.tim.specs.declared.Timer.{Timer}
 use Rattle.tim.specs.declared.Regs.{Regs}
 use Rattle.regs.specs.declared.Written.{Written}
-use Rattle.tim.specs.Timer.{withCount, withChan, withRegs, down, max, isOutput, ocMode, ccmrByte}
+use Rattle.tim.specs.Timer.{withCount, withChan, withRegs, withCr1, down, max, isOutput, ocMode, ccmrByte}
 use Rattle.tim.specs.Count.{cntAt, synced, atCount}
 use Rattle.tim.specs.Change.{behind, withDone, recomputed, started, stopped, matched}
 use Rattle.tim.specs.Change as C
@@ -33,9 +33,6 @@ abbrev pub keptSr : ℕ → ℕ → ℕ
 keptSr sr v = bitAnd sr (bitOr v (0xffff_ffff - keptMask 4))
 
 -- ---- a register set to a value
-
-abbrev pub withCr1 : Timer → ℕ → Timer
-withCr1 t v = withRegs t (record { cr1 = v; cr2 = t .regs .cr2; smcr = t .regs .smcr; dier = t .regs .dier; sr = t .regs .sr; ccer = t .regs .ccer; psc = t .regs .psc; arr = t .regs .arr })
 
 abbrev pub withCr2 : Timer → ℕ → Timer
 withCr2 t v = withRegs t (record { cr1 = t .regs .cr1; cr2 = v; smcr = t .regs .smcr; dier = t .regs .dier; sr = t .regs .sr; ccer = t .regs .ccer; psc = t .regs .psc; arr = t .regs .arr })

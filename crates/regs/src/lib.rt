@@ -3,7 +3,7 @@ use tim::Timer;
 ghost use mathlib.Core.Path.{_≡_};
 ghost use Prim.Native.Nat.{ℕ, _<_};
 ghost use Rattle.rm0440.specs.Registers.{keptMask};
-ghost use Rattle.tim.specs.Timer.{Fit, Ready};
+ghost use Rattle.tim.specs.Timer.{Fit, Ready, withCr1};
 ghost use Rattle.regs.specs.Regs as R;
 
 // What a register write leaves: the next timer, and whether the outputs are driven (at a count), the interrupt
@@ -45,7 +45,7 @@ pub fn kept(reg: usize) -> u32
 }
 
 fn with_cr1(mut timer: Timer, v: u32) -> Timer
-    ensures { λ r. ⌜ r ≡ R.withCr1 timer v ⌝ }
+    ensures { λ r. ⌜ r ≡ withCr1 timer v ⌝ }
 {
     timer.regs.cr1 = v;
     timer

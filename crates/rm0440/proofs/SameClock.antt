@@ -9,7 +9,7 @@ use lib.Dec.{eqb, ltb, leb, lit<}
 use lib.ListN.{getD}
 use borrow.Author.Tests.{ltb-true, ltb-false, eqb-true, eqb-false, ne-eqb, eq-eqb, le-leb, lt-leb}
 use Rattle.rm0440.specs.Bits.{CEN, UDIS, OPM}
-use Rattle.rm0440.specs.Rules.{Rules, manual, manualMode}
+use Rattle.rm0440.specs.Rules.{Rules, manual, allTaken, manualMode, portRules}
 use Rattle.rm0440.specs.State.{Timer, ccrOf, isOutput, down, centre, CMS, withCount, withSr, ccFlags, flag}
 use Rattle.rm0440.specs.Clock.{going, wraps, restarted, loaded, pulseEnded, updateEvent, passesOver, wrapped, counted, equal, flags, meets, matched, stepped, blocked, clock, clocks}
 use Rattle.rm0440.specs.Cases as C
@@ -270,8 +270,11 @@ clocks-same r s zero f o = refl
 clocks-same r s (suc n) f o =
     clock-same r (clocks r n s) (f n (omega arith)) (o n (omega arith)) ∙ ap (clock manual) (clocks-same r s n (λ m l. f m (omega arith)) (λ m l. o m (omega arith)))
 
--- with F-2, F-6, F-8 and F-11 in, their four cases are none in manual mode: by computation
+-- in manual mode the case of one-pulse is none (F-2), and with F-6, F-8 and F-11 in, theirs: by computation
+pub no-longer-case : (t : Timer) → settled (portRules true .one-pulse) (C.one-pulse (portRules true) t)
+no-longer-case t = refl
+
 pub no-longer-cases : (t : Timer)
-    → settled (manualMode true .one-pulse) (C.one-pulse (manualMode true) t) × settled (manualMode true .one-pulse-udis) (C.one-pulse-udis (manualMode true) t)
-    × settled (manualMode true .reload-zero) (C.reload-zero t) × settled (manualMode true .centre-aligned) (C.centre-aligned t)
+    → settled (manualMode allTaken .one-pulse) (C.one-pulse (manualMode allTaken) t) × settled (manualMode allTaken .one-pulse-udis) (C.one-pulse-udis (manualMode allTaken) t)
+    × settled (manualMode allTaken .reload-zero) (C.reload-zero t) × settled (manualMode allTaken .centre-aligned) (C.centre-aligned t)
 no-longer-cases t = (refl, refl, refl, refl)

@@ -24,17 +24,24 @@ pub record Rules : Type 0 where
   pub ccg-latches : Bool
   pub trigger-generation : Bool
 
--- the four that document 02's manual mode takes from the manual by m, all the others by b
-abbrev pub rules : Bool → Bool → Rules
+-- the rules that document 02's manual mode takes from the manual, each by a request: F-2, F-6, F-8, F-11
+pub record Taken : Type 0 where
+  pub one-pulse : Bool
+  pub reload-zero : Bool
+  pub centre-aligned : Bool
+  pub one-pulse-udis : Bool
+
+-- those as m says, all the others by b
+abbrev pub rules : Bool → Taken → Rules
 rules b m = record {
-  reload-zero = m;
+  reload-zero = m .reload-zero;
   above-reload = b;
-  centre-aligned = m;
+  centre-aligned = m .centre-aligned;
   start-delay = b;
   stop-phase = b;
   cnt-write-phase = b;
-  one-pulse = m;
-  one-pulse-udis = m;
+  one-pulse = m .one-pulse;
+  one-pulse-udis = m .one-pulse-udis;
   one-pulse-ug = b;
   ug-under-udis = b;
   preload-cleared = b;
@@ -45,12 +52,23 @@ rules b m = record {
   trigger-generation = b;
 }
 
+abbrev pub allTaken : Taken
+allTaken = record { one-pulse = true; reload-zero = true; centre-aligned = true; one-pulse-udis = true }
+
 abbrev pub manual : Rules
-manual = rules true true
+manual = rules true allTaken
+
+-- the Rust's rules but for what is taken
+abbrev pub manualMode : Taken → Rules
+manualMode m = rules false m
+
+-- what the port's timer takes, in manual mode or not: one-pulse, as F-2 asks. Each of the other requests switches its field.
+abbrev pub portTakes : Bool → Taken
+portTakes on = record { one-pulse = on; reload-zero = false; centre-aligned = false; one-pulse-udis = false }
+
+-- the rules of the port's timer; without manual mode they are the Rust's
+abbrev pub portRules : Bool → Rules
+portRules on = manualMode (portTakes on)
 
 abbrev pub rust : Rules
-rust = rules false false
-
--- a timer in manual mode once F-2 (one-pulse), F-6 (reload-zero), F-8 (centre-aligned) and F-11 (one-pulse-udis) are in; off it is rust
-abbrev pub manualMode : Bool → Rules
-manualMode on = rules false on
+rust = portRules false

@@ -43,51 +43,51 @@ module _ {A : Type 0} where
       ∙ rw (zero-add (length s), take-all (length s) s (omega arith), drop-replicate (length s) n x)
 
 -- ---- the timers
-insts-at : (ns : List ℕ) (k i j : ℕ) → j < k → getD (instsFrom ns k i) j noInst ≡ instGiven ns (i + j)
+insts-at : (mask : ℕ) (ns : List ℕ) (k i j : ℕ) → j < k → getD (instsFrom mask ns k i) j noInst ≡ instGiven mask ns (i + j)
 unfolding instsFrom
-insts-at ns zero i j h = absurd (omega arith)
-insts-at ns (suc k) i zero h = ap (instGiven ns) (omega arith)
-insts-at ns (suc k) i (suc j) h = insts-at ns k (i + 1) j (omega arith) ∙ ap (instGiven ns) (omega arith)
+insts-at mask ns zero i j h = absurd (omega arith)
+insts-at mask ns (suc k) i zero h = ap (instGiven mask ns) (omega arith)
+insts-at mask ns (suc k) i (suc j) h = insts-at mask ns k (i + 1) j (omega arith) ∙ ap (instGiven mask ns) (omega arith)
 
-module _ (ns : List ℕ) where
-  timer-at : (j : ℕ) → j < countOf ns → getD (timersOf ns) j (resetState noInst 1) ≡ resetState (instGiven ns j) 1
+module _ (mask : ℕ) (ns : List ℕ) where
+  timer-at : (j : ℕ) → j < countOf ns → getD (timersOf mask ns) j (resetState noInst 1) ≡ resetState (instGiven mask ns j) 1
   timer-at j h =
-      List·getD-map (λ (i : Inst). resetState i 1) (instsOf ns) j noInst
-      ∙ ap (λ (i : Inst). resetState i 1) (insts-at ns (countOf ns) 0 j h ∙ ap (instGiven ns) (zero-add j))
+      List·getD-map (λ (i : Inst). resetState i 1) (instsOf mask ns) j noInst
+      ∙ ap (λ (i : Inst). resetState i 1) (insts-at mask ns (countOf ns) 0 j h ∙ ap (instGiven mask ns) (zero-add j))
 
-  length-timers : length (timersOf ns) ≡ countOf ns
-  length-timers = length-map (instsOf ns) (λ (i : Inst). resetState i 1) ∙ length-insts ns (countOf ns) 0
+  length-timers : length (timersOf mask ns) ≡ countOf ns
+  length-timers = length-map (instsOf mask ns) (λ (i : Inst). resetState i 1) ∙ length-insts mask ns (countOf ns) 0
 
 pub new-fit : (t : Timer) (i : Inst) → t ≡ resetState i 1 → Fit t
 new-fit t i h = rw h (fit-reset i 1 (omega arith) (omega arith))
 
 -- i timers are stored
-pub record Storing (ns : List ℕ) (i : ℕ) (w₀ w : List ℕ) : Type 0 where
+pub record Storing (mask : ℕ) (ns : List ℕ) (i : ℕ) (w₀ w : List ℕ) : Type 0 where
   pub within : i ≤ countOf ns
-  pub board : (x : List Float) → view w x ≡ withTimers (view w₀ x) (timersOf ns) i
+  pub board : (x : List Float) → view w x ≡ withTimers (view w₀ x) (timersOf mask ns) i
 
 -- the board with other timers
 abbrev timed : Board → List Timer → Board
 timed b ts = record { timers = ts; booking = b .booking; nvic = b .nvic; pads = b .pads; clocks = b .clocks; counts = b .counts }
 
-pub store-begins : (ns w : List ℕ) → Storing ns 0 w w
-store-begins ns w = record { within = omega arith; board = λ x. ap (timed (view w x)) (paste-zero (view w x .timers) 0 (timersOf ns)) }
+pub store-begins : (mask : ℕ) (ns w : List ℕ) → Storing mask ns 0 w w
+store-begins mask ns w = record { within = omega arith; board = λ x. ap (timed (view w x)) (paste-zero (view w x .timers) 0 (timersOf mask ns)) }
 
-module _ (ns : List ℕ) (i : ℕ) (w₀ w : List ℕ) (s : Storing ns i w₀ w) where
-  pub store-goes : i < countOf ns → countOf ns ≤ 8 → (j : Inst) (t : Timer) (w₁ : List ℕ) → j ≡ instGiven ns i → t ≡ resetState j 1
-      → ((x : List Float) → view w₁ x ≡ withTimer (view w x) i t) → Storing ns (i + 1) w₀ w₁
+module _ (mask : ℕ) (ns : List ℕ) (i : ℕ) (w₀ w : List ℕ) (s : Storing mask ns i w₀ w) where
+  pub store-goes : i < countOf ns → countOf ns ≤ 8 → (j : Inst) (t : Timer) (w₁ : List ℕ) → j ≡ instGiven mask ns i → t ≡ resetState j 1
+      → ((x : List Float) → view w₁ x ≡ withTimer (view w x) i t) → Storing mask ns (i + 1) w₀ w₁
   store-goes h g j t w₁ p q e = record {
     within = omega arith;
     board = λ x.
         e x ∙ ap (λ (b : Board). withTimer b i t) (s .board x)
         ∙ ap (timed (view w₀ x))
-        (paste-next (view w₀ x .timers) (timersOf ns) (resetState noInst 1) t i
-        (q ∙ ap (λ (k : Inst). resetState k 1) p ∙ sym (timer-at ns i h))
-        (omega (arith, bounded w₀ x .timers-length)) (omega (arith, length-timers ns)));
+        (paste-next (view w₀ x .timers) (timersOf mask ns) (resetState noInst 1) t i
+        (q ∙ ap (λ (k : Inst). resetState k 1) p ∙ sym (timer-at mask ns i h))
+        (omega (arith, bounded w₀ x .timers-length)) (omega (arith, length-timers mask ns)));
   }
 
-  pub store-ends : countOf ns ≤ i → (x : List Float) → view w x ≡ withTimers (view w₀ x) (timersOf ns) (countOf ns)
-  store-ends h x = let e : i ≡ countOf ns = omega (arith, s .within) in s .board x ∙ ap (withTimers (view w₀ x) (timersOf ns)) e
+  pub store-ends : countOf ns ≤ i → (x : List Float) → view w x ≡ withTimers (view w₀ x) (timersOf mask ns) (countOf ns)
+  store-ends h x = let e : i ≡ countOf ns = omega (arith, s .within) in s .board x ∙ ap (withTimers (view w₀ x) (timersOf mask ns)) e
 
 -- ---- the signal table
 
@@ -128,16 +128,16 @@ module _ (l : List ℕ) (k : ℕ) (w₀ w : List ℕ) (s : Listing l k w₀ w) w
 abbrev made : Board → List Timer → List ℕ → ℕ → ℕ → ℕ → Board
 made b ts l n pins lines = withSizes (tabled (timed b ts) l) n pins lines
 
-pub filled-up : (hz vcc : Float) (pins lines : ℕ) (ns table : List ℕ) (b₀ b₁ b₂ b₃ : Board) (n : ℕ) → b₀ ≡ freshBoard hz vcc 0 0 [] []
-    → b₁ ≡ withTimers b₀ (timersOf ns) (countOf ns) → b₂ ≡ withTable b₁ table (length table) → n ≡ countOf ns → b₃ ≡ withSizes b₂ n pins lines
-    → b₃ ≡ freshBoard hz vcc pins lines (instsOf ns) table
+pub filled-up : (hz vcc : Float) (pins lines mask : ℕ) (ns table : List ℕ) (b₀ b₁ b₂ b₃ : Board) (n : ℕ) → b₀ ≡ freshBoard hz vcc 0 0 [] []
+    → b₁ ≡ withTimers b₀ (timersOf mask ns) (countOf ns) → b₂ ≡ withTable b₁ table (length table) → n ≡ countOf ns → b₃ ≡ withSizes b₂ n pins lines
+    → b₃ ≡ freshBoard hz vcc pins lines (instsOf mask ns) table
 unfolding freshBoard
-filled-up hz vcc pins lines ns table b₀ b₁ b₂ b₃ n e₀ e₁ e₂ m e₃ =
-    e₃ ∙ ap (λ (b : Board). withSizes b n pins lines) (e₂ ∙ ap (λ (b : Board). withTable b table (length table)) (e₁ ∙ ap (λ (b : Board). withTimers b (timersOf ns) (countOf ns)) e₀))
+filled-up hz vcc pins lines mask ns table b₀ b₁ b₂ b₃ n e₀ e₁ e₂ m e₃ =
+    e₃ ∙ ap (λ (b : Board). withSizes b n pins lines) (e₂ ∙ ap (λ (b : Board). withTable b table (length table)) (e₁ ∙ ap (λ (b : Board). withTimers b (timersOf mask ns) (countOf ns)) e₀))
     ∙ ap (λ (ts : List Timer). made (freshBoard hz vcc 0 0 [] []) ts (paste (replicate 2048 0) 0 table (length table)) n pins lines)
-    (paste-filled 8 noTimer (timersOf ns) (countOf ns) (sym (length-timers ns)))
-    ∙ ap (λ (l : List ℕ). made (freshBoard hz vcc 0 0 [] []) (filled 8 noTimer (timersOf ns)) l n pins lines) (paste-filled 2048 0 table (length table) refl)
-    ∙ ap (λ (k : ℕ). made (freshBoard hz vcc 0 0 [] []) (filled 8 noTimer (timersOf ns)) (filled 2048 0 table) k pins lines) (m ∙ sym (length-insts ns (countOf ns) 0))
+    (paste-filled 8 noTimer (timersOf mask ns) (countOf ns) (sym (length-timers mask ns)))
+    ∙ ap (λ (l : List ℕ). made (freshBoard hz vcc 0 0 [] []) (filled 8 noTimer (timersOf mask ns)) l n pins lines) (paste-filled 2048 0 table (length table) refl)
+    ∙ ap (λ (k : ℕ). made (freshBoard hz vcc 0 0 [] []) (filled 8 noTimer (timersOf mask ns)) (filled 2048 0 table) k pins lines) (m ∙ sym (length-insts mask ns (countOf ns) 0))
 
 -- ---- the call, by what its two tests gave
 module _ (s : Setup) (w : List ℕ) (x : List Float) (l : Bool) (e : l ≡ withinLimits s) where

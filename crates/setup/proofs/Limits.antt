@@ -11,6 +11,7 @@ use lib.ListN.{length, getD, drop, drop-of-length-le}
 use lib.Seq.{drop-cons}
 use borrow.Author.Tests.{eq-eqb, ne-eqb, lt-ltb, le-ltb, le-leb, lt-leb, leb-true, ltb-true, eqb-true}
 use Rattle.real.specs.Real.{positive}
+use Rattle.rm0440.specs.Bits.{isSet}
 use Rattle.tim.specs.declared.Inst.{Inst}
 use Rattle.machine.specs.Board.{noInst}
 use Rattle.machine.specs.Step.{fresh, instGood, instsGood, entriesBelow, withinLimits}
@@ -33,8 +34,8 @@ pub record Within (p l : ℕ) (ns ts : List ℕ) : Type 0 where
   pub entries : entriesBelow 256 ts ≡ true
 
 -- ---- a timer's numbers
-module _ (ns : List ℕ) (i : ℕ) where
-  pub inst-lacking : length ns < i * 7 + 7 → noInst ≡ instGiven ns i
+module _ (mask : ℕ) (ns : List ℕ) (i : ℕ) where
+  pub inst-lacking : length ns < i * 7 + 7 → noInst ≡ instGiven mask ns i
   unfolding instGiven
   inst-lacking h = rw (lt-leb (i * 7 + 7) (length ns) h)
 
@@ -47,54 +48,55 @@ module _ (ns : List ℕ) (i : ℕ) where
         «en_reg» = getD ns (i * 7 + 4) 0;
         «en_bit» = getD ns (i * 7 + 5) 0;
         irq = getD ns (i * 7 + 6) 0;
-      } ≡ instGiven ns i
+        manual = isSet i mask;
+      } ≡ instGiven mask ns i
   unfolding instGiven
   inst-whole h = rw (le-leb (i * 7 + 7) (length ns) h)
 
 -- ---- the timers that are left
-module _ (ns : List ℕ) (count i : ℕ) where
-  from-next : i < count → instsFrom ns (count - i) i ≡ instGiven ns i ∷ instsFrom ns (count - (i + 1)) (i + 1)
+module _ (mask : ℕ) (ns : List ℕ) (count i : ℕ) where
+  from-next : i < count → instsFrom mask ns (count - i) i ≡ instGiven mask ns i ∷ instsFrom mask ns (count - (i + 1)) (i + 1)
   unfolding instsFrom
-  from-next h = let e : count - i ≡ suc (count - (i + 1)) = omega arith in ap (λ (m : ℕ). instsFrom ns m i) e
+  from-next h = let e : count - i ≡ suc (count - (i + 1)) = omega arith in ap (λ (m : ℕ). instsFrom mask ns m i) e
 
-  from-none : count ≤ i → instsFrom ns (count - i) i ≡ []
+  from-none : count ≤ i → instsFrom mask ns (count - i) i ≡ []
   unfolding instsFrom
-  from-none h = let e : count - i ≡ 0 = omega arith in ap (λ (m : ℕ). instsFrom ns m i) e
+  from-none h = let e : count - i ≡ 0 = omega arith in ap (λ (m : ℕ). instsFrom mask ns m i) e
 
-  module _ (t : Inst) (q : Bool) (load : t ≡ instGiven ns i) (h : i < count) where
-    module _ (n : ℕ) (inv : fresh n (instsFrom ns (count - i) i) ≡ q) where
+  module _ (t : Inst) (q : Bool) (load : t ≡ instGiven mask ns i) (h : i < count) where
+    module _ (n : ℕ) (inv : fresh n (instsFrom mask ns (count - i) i) ≡ q) where
       pub fresh-taken : t .n ≡ n → false ≡ q
       unfolding fresh
-      fresh-taken e = sym (ap (fresh n) (from-next h) ∙ rw (eq-eqb (instGiven ns i .n) n (sym (ap (λ (x : Inst). x .n) load) ∙ e))) ∙ inv
+      fresh-taken e = sym (ap (fresh n) (from-next h) ∙ rw (eq-eqb (instGiven mask ns i .n) n (sym (ap (λ (x : Inst). x .n) load) ∙ e))) ∙ inv
 
-      pub fresh-next : (t .n ≡ n → ⊥) → fresh n (instsFrom ns (count - (i + 1)) (i + 1)) ≡ q
+      pub fresh-next : (t .n ≡ n → ⊥) → fresh n (instsFrom mask ns (count - (i + 1)) (i + 1)) ≡ q
       unfolding fresh
-      fresh-next e = sym (ap (fresh n) (from-next h) ∙ rw (ne-eqb (instGiven ns i .n) n (λ z. e (ap (λ (x : Inst). x .n) load ∙ z)))) ∙ inv
+      fresh-next e = sym (ap (fresh n) (from-next h) ∙ rw (ne-eqb (instGiven mask ns i .n) n (λ z. e (ap (λ (x : Inst). x .n) load ∙ z)))) ∙ inv
 
-    module _ (inv : instsGood (instsFrom ns (count - i) i) ≡ q) where
+    module _ (inv : instsGood (instsFrom mask ns (count - i) i) ≡ q) where
       pub good-bad : instGood t ≡ false → false ≡ q
       unfolding instsGood
       good-bad e = sym (ap instsGood (from-next h) ∙ rw (sym (ap instGood load) ∙ e)) ∙ inv
 
       module _ (g : instGood t ≡ true) where
-        pub good-twice : fresh (t .n) (instsFrom ns (count - (i + 1)) (i + 1)) ≡ false → false ≡ q
+        pub good-twice : fresh (t .n) (instsFrom mask ns (count - (i + 1)) (i + 1)) ≡ false → false ≡ q
         unfolding instsGood
-        good-twice e = sym (ap instsGood (from-next h) ∙ rw (sym (ap instGood load) ∙ g, sym (ap (λ (x : Inst). fresh (x .n) (instsFrom ns (count - (i + 1)) (i + 1))) load) ∙ e)) ∙ inv
+        good-twice e = sym (ap instsGood (from-next h) ∙ rw (sym (ap instGood load) ∙ g, sym (ap (λ (x : Inst). fresh (x .n) (instsFrom mask ns (count - (i + 1)) (i + 1))) load) ∙ e)) ∙ inv
 
-        pub good-next : fresh (t .n) (instsFrom ns (count - (i + 1)) (i + 1)) ≡ true → instsGood (instsFrom ns (count - (i + 1)) (i + 1)) ≡ q
+        pub good-next : fresh (t .n) (instsFrom mask ns (count - (i + 1)) (i + 1)) ≡ true → instsGood (instsFrom mask ns (count - (i + 1)) (i + 1)) ≡ q
         unfolding instsGood
-        good-next e = sym (ap instsGood (from-next h) ∙ rw (sym (ap instGood load) ∙ g, sym (ap (λ (x : Inst). fresh (x .n) (instsFrom ns (count - (i + 1)) (i + 1))) load) ∙ e)) ∙ inv
+        good-next e = sym (ap instsGood (from-next h) ∙ rw (sym (ap instGood load) ∙ g, sym (ap (λ (x : Inst). fresh (x .n) (instsFrom mask ns (count - (i + 1)) (i + 1))) load) ∙ e)) ∙ inv
 
-  pub fresh-end : (n : ℕ) (q : Bool) → count ≤ i → fresh n (instsFrom ns (count - i) i) ≡ q → true ≡ q
+  pub fresh-end : (n : ℕ) (q : Bool) → count ≤ i → fresh n (instsFrom mask ns (count - i) i) ≡ q → true ≡ q
   unfolding fresh
   fresh-end n q h inv = sym (ap (fresh n) (from-none h)) ∙ inv
 
-  pub good-end : (q : Bool) → count ≤ i → instsGood (instsFrom ns (count - i) i) ≡ q → true ≡ q
+  pub good-end : (q : Bool) → count ≤ i → instsGood (instsFrom mask ns (count - i) i) ≡ q → true ≡ q
   unfolding instsGood
   good-end q h inv = sym (ap instsGood (from-none h)) ∙ inv
 
-pub good-start : (ns : List ℕ) (count : ℕ) → instsGood (instsFrom ns (count - 0) 0) ≡ instsGood (instsFrom ns count 0)
-good-start ns count = let e : count - 0 ≡ count = omega arith in ap (λ (m : ℕ). instsGood (instsFrom ns m 0)) e
+pub good-start : (mask : ℕ) (ns : List ℕ) (count : ℕ) → instsGood (instsFrom mask ns (count - 0) 0) ≡ instsGood (instsFrom mask ns count 0)
+good-start mask ns count = let e : count - 0 ≡ count = omega arith in ap (λ (m : ℕ). instsGood (instsFrom mask ns m 0)) e
 
 -- ---- the signal table
 module _ (l : List ℕ) (k : ℕ) (q : Bool) (inv : entriesBelow 256 (drop k l) ≡ q) where
@@ -117,10 +119,10 @@ entry-at (x ∷ l) zero e h = ltb-true x 256 (first (ltb x 256) (entriesBelow 25
 entry-at (x ∷ l) (suc k) e h = entry-at l k (second (ltb x 256) (entriesBelow 256 l) e) (omega arith)
 
 -- ---- all of them
-pub length-insts : (ns : List ℕ) (k i : ℕ) → length (instsFrom ns k i) ≡ k
+pub length-insts : (mask : ℕ) (ns : List ℕ) (k i : ℕ) → length (instsFrom mask ns k i) ≡ k
 unfolding instsFrom
-length-insts ns zero i = refl
-length-insts ns (suc k) i = ap suc (length-insts ns k (i + 1))
+length-insts mask ns zero i = refl
+length-insts mask ns (suc k) i = ap suc (length-insts mask ns k (i + 1))
 
 pub few-timers : (timers pins lines : ℕ) → sizesGood timers pins lines ≡ true → timers ≤ 8
 few-timers timers pins lines h =
@@ -130,23 +132,23 @@ few-timers timers pins lines h =
     let a₄ = a₃ && leb pins 128 in
     leb-true timers 8 (second a₁ (leb timers 8) (first a₂ (leb 1 pins) (first a₃ (leb pins 128) (first a₄ (leb lines 256) h))))
 
-module _ (hz vcc : Float) (pins lines : ℕ) (ns table : List ℕ) where
+module _ (hz vcc : Float) (pins lines mask : ℕ) (ns table : List ℕ) where
   abbrev limits : Bool
-  limits = withinLimits (setupOf hz vcc pins lines ns table)
+  limits = withinLimits (setupOf hz vcc pins lines mask ns table)
 
   module _ (count : ℕ) (n : count ≡ countOf ns) where
-    limits-are : limits ≡ (sizesGood count pins lines && instsGood (instsFrom ns count 0) && positive vcc && eqb (length table) (pins * 16) && entriesBelow 256 table)
+    limits-are : limits ≡ (sizesGood count pins lines && instsGood (instsFrom mask ns count 0) && positive vcc && eqb (length table) (pins * 16) && entriesBelow 256 table)
     unfolding withinLimits
-    limits-are = rw (n, length-insts ns (countOf ns) 0)
+    limits-are = rw (n, length-insts mask ns (countOf ns) 0)
 
     pub sizes-bad : sizesGood count pins lines ≡ false → false ≡ limits
     sizes-bad e = sym (limits-are ∙ rw e)
 
     module _ (s : sizesGood count pins lines ≡ true) where
-      pub timers-bad : instsGood (instsFrom ns count 0) ≡ false → false ≡ limits
+      pub timers-bad : instsGood (instsFrom mask ns count 0) ≡ false → false ≡ limits
       timers-bad e = sym (limits-are ∙ rw (s, e))
 
-      module _ (t : instsGood (instsFrom ns count 0) ≡ true) where
+      module _ (t : instsGood (instsFrom mask ns count 0) ≡ true) where
         pub supply-bad : positive vcc ≡ false → false ≡ limits
         supply-bad e = sym (limits-are ∙ rw (s, t, e))
 
@@ -165,13 +167,13 @@ module _ (hz vcc : Float) (pins lines : ℕ) (ns table : List ℕ) where
       let a₃ = a₂ && leb 1 pins in
       let a₄ = a₃ && leb pins 128 in
       let a₅ = a₄ && leb lines 256 in
-      let a₆ = a₅ && instsGood (instsOf ns) in
+      let a₆ = a₅ && instsGood (instsOf mask ns) in
       let a₇ = a₆ && positive vcc in
       let a₈ = a₇ && eqb (length table) (pins * 16) in
       let h₉ = sym (limits-are (countOf ns) refl) ∙ h in
       let h₈ = first a₈ (entriesBelow 256 table) h₉ in
       let h₇ = first a₇ (eqb (length table) (pins * 16)) h₈ in
-      let h₅ = first a₅ (instsGood (instsOf ns)) (first a₆ (positive vcc) h₇) in
+      let h₅ = first a₅ (instsGood (instsOf mask ns)) (first a₆ (positive vcc) h₇) in
       let h₄ = first a₄ (leb lines 256) h₅ in
       let h₂ = first a₂ (leb 1 pins) (first a₃ (leb pins 128) h₄) in
       record {

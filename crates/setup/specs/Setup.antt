@@ -1,4 +1,5 @@
--- Set-up from numbers: seven of each timer, in the order NUMBER WIDTH CHANNELS BUS WORD BIT IRQ of docs/CALLS.md, and the signal table.
+-- Set-up from numbers: seven of each timer, in the order NUMBER WIDTH CHANNELS BUS WORD BIT IRQ of docs/CALLS.md; the mask of those in manual mode; and
+-- the signal table.
 use mathlib.Core.Path.{_≡_}
 use mathlib.Core.Bool.{Bool, cond, _&&_}
 use mathlib.Core.List.{List, [], _∷_, map}
@@ -7,6 +8,7 @@ use lib.Dec.{leb}
 use lib.Ieee.{Float}
 use lib.ListN.{getD, length}
 use lib.Seq.{paste}
+use Rattle.rm0440.specs.Bits.{isSet}
 use Rattle.tim.specs.declared.Inst.{Inst}
 use Rattle.tim.specs.declared.Timer.{Timer}
 use Rattle.tim.specs.Change.{resetState}
@@ -19,9 +21,9 @@ use Rattle.state.specs.View.{view}
 abbrev pub countOf : List ℕ → ℕ
 countOf ns = (length ns + 6) / 7
 
--- timer i. One that lacks numbers is none at all, and its number 0 is refused: "timer numbers 1 to 24"
-unfoldable pub instGiven : List ℕ → ℕ → Inst
-instGiven ns i = cond (leb (i * 7 + 7) (length ns))
+-- timer i, in manual mode where bit i of the mask is 1 ("chosen per timer at set-up", F-2). One that lacks numbers is none at all, and its number 0 is refused: "timer numbers 1 to 24"
+unfoldable pub instGiven : ℕ → List ℕ → ℕ → Inst
+instGiven mask ns i = cond (leb (i * 7 + 7) (length ns))
     (record {
       n = getD ns (i * 7) 0;
       width = getD ns (i * 7 + 1) 0;
@@ -30,19 +32,20 @@ instGiven ns i = cond (leb (i * 7 + 7) (length ns))
       «en_reg» = getD ns (i * 7 + 4) 0;
       «en_bit» = getD ns (i * 7 + 5) 0;
       irq = getD ns (i * 7 + 6) 0;
+      manual = isSet i mask;
     })
     noInst
 
 -- k timers from i on
-unfoldable pub instsFrom : List ℕ → ℕ → ℕ → List Inst
-instsFrom ns zero i = []
-instsFrom ns (suc k) i = instGiven ns i ∷ instsFrom ns k (i + 1)
+unfoldable pub instsFrom : ℕ → List ℕ → ℕ → ℕ → List Inst
+instsFrom mask ns zero i = []
+instsFrom mask ns (suc k) i = instGiven mask ns i ∷ instsFrom mask ns k (i + 1)
 
-abbrev pub instsOf : List ℕ → List Inst
-instsOf ns = instsFrom ns (countOf ns) 0
+abbrev pub instsOf : ℕ → List ℕ → List Inst
+instsOf mask ns = instsFrom mask ns (countOf ns) 0
 
-abbrev pub setupOf : Float → Float → ℕ → ℕ → List ℕ → List ℕ → Setup
-setupOf hz vcc pins lines timers table = record { hz = hz; vcc = vcc; pins = pins; lines = lines; timers = instsOf timers; table = table }
+abbrev pub setupOf : Float → Float → ℕ → ℕ → ℕ → List ℕ → List ℕ → Setup
+setupOf hz vcc pins lines mask timers table = record { hz = hz; vcc = vcc; pins = pins; lines = lines; timers = instsOf mask timers; table = table }
 
 -- 1 to 8 timers, 1 to 128 pins, up to 256 lines
 abbrev pub sizesGood : ℕ → ℕ → ℕ → Bool
@@ -51,8 +54,8 @@ sizesGood timers pins lines = leb 1 timers && leb timers 8 && leb 1 pins && leb 
 -- ---- a board in the making
 
 -- "starts as .. `Timer::new`"
-abbrev pub timersOf : List ℕ → List Timer
-timersOf ns = map (λ (i : Inst). resetState i 1) (instsOf ns)
+abbrev pub timersOf : ℕ → List ℕ → List Timer
+timersOf mask ns = map (λ (i : Inst). resetState i 1) (instsOf mask ns)
 
 -- the first n of the timers stand in the board
 abbrev pub withTimers : Board → List Timer → ℕ → Board

@@ -1,4 +1,5 @@
-// Set-up over the lent state, from numbers: seven of each timer (number, width, channels, bus, enable word, enable bit, interrupt), and the signal table.
+// Set-up over the lent state, from numbers: seven of each timer (number, width, channels, bus, enable word, enable bit, interrupt), the mask of those in
+// manual mode, and the signal table.
 use state::REALS;
 use state::WORDS;
 use tim::Inst;
@@ -34,13 +35,14 @@ fn no_inst() -> Inst
         irq: 0,
         en_reg: 0,
         en_bit: 0,
+        manual: false,
     }
 }
 
-// Timer i. One that lacks numbers has the number 0, which no limit allows.
-fn inst_at(timers: &[u32], i: usize) -> Inst
+// Timer i, its mode by bit i of the mask. One that lacks numbers has the number 0, which no limit allows.
+fn inst_at(manual: u32, timers: &[u32], i: usize) -> Inst
     requires { ⌜ i < 8 ⌝ }
-    ensures { λ r. ⌜ r ≡ instGiven (now (timers .entry)) i ⌝ }
+    ensures { λ r. ⌜ r ≡ instGiven manual (now (timers .entry)) i ⌝ }
 {
     let at = i * 7;
     if at + 7 > timers.len() {
@@ -54,6 +56,7 @@ fn inst_at(timers: &[u32], i: usize) -> Inst
         irq: timers[at + 6],
         en_reg: timers[at + 4],
         en_bit: timers[at + 5],
+        manual: (manual >> i) % 2 == 1,
     }
 }
 
@@ -69,13 +72,13 @@ fn inst_good(i: Inst) -> bool
 }
 
 // Number n is none of the timers' from `from` on.
-fn fresh(timers: &[u32], n: u32, from: usize, count: usize) -> bool
+fn fresh(manual: u32, timers: &[u32], n: u32, from: usize, count: usize) -> bool
     requires { ⌜ (from ≤ count) × (count ≤ 8) ⌝ }
-    ensures { λ r. ⌜ r ≡ S.fresh n (instsFrom (now (timers .entry)) (count - from) from) ⌝ }
+    ensures { λ r. ⌜ r ≡ S.fresh n (instsFrom manual (now (timers .entry)) (count - from) from) ⌝ }
 {
     let mut i = from;
     while i < count {
-        let inst = inst_at(timers, i);
+        let inst = inst_at(manual, timers, i);
         if inst.n == n {
             return false;
         }
@@ -84,17 +87,17 @@ fn fresh(timers: &[u32], n: u32, from: usize, count: usize) -> bool
     true
 }
 
-fn timers_good(timers: &[u32], count: usize) -> bool
+fn timers_good(manual: u32, timers: &[u32], count: usize) -> bool
     requires { ⌜ count ≤ 8 ⌝ }
-    ensures { λ r. ⌜ r ≡ S.instsGood (instsFrom (now (timers .entry)) count 0) ⌝ }
+    ensures { λ r. ⌜ r ≡ S.instsGood (instsFrom manual (now (timers .entry)) count 0) ⌝ }
 {
     let mut i = 0;
     while i < count {
-        let inst = inst_at(timers, i);
+        let inst = inst_at(manual, timers, i);
         if !inst_good(inst) {
             return false;
         }
-        if !fresh(timers, inst.n, i + 1, count) {
+        if !fresh(manual, timers, inst.n, i + 1, count) {
             return false;
         }
         i += 1;
@@ -122,14 +125,21 @@ fn sizes_good(timers: usize, pins: u32, lines: u32) -> bool
 }
 
 // The sizes and limits; the frequency is not among them.
-fn within_limits(pins: u32, lines: u32, vcc: f64, timers: &[u32], table: &[u32]) -> bool
-    ensures { λ r. ⌜ ((hz : Float) → r ≡ S.withinLimits (setupOf hz vcc pins lines (now (timers .entry)) (now (table .entry)))) ⌝ }
+fn within_limits(
+    pins: u32,
+    lines: u32,
+    vcc: f64,
+    manual: u32,
+    timers: &[u32],
+    table: &[u32],
+) -> bool
+    ensures { λ r. ⌜ ((hz : Float) → r ≡ S.withinLimits (setupOf hz vcc pins lines manual (now (timers .entry)) (now (table .entry)))) ⌝ }
 {
     let count = timer_count(timers);
     if !sizes_good(count, pins, lines) {
         return false;
     }
-    if !timers_good(timers, count) {
+    if !timers_good(manual, timers, count) {
         return false;
     }
     if !real::is_positive(vcc) {
@@ -143,14 +153,14 @@ fn within_limits(pins: u32, lines: u32, vcc: f64, timers: &[u32], table: &[u32])
 
 // ---- the board
 
-fn store_timers(words: &mut [u64; WORDS], timers: &[u32])
+fn store_timers(words: &mut [u64; WORDS], manual: u32, timers: &[u32])
     requires { ⌜ countOf (now timers) ≤ 8 ⌝ }
-    ensures { λ _. ⌜ ((x : List Float) → view (now (words .exit)) x ≡ withTimers (view (now (words .entry)) x) (timersOf (now (timers .entry))) (countOf (now (timers .entry)))) ⌝ }
+    ensures { λ _. ⌜ ((x : List Float) → view (now (words .exit)) x ≡ withTimers (view (now (words .entry)) x) (timersOf manual (now (timers .entry))) (countOf (now (timers .entry)))) ⌝ }
 {
     let n = timer_count(timers);
     let mut i = 0;
     while i < n {
-        let t = Timer::new(inst_at(timers, i));
+        let t = Timer::new(inst_at(manual, timers, i));
         state::store_timer(words, i, t);
         i += 1;
     }
@@ -175,14 +185,15 @@ fn fill(
     vcc: f64,
     pins: u32,
     lines: u32,
+    manual: u32,
     timers: &[u32],
     table: &[u32],
 )
-    requires { ⌜ S.withinLimits (setupOf hz vcc pins lines (now timers) (now table)) ≡ true ⌝ }
-    ensures { λ _. ⌜ view (now (words .exit)) (now (reals .exit)) ≡ freshBoard hz vcc pins lines (instsOf (now (timers .entry))) (now (table .entry)) ⌝ }
+    requires { ⌜ S.withinLimits (setupOf hz vcc pins lines manual (now timers) (now table)) ≡ true ⌝ }
+    ensures { λ _. ⌜ view (now (words .exit)) (now (reals .exit)) ≡ freshBoard hz vcc pins lines (instsOf manual (now (timers .entry))) (now (table .entry)) ⌝ }
 {
     blank::clear(words, reals, hz, vcc);
-    store_timers(words, timers);
+    store_timers(words, manual, timers);
     store_table(words, table);
     let count = timer_count(timers);
     state::set_sizes(words, count, pins as usize, lines);
@@ -196,17 +207,18 @@ pub fn set_up(
     vcc: f64,
     pins: u32,
     lines: u32,
+    manual: u32,
     timers: &[u32],
     table: &[u32],
 ) -> u8
-    ensures { λ r. ⌜ Answered (setupOf hz vcc pins lines (now (timers .entry)) (now (table .entry))) (now (words .entry)) (now (reals .entry)) (now (words .exit)) (now (reals .exit)) r ⌝ }
+    ensures { λ r. ⌜ Answered (setupOf hz vcc pins lines manual (now (timers .entry)) (now (table .entry))) (now (words .entry)) (now (reals .entry)) (now (words .exit)) (now (reals .exit)) r ⌝ }
 {
-    if !within_limits(pins, lines, vcc, timers, table) {
+    if !within_limits(pins, lines, vcc, manual, timers, table) {
         return 1;
     }
     if !real::is_positive(hz) {
         return 4;
     }
-    fill(words, reals, hz, vcc, pins, lines, timers, table);
+    fill(words, reals, hz, vcc, pins, lines, manual, timers, table);
     0
 }

@@ -43,8 +43,8 @@ copied-same d s at (suc n) j h g i = ap (λ (l : List ℕ). getD l (at + j) 0) (
 -- ---- the parts of a timer, of words that are alike where the part lies
 
 module _ (l m : List ℕ) where
-  same-inst : ((k : ℕ) → k < 7 → getD m k 0 ≡ getD l k 0) → instAt m 0 ≡ instAt l 0
-  same-inst h = rw (h 0 (lit≤ tt), h 1 (lit≤ tt), h 2 (lit≤ tt), h 3 (lit≤ tt), h 4 (lit≤ tt), h 5 (lit≤ tt), h 6 (lit≤ tt))
+  same-inst : ((k : ℕ) → k < 7 → getD m k 0 ≡ getD l k 0) → getD m 39 0 ≡ getD l 39 0 → instAt m 0 39 ≡ instAt l 0 39
+  same-inst h g = rw (h 0 (lit≤ tt), h 1 (lit≤ tt), h 2 (lit≤ tt), h 3 (lit≤ tt), h 4 (lit≤ tt), h 5 (lit≤ tt), h 6 (lit≤ tt), g)
 
   same-regs : ((k : ℕ) → 7 ≤ k → k < 15 → getD m k 0 ≡ getD l k 0) → regsAt m 7 ≡ regsAt l 7
   same-regs h =
@@ -109,7 +109,8 @@ unfolding decodeTimer
 decode-live l b p q =
     let m : List ℕ = paste l 7 (slice 7 39 b) 32 in
     let e : (k : ℕ) → 7 ≤ k → k < 39 → getD m k 0 ≡ getD b k 0 = inside l b 7 39 p q (lit≤ tt) (lit≤ tt) in
-    let i : instAt m 0 ≡ instAt l 0 = same-inst l m (λ k h. outside l b 7 39 p q (lit≤ tt) (lit≤ tt) k (λ j g z. omega arith)) in
+    let i : instAt m 0 39 ≡ instAt l 0 39 =
+    same-inst l m (λ k h. outside l b 7 39 p q (lit≤ tt) (lit≤ tt) k (λ j g z. omega arith)) (outside l b 7 39 p q (lit≤ tt) (lit≤ tt) 39 (λ j g z. omega arith)) in
     let r : regsAt m 7 ≡ regsAt b 7 = same-regs b m (λ k h u. e k h (omega arith)) in
     let c : chanAt m 15 ≡ chanAt b 15 = same-chan b m (λ k h u. e k (omega arith) (omega arith)) in
     let n : countAt m 33 ≡ countAt b 33 = same-count b m (λ k h u. e k (omega arith) u) in

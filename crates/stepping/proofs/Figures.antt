@@ -1,5 +1,6 @@
 -- The bench figures of document 01 that speak of counting: inputs beside expected values.
 use Prim.Native.Nat.{ℕ}
+use mathlib.Core.Bool.{false}
 use mathlib.Core.Path.{_≡_, refl}
 use mathlib.Core.List.{List, [], _∷_, map}
 use Rattle.rm0440.specs.Registers.{mask, bits}
@@ -13,7 +14,7 @@ use Rattle.regs.specs.Regs.{turned, cr1Written, cntWritten, arrWritten, regWrit
 
 -- timer 2: 32 bits, four channels
 abbrev pub inst : Inst
-inst = record { n = 2; width = 32; channels = 4; apb = 1; irq = 28; «en_reg» = 0; «en_bit» = 0 }
+inst = record { n = 2; width = 32; channels = 4; apb = 1; irq = 28; «en_reg» = 0; «en_bit» = 0; manual = false }
 
 abbrev pub write : ℕ → ℕ → ℕ → ℕ → Timer → Timer
 write off v now t timer = regWritten timer off v now t .timer

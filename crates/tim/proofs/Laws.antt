@@ -1,6 +1,6 @@
 -- Bounds of what the timer's definitions give. Assumes nothing.
-use mathlib.Core.Path.{_≡_, refl, ap, sym}
-use mathlib.Core.Bool.{Bool, true, false, cond, not}
+use mathlib.Core.Path.{_≡_, refl, ap, sym, _∙_}
+use mathlib.Core.Bool.{Bool, true, false, cond, not, _&&_}
 use mathlib.Core.List.{[], _∷_}
 use Prim.Native.Nat.{ℕ, _+_, _-_, _*_, _%_, _^_, _≤_, _<_}
 use lib.Dec.{ltb, leb, eqb}
@@ -15,8 +15,8 @@ use Rattle.tim.specs.declared.Due.the-variants.{At, Stopped}
 use Rattle.rm0440.specs.Bits.{UDIS}
 use Rattle.rm0440.specs.Update.{shadow}
 use Rattle.rm0440.specs.Output as Out
-use Rattle.tim.specs.Timer.{down, Fit}
-use Rattle.tim.specs.Change.{reloaded, loaded, withFlag, UIF}
+use Rattle.tim.specs.Timer.{down, Fit, withCr1}
+use Rattle.tim.specs.Change.{reloaded, loaded, withFlag, UIF, withRunning, withoutCen, pulseEnds, ended}
 use Rattle.tim.specs.Next.{updateSteps, ahead, waiting, compares, compareSteps, nearer, consider, nextSteps, nextEvent}
 
 -- an event that is considered can only be nearer
@@ -118,3 +118,15 @@ pub kept-ref : (mode : ℕ) (d : Bool) (cnt ccr : ℕ) (l : Bool) → mode < 4 �
 unfolding Out.ocref
 kept-ref mode d cnt ccr l h =
     rw (ne-eqb mode 4 (λ q. omega (arith, q)), ne-eqb mode 5 (λ q. omega (arith, q)), ne-eqb mode 6 (λ q. omega (arith, q)), ne-eqb mode 7 (λ q. omega (arith, q)))
+
+-- ---- what ends at an update, by OPM and manual mode
+
+abbrev endedBy : Timer → Bool → Bool → Timer
+endedBy t ends manual = withRunning (withCr1 t (cond (ends && manual) (withoutCen (t .regs .cr1)) (t .regs .cr1))) (cond ends false (t .count .running))
+
+pub ends : (t : Timer) (o m : Bool) → pulseEnds t ≡ o → t .inst .manual ≡ m → endedBy t o m ≡ ended t
+unfolding ended
+ends t o m e f = sym (ap (λ (b : Bool). endedBy t b (t .inst .manual)) e ∙ ap (endedBy t o) f)
+
+pub ends-not : (t : Timer) → pulseEnds t ≡ false → ended t ≡ t
+ends-not t e = sym (ends t false (t .inst .manual) e refl)

@@ -1,20 +1,20 @@
 -- What changes a timer: update, compare, start, stop, generated update, clock change, reset.
 use mathlib.Core.Bool.{Bool, true, false, cond, not, _&&_}
 use mathlib.Core.List.{List, [], _∷_}
-use Prim.Native.Nat.{ℕ, _+_, _*_}
+use Prim.Native.Nat.{ℕ, _+_, _-_, _*_, _%_}
 use lib.Dec.{ltb, leb, eqb}
 use lib.Bits.{bitOr}
 use lib.ListN.{getD, set}
 use Rattle.rm0440.specs.Bits.{UDIS, URS, OPM}
 use Rattle.rm0440.specs.Counter.{stepCycles, restart}
-use Rattle.rm0440.specs.Update.{shadow, runsOn}
+use Rattle.rm0440.specs.Update.{shadow}
 use Rattle.rm0440.specs.Output as Out
 use Rattle.tim.specs.declared.Timer.{Timer}
 use Rattle.tim.specs.declared.Inst.{Inst}
 use Rattle.tim.specs.declared.Regs.{Regs}
 use Rattle.tim.specs.declared.Chan.{Chan}
 use Rattle.tim.specs.declared.Count.{Count}
-use Rattle.tim.specs.Timer.{withCount, withChan, withRegs, down, max, isOutput, ocMode, ccrAct}
+use Rattle.tim.specs.Timer.{withCount, withChan, withRegs, withCr1, down, max, isOutput, ocMode, ccrAct}
 use Rattle.tim.specs.Count.{synced}
 
 -- ---- which compares are done
@@ -108,9 +108,19 @@ withRunning t on = withCount t (record {
   running = on;
 })
 
--- one-pulse ends with the period; the Rust leaves CEN set (docs/DIFFERENCES.md, one-pulse, one-pulse-udis), and matches nothing where it stops (one-pulse-last-match)
+-- one-pulse ends with the period, UDIS set or not (docs/DIFFERENCES.md, one-pulse-udis)
+abbrev pub pulseEnds : Timer → Bool
+pulseEnds t = OPM (t .regs .cr1)
+
+-- CR1 with CEN cleared
+abbrev pub withoutCen : ℕ → ℕ
+withoutCen cr1 = cr1 - cr1 % 2
+
+-- what ends at an update: "In it [manual mode] the Rust's one-pulse stop also clears CEN" (F-2). Else CEN stays set, and in both modes nothing matches
+-- where it stops (docs/DIFFERENCES.md, one-pulse, one-pulse-last-match)
 unfoldable pub ended : Timer → Timer
-ended t = withRunning t (runsOn (OPM (t .regs .cr1)) (t .count .running))
+ended t =
+    withRunning (withCr1 t (cond (pulseEnds t && t .inst .manual) (withoutCen (t .regs .cr1)) (t .regs .cr1))) (cond (pulseEnds t) false (t .count .running))
 
 -- "An update, or the same wrap under UDIS, which drives alike", at its own cycle, when it is delivered (docs/DIFFERENCES.md, late-flags)
 unfoldable pub updated : Timer → ℕ → ℕ → Timer

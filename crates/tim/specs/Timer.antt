@@ -34,6 +34,9 @@ pub record Ready (t : Timer) (now div : ℕ) : Type 0 where
 abbrev pub withRegs : Timer → Regs → Timer
 withRegs t r = record { inst = t .inst; regs = r; chan = t .chan; count = t .count }
 
+abbrev pub withCr1 : Timer → ℕ → Timer
+withCr1 t v = withRegs t (record { cr1 = v; cr2 = t .regs .cr2; smcr = t .regs .smcr; dier = t .regs .dier; sr = t .regs .sr; ccer = t .regs .ccer; psc = t .regs .psc; arr = t .regs .arr })
+
 abbrev pub withChan : Timer → Chan → Timer
 withChan t h = record { inst = t .inst; regs = t .regs; chan = h; count = t .count }
 

@@ -1,7 +1,7 @@
 // A general-purpose timer by value: the Rust's periph/tim.rs, without its registers (crate regs). It knows nothing of
 // pins, lines or booking.
 ghost use mathlib.Core.Path.{_≡_};
-ghost use mathlib.Core.Bool.{Bool, true, false};
+ghost use mathlib.Core.Bool.{Bool, true, false, cond, _&&_};
 ghost use Prim.Native.Nat.{ℕ, _+_, _-_, _*_, _/_, _%_, _<_, _≤_, min};
 ghost use lib.Dec.{eqb};
 ghost use lib.ListN.{getD, set};
@@ -13,7 +13,7 @@ ghost use Rattle.tim.specs.Count.{upFrom, downFrom, ticksAt, countAfter,
 ghost use Rattle.tim.specs.Next.{updateSteps, waiting, nearer, consider, nextSteps, nextEvent};
 ghost use Rattle.tim.specs.Change as C;
 
-// What set-up fixes: the timer's number, width, channel count, bus, interrupt and enable bit.
+// What set-up fixes: the timer's number, width, channel count, bus, interrupt and enable bit, and manual mode (document 02).
 pub struct Inst {
     pub n: u32,
     pub width: u32,
@@ -22,6 +22,7 @@ pub struct Inst {
     pub irq: u32,
     pub en_reg: u32,
     pub en_bit: u32,
+    pub manual: bool,
 }
 
 // The registers as written.
@@ -604,12 +605,40 @@ impl Timer {
         self
     }
 
-    fn end(self) -> Timer
-        ensures { λ r. ⌜ r ≡ C.ended self ⌝ }
+    // A pulse ends, and in manual mode CEN with it.
+    fn drops_cen(self) -> bool
+        ensures { λ r. ⌜ r ≡ (C.pulseEnds self && self .inst .manual) ⌝ }
+    {
+        (self.regs.cr1 / 8 % 2 == 1) & self.inst.manual
+    }
+
+    fn end_cr1(self) -> u32
+        ensures { λ r. ⌜ r ≡ cond (C.pulseEnds self && self .inst .manual) (C.withoutCen (self .regs .cr1)) (self .regs .cr1) ⌝ }
+    {
+        if self.drops_cen() {
+            return self.regs.cr1 - self.regs.cr1 % 2;
+        }
+        self.regs.cr1
+    }
+
+    fn end_running(self) -> bool
+        ensures { λ r. ⌜ r ≡ cond (C.pulseEnds self) false (self .count .running) ⌝ }
     {
         if self.regs.cr1 / 8 % 2 == 1 {
-            return self.with_running(false);
+            return false;
         }
+        self.count.running
+    }
+
+    // What ends at an update: one-pulse, and in manual mode CEN with it. Both fields are always stored: with a return for each case an event takes
+    // a quarter longer.
+    fn end(mut self) -> Timer
+        ensures { λ r. ⌜ r ≡ C.ended self ⌝ }
+    {
+        let cr1 = self.end_cr1();
+        let running = self.end_running();
+        self.regs.cr1 = cr1;
+        self.count.running = running;
         self
     }
 

@@ -18,6 +18,7 @@ use Rattle.tim.specs.Timer.{down, isOutput, ccrAct}
 use Rattle.tim.specs.Count.{ticksAt}
 use Rattle.tim.specs.Next.{updateSteps, waiting, ahead, compares, compareSteps, nextSteps, nextEvent}
 use Rattle.tim.specs.Change as T
+use Rattle.tim.proofs.Laws.{ends-not}
 use Rattle.stepping.proofs.Nearest.{best-next, event-runs}
 use Rattle.follows.specs.Seen.{clocksAt, per, seen, Timed, Within, Left, dueBy}
 use Rattle.follows.proofs.Leap.{both}
@@ -101,19 +102,26 @@ done-at t (suc (suc (suc (suc ch)))) h = absurd (omega arith)
 abbrev u : Timer → ℕ → ℕ → Timer
 u t x div = T.restarted (T.reloaded t) x div
 
-updated-done : (t : Timer) (x div : ℕ) → T.updated t x div .chan .«cc_done» ≡ anew (u t x div)
-unfolding T.updated T.recomputedAfterUpdate T.ended
-updated-done t x div = refl
+-- the update, a pulse's end aside
+abbrev over : Timer → ℕ → ℕ → Timer
+over t x div = T.recomputedAfterUpdate (u t x div)
 
-updated-settled : (t : Timer) (x div ch : ℕ) → ch < 4 → Within (T.updated t x div) → T.updated t x div .count .running ≡ true → Settled (T.updated t x div) ch 0
-unfolding T.updated T.recomputedAfterUpdate T.ended
-updated-settled t x div ch four h r d o j l k e =
+over-settled : (t : Timer) (x div ch : ℕ) → ch < 4 → Within (over t x div) → over t x div .count .running ≡ true → Settled (over t x div) ch 0
+unfolding T.recomputedAfterUpdate
+over-settled t x div ch four h r d o j l k e =
     let a : u t x div .count .«arr_act» < ccrAct (u t x div) ch =
     ltb-true _ _ (cond-false (ltb ch (u t x div .inst .channels)) (ltb (u t x div .count .«arr_act») (ccrAct (u t x div) ch)) (sym (done-at (u t x div) ch four) ∙ d)) in
     inside (down (u t x div)) (u t x div .count .cnt0) (u t x div .count .«arr_act») j (ccrAct (u t x div) ch) (h r) k a e
 
+runs-on : (o r : Bool) → cond o false r ≡ true → o ≡ false
+runs-on true r e = sym e
+runs-on false r e = refl
+
 pub settled-after : (t : Timer) (x div ch : ℕ) → ch < 4 → Within (T.updated t x div) → T.updated t x div .count .running ≡ true → Settled (T.updated t x div) ch 0
-settled-after = updated-settled
+unfolding T.updated T.ended
+settled-after t x div ch four h r =
+    let e : T.ended (over t x div) ≡ over t x div = ends-not (over t x div) (runs-on (T.pulseEnds (over t x div)) (over t x div .count .running) r) in
+    subst (λ (z : Timer). Settled z ch 0) (sym e) (over-settled t x div ch four (subst Within e h) (subst (λ (z : Timer). z .count .running ≡ true) e r))
 
 pub settled-compared : (t : Timer) (c : ℕ) → nextSteps t .next ≡ Compare c → (ch k : ℕ) → k ≤ nextSteps t .steps → Settled t ch k → Settled (T.compared t c) ch (nextSteps t .steps)
 settled-compared t c is = compared-settled t c is

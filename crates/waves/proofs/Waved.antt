@@ -8,7 +8,6 @@ use native.Mathlib.Omega.{arith}
 use lib.Dec.{ltb, leb}
 use lib.ListN.{length}
 use borrow.Author.Tests.{ltb-true, ltb-false, leb-true, leb-false, le-leb, lt-leb}
-use Rattle.rm0440.specs.Rules.{rust}
 use Rattle.rm0440.specs.State as M
 use Rattle.rm0440.specs.Clock.{clocks}
 use Rattle.rm0440.specs.Level.{level}
@@ -68,7 +67,7 @@ pub record Goes (t : Timer) (div ch x : ℕ) : Type 0 where
 -- its level from there on is that at its step
 level-from : (t : Timer) (div ch x : ℕ) → ch < 4 → (g : Goes t div ch x) → t .count .running ≡ true → Shows t div ch x (bit (T.output t ch (onward t (g .step))))
 level-from t div ch x four g r c le d =
-    ap bit (sym (steady t div (g .left .timed) (g .within) r ch four (g .step)
+    ap bit (sym (steady (t .inst .manual) t div (g .left .timed) (g .within) r ch four (g .step)
     (λ j q z e o m. g .settled r e o (suc j) (omega arith) (omega (arith, best-next t .by-update)) m) c (omega (arith, g .left .based)) d (g .there c le)))
 
 -- a stopped timer's stands
@@ -154,7 +153,7 @@ after-event t div ch x four g r (Compare c) is = after-compare t div ch x c four
 module _ (t₀ : Timer) (div a ch pin : ℕ) (call : Call t₀ div a) (quiet : Delivered t₀ a) (four : ch < 4) (l₀ : ℕ) where
   -- the machine's level
   abbrev pub wave : ℕ → ℕ
-  wave c = bit (level (clocks rust (between t₀ div a c) (seen t₀ div a)) ch)
+  wave c = bit (level (clocks (S.rulesOf t₀) (between t₀ div a c) (seen t₀ div a)) ch)
 
   -- after k events, the last at x
   pub record Told (k : ℕ) (t : Timer) (p : Pads) (es : List Entry) (x : ℕ) : Type 0 where

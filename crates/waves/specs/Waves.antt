@@ -5,7 +5,6 @@ use mathlib.Core.Path.{_≡_}
 use mathlib.Core.Bool.{true, false, cond}
 use mathlib.Core.List.{List, _++_}
 use lib.ListN.{getD}
-use Rattle.rm0440.specs.Rules.{rust}
 use Rattle.rm0440.specs.Clock.{clocks}
 use Rattle.rm0440.specs.Level.{level}
 use Rattle.tim.specs.declared.Timer.{Timer}
@@ -59,7 +58,7 @@ abbrev pub Waves : Type 0
 Waves =
     (events places now : ℕ) (t : Timer) (div a ch pin : ℕ) (p : Pads) → Pilot t div a ch pin p → handled events now div places t p .number ≡ 0
     → (c : ℕ) → a ≤ c → c ≤ now
-    → levelAt pin (handled events now div places t p .entries) (shown p pin) c ≡ bit (level (clocks rust (between t div a c) (seen t div a)) ch)
+    → levelAt pin (handled events now div places t p .entries) (shown p pin) c ≡ bit (level (clocks (rulesOf t) (between t div a c) (seen t div a)) ch)
 
 -- ---- of `step`
 

@@ -11,4 +11,4 @@ pub pack-inst-spec : {M : Type 1} → statement M
 pack-inst-spec =
     tie.close
     (tie.spec (λ c. search needs) (λ c. search needs) (λ c. search needs) (λ c. search needs) (λ c. search needs)
-    (λ c. search needs) (λ c. search needs) returns)
+    (λ c. search needs) (λ c. search needs) (λ c. search needs) returns)

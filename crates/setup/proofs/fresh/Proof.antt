@@ -10,10 +10,10 @@ use Rattle.setup.proofs.fresh.Statement.{statement}
 use Rattle.setup.proofs.fresh.Tie as tie
 
 abbrev Inv-loop : tie.InvT-loop
-Inv-loop timers n from count i₀ i = (from ≤ i) × (i ≤ count) × (S.fresh n (instsFrom timers (count - i) i) ≡ S.fresh n (instsFrom timers (count - from) from))
+Inv-loop manual timers n from count i₀ i = (from ≤ i) × (i ≤ count) × (S.fresh n (instsFrom manual timers (count - i) i) ≡ S.fresh n (instsFrom manual timers (count - from) from))
 
 abbrev μ-loop : tie.MeasureT-loop
-μ-loop timers n from count i₀ i = count - i
+μ-loop manual timers n from count i₀ i = count - i
 
 loop-holds : tie.Need-loop-holds Inv-loop μ-loop
 loop-holds c = (omega arith, omega arith, refl)
@@ -22,13 +22,13 @@ inst-at-requires : tie.Need-inst-at-requires Inv-loop μ-loop
 inst-at-requires c κs = omega (arith, c .before .before .before .pre)
 
 returns : tie.Need-returns Inv-loop μ-loop
-returns c = let s = c .before .before .before .before .before .before in fresh-taken (s .args .timers .now) (s .args .count) (c .before .before .before .before .loop .i) _ _ (c .before .before .inst-at .ensures) (c .before .before .before .loop-test .taken) (s .args .n) (c .before .before .before .before .loop .inv .2) (c .if1 .taken)
+returns c = let s = c .before .before .before .before .before .before in fresh-taken (s .args .manual) (s .args .timers .now) (s .args .count) (c .before .before .before .before .loop .i) _ _ (c .before .before .inst-at .ensures) (c .before .before .before .loop-test .taken) (s .args .n) (c .before .before .before .before .loop .inv .2) (c .if1 .taken)
 
 loop-again : tie.Need-loop-again Inv-loop μ-loop
-loop-again c = let s = c .before .before .before .before .before .before in (omega (arith, c .before .before .before .before .loop .inv .0), omega (arith, c .before .before .before .loop-test .taken), fresh-next (s .args .timers .now) (s .args .count) (c .before .before .before .before .loop .i) _ _ (c .before .before .inst-at .ensures) (c .before .before .before .loop-test .taken) (s .args .n) (c .before .before .before .before .loop .inv .2) (c .if1 .left))
+loop-again c = let s = c .before .before .before .before .before .before in (omega (arith, c .before .before .before .before .loop .inv .0), omega (arith, c .before .before .before .loop-test .taken), fresh-next (s .args .manual) (s .args .timers .now) (s .args .count) (c .before .before .before .before .loop .i) _ _ (c .before .before .inst-at .ensures) (c .before .before .before .loop-test .taken) (s .args .n) (c .before .before .before .before .loop .inv .2) (c .if1 .left))
 
 returns-2 : tie.Need-returns-2 Inv-loop μ-loop
-returns-2 c = let s = c .before .before .before in fresh-end (s .args .timers .now) (s .args .count) (c .before .loop .i) (s .args .n) _ (c .loop-test .left) (c .before .loop .inv .2)
+returns-2 c = let s = c .before .before .before in fresh-end (s .args .manual) (s .args .timers .now) (s .args .count) (c .before .loop .i) (s .args .n) _ (c .loop-test .left) (c .before .loop .inv .2)
 
 pub fresh-spec : {M : Type 1} → statement M
 fresh-spec =
