@@ -121,12 +121,12 @@ pub fn step_cycles(psc: u32, div: u32) -> u32
     (psc + 1) * div
 }
 
-// Cycles of a number of steps: every product of the two is made here.
+// Cycles of a number of steps: every product of the two is made here, by digits of 16 bits.
 pub fn cycles_of(steps: u64, tick: u32) -> u64
     requires { ⌜ (steps ≤ 4294967296) × (tick ≤ 536870912) ⌝ }
     ensures { λ r. ⌜ r ≡ steps * tick ⌝ }
 {
-    steps * tick as u64
+    digits::times(steps, tick)
 }
 
 fn cc_flag(ch: usize) -> u32
