@@ -47,7 +47,7 @@ use Rattle.machine.specs.Refusals.{refusals, applies}
 use Rattle.machine.specs.Sound.{SoundPads, Sound, Held, Elsewhere}
 use Rattle.machine.specs.Sockets.{Sockets, OneSocket}
 use Rattle.machine.proofs.NumberLaws.{Verdict, refuses, passes, answered, step-given, performed, performed-served, no-both, here, set-up-within, socket-free}
-use Rattle.machine.proofs.Routing.{either, SameSigs, sigs-outputs, sigs-drive, sigs-set, selecting-pin, not-taken, unwired, all-alike, idle-length, none-selected, sound-outputs, sound-set, sound-drive, pins-reset, by-test, SparesAll, held-refl, held-trans, held-set, held-drive, held-outputs}
+use Rattle.machine.proofs.Routing.{either, SameSigs, sigs-outputs, sigs-drive, sigs-set, not-taken, unwired, all-alike, idle-length, none-selected, sound-outputs, sound-set, sound-drive, pins-reset, by-test, SparesAll, held-refl, held-trans, held-set, held-drive, held-outputs}
 
 -- ---- a timer keeps its place in the chip
 
