@@ -26,12 +26,14 @@ pub enum Error {
     ShiftReversed,
     /// 10: an entry's cycle is below that of its pin's entry before it, or its pin is above 127, or its level above 1.
     BookOutOfOrder,
+    /// 11: the pin's setting selects a signal that another pin routes. It is looked at after 5 and before 6.
+    SocketTaken,
     /// A number that this crate does not know: the library is newer.
     Other(u8),
 }
 
 /// The documents' table: each number with its word.
-const TABLE: [(Error, u8, &str); 10] = [
+const TABLE: [(Error, u8, &str); 11] = [
     (Error::WrongBoard, 1, "wrong board"),
     (Error::NoSuchIndex, 2, "no such post"),
     (Error::BadSize, 3, "odd plug"),
@@ -42,6 +44,7 @@ const TABLE: [(Error, u8, &str); 10] = [
     (Error::Backlog, 8, "backlog"),
     (Error::ShiftReversed, 9, "shift reversed"),
     (Error::BookOutOfOrder, 10, "book out of order"),
+    (Error::SocketTaken, 11, "socket taken"),
 ];
 
 /// Whether an answer's number is a refusal: neither 0, served, nor 8, a backlog. A refused call has changed nothing.

@@ -269,7 +269,8 @@ impl Board {
 
     // ---- pins -----------------------------------------------------------------------------
 
-    /// Sets a pin.
+    /// Sets a pin. One signal goes to one pin: where another pin routes the signal that `c` selects, the call is refused with
+    /// [`Error::SocketTaken`] until that pin leaves it. The same pin can be set again.
     pub fn set_pin(&mut self, pin: u32, c: &PinConfig, cycle: u64) -> Result<&[Entry], Error> {
         let (mode, function) = (c.mode as u32, c.function as u32);
         let (open_drain, out, up, down) = (c.open_drain as u32, c.out as u32, c.pullup as u32, c.pulldown as u32);

@@ -15,6 +15,7 @@ const CCR1: u32 = 0x34;
 fn setup() -> Setup {
     let mut pins = vec![[0; 16]; 2];
     pins[0][1] = signal(2, 0);
+    pins[1][1] = signal(2, 0);
     let timers = vec![TimerSpec { number: 2, width: 32, channels: 4, bus: 1, word: 3, bit: 0, irq: 5 }];
     Setup { hz: 16e6, vcc: 5.0, lines: 8, timers, pins }
 }
@@ -56,15 +57,15 @@ fn boards_may_change_threads() {
 
 #[test]
 fn every_number_has_its_words() {
-    let words = ["wrong board", "no such post", "odd plug", "bad clock", "clock astray", "book full", "counter astray", "backlog", "shift reversed", "book out of order"];
+    let words = ["wrong board", "no such post", "odd plug", "bad clock", "clock astray", "book full", "counter astray", "backlog", "shift reversed", "book out of order", "socket taken"];
     for (number, words) in (1..).zip(words) {
         let e = Error::from_number(number).unwrap();
         assert_eq!((e.number(), e.to_string().as_str()), (number, words));
         assert_eq!(e.is_refusal(), number != 8);
     }
     assert_eq!(Error::from_number(0), None);
-    assert_eq!(Error::from_number(11), Some(Error::Other(11)));
-    assert!(Error::Other(11).is_refusal());
+    assert_eq!(Error::from_number(12), Some(Error::Other(12)));
+    assert!(Error::Other(12).is_refusal());
 }
 
 #[test]
@@ -86,6 +87,8 @@ fn every_error_is_given() {
     assert_eq!(b.peek(0, CNT, 99), Err(Error::CycleAstray));
     assert_eq!(b.time((1 << 62) + 1), Err(Error::CycleAstray));
     assert_eq!(b.write(0, CNT, 4, 11, 150), Err(Error::CounterAstray));
+    let channel = PinConfig { mode: Mode::Alternate, function: 1, ..PinConfig::default() };
+    assert_eq!(b.set_pin(1, &channel, 150), Err(Error::SocketTaken));
     assert!(b.state().same(before.state()));
     assert_eq!(b.deliver(0, 130).unwrap().complete(), Err(Error::Backlog));
     assert_eq!(pilot(128).deliver(0, 99), Err(Error::CycleAstray));
