@@ -138,11 +138,11 @@ pub fn is_taken(words: &[u64; WORDS], i: usize, c: PinCfg, f: u32) -> bool
     requires { ⌜ i < 128 ⌝ }
     ensures { λ r. ⌜ ((x : List Float) → r ≡ S.taken (view (now (words .entry)) x .pads) i (S.selected (view (now (words .entry)) x .pads) i c f)) ⌝ }
 {
-    let s = selected(words, i, c, f);
-    if s == 0 {
+    let new = selected(words, i, c, f);
+    if new == 0 {
         return false;
     }
-    let p = state::route(words, s as usize);
+    let p = state::route(words, new as usize);
     if p == 128 {
         return false;
     }

@@ -19,7 +19,7 @@ route-requires c κs = search needs
 
 returns-2 : tie.Need-returns-2
 returns-2 c =
-    let k = c .before .before .before in
+    let k = c .before .before in
     let s = k .before .before in
     λ x. let p : Pads = view (s .args .words .now) x .pads in
     let e = k .before .selected .ensures .0 x in
@@ -27,7 +27,7 @@ returns-2 c =
 
 returns-3 : tie.Need-returns-3
 returns-3 c =
-    let k = c .before .before .before in
+    let k = c .before .before in
     let s = k .before .before in
     λ x. let p : Pads = view (s .args .words .now) x .pads in
     let e = k .before .selected .ensures .0 x in
