@@ -16,8 +16,7 @@ returns c =
 
 set-pin-requires : tie.Need-set-pin-requires
 set-pin-requires c κs =
-    let s = c .before .before .before .before .before .before .before .before .before .before .before .before in
-    (
+    let s = c .before .before .before .before .before .before .before .before .before .before .before .before in (
       omega (arith, setting-there (view (s .args .words .now) (s .args .reals .now)) (s .args .pin) (s .args .cycle) (places (slices (s .args .pins .now) (s .args .levels .now) (s .args .cycles .now))) _ _ (c .before .before .before .setting-refusal .ensures (s .args .reals .now)) (c .before .before .if1 .left), bounded (s .args .words .now) (s .args .reals .now) .pins-le),
       rw (c .before .before .before .before .before .before .before .before .cfg-of .ensures) (bit-le (yes (s .args .out))),
     )
