@@ -8,11 +8,12 @@ use lib.Dec.{leb}
 use borrow.Author.Tests.{le-leb}
 use lib.ListN.{getD, replicate, set, drop}
 use Rattle.machine.specs.Call.{Call, write}
+use Rattle.machine.specs.Step.{step}
 use Rattle.accuracy.specs.Claim.{Within, steady, board₁}
 use Rattle.accuracy.proofs.Computed.{computed}
 use Rattle.accuracy.proofs.Tests.{never}
 use Rattle.accuracy.proofs.Quick.{suffice}
-use Rattle.accuracy.proofs.Bench.{wire, prepared, plain, usual, Trial, pilot, testsBy, tests, passed, Seen, seenBy, seen, board₂, entries, trial-tests, trial-seen}
+use Rattle.accuracy.proofs.Bench.{wire, prepared, plain, usual, bench, Trial, pilot, testsBy, tests, passed, Seen, seenBy, seen, board₂, entries, trial-tests, trial-seen}
 
 -- the failing test by its number, the calls, a window in the span, and the window's highs
 pub record Case : Type 0 where
@@ -76,6 +77,11 @@ all-by (c ∷ cs) e =
 pub cases-hold : map outcome cases ≡ map expected cases
 unfolding computed cases testsBy seenBy
 cases-hold = all-by cases refl
+
+-- another pin asks for the bench pilot's channel after the start
+pub another-pin : step (board₁ (pilot bench)) (wire 1 0 101) .number ≡ 11
+unfolding computed
+another-pin = refl
 
 -- the bound as a test, of the figures
 abbrev pub keeps : ℕ → ℕ → ℕ → ℕ → Bool
