@@ -68,7 +68,8 @@ enum pilot_number {
     PILOT_COUNTER_ASTRAY = 7,    /* a write of CR1, CNT or ARR that would leave the timer running upward above its active reload + 1 */
     PILOT_BACKLOG = 8,           /* a delivery stopped with an event still due: no refusal, what it did stands. Deliver again */
     PILOT_SHIFT_REVERSED = 9,    /* a shift whose end is below its beginning */
-    PILOT_BOOK_OUT_OF_ORDER = 10 /* an entry before its pin's last one, or of a pin above 127 or a level above 1 */
+    PILOT_BOOK_OUT_OF_ORDER = 10, /* an entry before its pin's last one, or of a pin above 127 or a level above 1 */
+    PILOT_SOCKET_TAKEN = 11 /* a pin set to a signal that another pin routes; asked after 5 and before 6 */
 };
 
 /* What every call of a board answers; 16 bytes, in two registers. */

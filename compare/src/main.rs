@@ -8,7 +8,7 @@ use std::hash::{BuildHasher, Hasher};
 use std::process::ExitCode;
 use std::time::{Duration, Instant};
 
-use compare::run::{CALLS, KINDS};
+use compare::run::{CALLS, KINDS, NUMBERS};
 use compare::{list, manual_list, report, Port, Stats};
 use oracle::follow::{report as report_cases, Table};
 
@@ -88,10 +88,10 @@ fn fresh() -> u64 {
 }
 
 fn print(s: &Stats, took: Duration) {
-    println!("\n{:>12}{}", "", (0..9).map(|n| format!("{n:>11}")).collect::<String>());
+    println!("\n{:>12}{}", "", NUMBERS.map(|n| format!("{n:>11}")).concat());
     for (name, numbers) in KINDS.iter().zip(&s.answers) {
         let cell = |n: &u64| if *n == 0 { format!("{:>11}", ".") } else { format!("{n:>11}") };
-        println!("{name:>12}{}", numbers.iter().map(cell).collect::<String>());
+        println!("{name:>12}{}", NUMBERS.map(|n| cell(&numbers[n])).concat());
     }
     println!("\n{} calls in {} lists, {} events, {} entries, all equal;", s.calls, s.lists, s.events, s.entries);
     println!("{} peeks and queries besides, all equal;", s.looks);

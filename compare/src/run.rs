@@ -16,6 +16,9 @@ pub const KINDS: [&str; 18] = [
     "volts", "line", "time", "clear",
 ];
 
+/// The numbers that the board's calls answer.
+pub const NUMBERS: [usize; 10] = [0, 1, 2, 3, 4, 5, 6, 7, 8, 11];
+
 /// What the runs reached.
 #[derive(Clone, Debug, Default)]
 pub struct Stats {
@@ -29,7 +32,7 @@ pub struct Stats {
     pub pulses: u64,
     pub again: u64,
     /// By call and number.
-    pub answers: [[u64; 9]; KINDS.len()],
+    pub answers: [[u64; 12]; KINDS.len()],
 }
 
 /// A list from the first board whose last call fails.

@@ -1,7 +1,7 @@
 //! A fixed number of random calls, for the gate, and the safe board beside the raw one.
 
 use board::{Board as Safe, ClockTree, Drive, Error, Index, Mode, PinConfig, Setup, TimerIndex, TimerSpec};
-use compare::run::CALLS;
+use compare::run::{CALLS, NUMBERS};
 use compare::{list, manual_list, report, Port, Stats};
 use oracle::gen::Gen;
 use oracle::{Answer, Board, Call, Entry};
@@ -21,8 +21,8 @@ fn random_lists() {
         }
     }
     // Every number must have been met, else equality says little.
-    let met = (0..9).map(|n| stats.answers.iter().map(|a| a[n]).sum::<u64>());
-    assert!(met.clone().all(|n| n > 100), "{:?}", met.collect::<Vec<_>>());
+    let met = NUMBERS.map(|n| stats.answers.iter().map(|a| a[n]).sum::<u64>());
+    assert!(met.iter().all(|&n| n > 100), "{met:?}");
 }
 
 /// Timers in manual mode: whole lists, the end of a pulse in front of the published Rust (oracle/src/board.rs); lists without one-pulse, the Rust alone.
@@ -41,7 +41,7 @@ fn random_lists_in_manual_mode() {
 /// The safe board gives what the oracle gives, lent a book of its places, and says of each refusal what it is about.
 #[test]
 fn safe_board() {
-    let mut told = [0; 9];
+    let mut told = [0; 12];
     for (seed, places, manual) in [(1, 4, false), (2, 7, false), (3, 128, true), (4, 1000, false), (5, 3, false)] {
         let gen = Gen::new(seed);
         let (mut gen, mut oracle, mut safe) = (if manual { gen.with_manual(seed) } else { gen }, Board::new(), Safe::new(places));
@@ -70,7 +70,7 @@ fn safe_board() {
         }
     }
     // A number that never came up is not explained either; set-up's limits are rust/tests' matter.
-    assert!(told[1..8].iter().all(|&n| n > 20), "{told:?}");
+    assert!(told[1..8].iter().chain(&told[11..]).all(|&n| n > 20), "{told:?}");
 }
 
 /// What the calls have made of a board.
@@ -104,6 +104,7 @@ fn explained(call: &Call, e: Error, &Known { places, last, timers, pins }: &Know
             let wanted = if matches!(call, Call::ResetPins { .. }) { pins as usize } else { 4 };
             assert!((told, needed) == (places, wanted) && places < wanted, "{call}")
         }
+        (Error::SocketTaken { pin }, Call::Pin { pin: given, .. }) => assert!(pin == *given && pin < pins, "{call}"),
         (Error::CounterAstray { offset }, Call::Write { offset: given, .. }) => {
             assert!(offset == *given && [0x00, 0x24, 0x2c].contains(&(offset & !3)), "{call}")
         }

@@ -1,4 +1,4 @@
-//! The board: document 01's refusals and lent book in front of the published Rust. Every refusal is decided
+//! The board: document 01's refusals, with 11 of document 02, and the lent book in front of the published Rust. Every refusal is decided
 //! before the Rust is entered, so a refused call cannot have changed anything. Behind the Rust, of document 02: a pulse that
 //! ends in manual mode clears CEN (F-2).
 
@@ -18,7 +18,7 @@ pub const LIMIT: u64 = 1 << 62;
 /// The one not-a-number that is ever shown.
 pub const NAN: u64 = 0x7ff8_0000_0000_0000;
 
-// Document 01's numbers.
+// Document 01's numbers, and document 02's.
 pub const BAD_SETUP: u8 = 1;
 pub const NO_SUCH_INDEX: u8 = 2;
 pub const BAD_SIZE: u8 = 3;
@@ -27,6 +27,7 @@ pub const BAD_CYCLE: u8 = 5;
 pub const BOOK_FULL: u8 = 6;
 pub const COUNTER_ASTRAY: u8 = 7;
 pub const BACKLOG: u8 = 8;
+pub const SOCKET_TAKEN: u8 = 11;
 
 /// What an event, a write or a timer reset may need: one entry for each of four channels.
 const PLACES: u64 = 4;
@@ -38,7 +39,7 @@ const CEN: u32 = 1;
 const DIR: u32 = 16;
 const ARPE: u32 = 128;
 
-/// Number and value of a call that was served (0) or stopped (8); `Err` is a refusal, 1 to 7.
+/// Number and value of a call that was served (0) or stopped (8); `Err` is a refusal, any other number.
 type Outcome = Result<(u8, u64), u8>;
 
 pub struct Board {
@@ -114,6 +115,12 @@ impl Board {
                     pullup: pullup != 0,
                     pulldown: pulldown != 0,
                 };
+                // 11 stands between 5 and 6.
+                let p = self.pin(pin)?;
+                self.check_cycle(cycle)?;
+                if self.taken(p, cfg.mode, function) {
+                    return Err(SOCKET_TAKEN);
+                }
                 let pin = self.pin_change(pin, cycle, book)?;
                 self.sys.pcfg[pin] = cfg;
                 self.sys.select_af(pin, (function % 16) as u8);
@@ -252,6 +259,13 @@ impl Board {
 
     // ---- refusals -------------------------------------------------------------------------
 
+    /// Refusal 11: another pin routes the signal that this setting of a pin would select. The Rust itself gives the signal to
+    /// the last pin that asks.
+    fn taken(&self, pin: usize, mode: u8, function: u32) -> bool {
+        let signal = if mode == 2 { self.entry(pin, function) } else { 0 };
+        signal != 0 && self.routed(signal).is_some_and(|p| p != pin)
+    }
+
     fn timer(&self, timer: u32) -> Result<usize, u8> {
         index(timer, self.timers.len())
     }
@@ -320,6 +334,23 @@ impl Board {
     /// The signal selected on a pin, 0 if none.
     pub fn signal(&self, pin: usize) -> u16 {
         self.sys.pin_sig[pin]
+    }
+
+    /// The signal table's entry of a pin and a function.
+    pub fn entry(&self, pin: usize, function: u32) -> u16 {
+        self.sys.af[pin][(function % 16) as usize]
+    }
+
+    /// The pin that routes a signal.
+    pub fn routed(&self, signal: u16) -> Option<usize> {
+        self.sys.pin_of(signal)
+    }
+
+    /// A pin setting without refusal 11, to see what the Rust does with a signal that is taken.
+    pub fn set_unchecked(&mut self, pin: usize, mode: u8, function: u8, cycle: u64) {
+        self.sys.pcfg[pin].mode = mode;
+        self.sys.select_af(pin, function);
+        self.sys.refresh_pin(pin, cycle);
     }
 
     pub fn lines(&self) -> u32 {

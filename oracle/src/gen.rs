@@ -809,9 +809,21 @@ impl Gen {
             if self.rng.one_in(8) {
                 *function = self.rng.pick(&[0, 1, 7, 15, 16, 17, 31, 256, 257, u32::MAX]);
             }
+            if self.rng.one_in(3) {
+                if let Some(entry) = self.taken() {
+                    (*pin, *function) = (entry / 16, entry % 16 + 16 * self.rng.pick(&[0, 0, 1]));
+                }
+            }
             (*cycle, *book) = (self.when(), self.book());
         }
         call
+    }
+
+    /// An entry of the table whose signal another pin routes now.
+    fn taken(&mut self) -> Option<u32> {
+        let other = |&(i, signal): &(u32, u32)| signal < 256 && self.board.routed(signal as u16).is_some_and(|p| p as u32 != i / 16);
+        let entries: Vec<u32> = self.setup.signals.iter().filter(|e| other(e)).map(|e| e.0).collect();
+        if entries.is_empty() { None } else { Some(self.rng.pick(&entries)) }
     }
 
     /// Plans the first pins' settings, some of them on another pin or function.

@@ -30,7 +30,7 @@ const NUMBERS: [(&str, &[u8]); 18] = [
     ("setup", &[0, 1, 4]),
     ("clock", &[0, 4, 5]),
     ("enable", &[0, 2]),
-    ("pin", &[0, 2, 5, 6]),
+    ("pin", &[0, 2, 5, 6, 11]),
     ("drive", &[0, 2, 5, 6]),
     ("reset-pins", &[0, 5, 6]),
     ("read", &[0, 2, 3, 5]),
@@ -48,7 +48,7 @@ const NUMBERS: [(&str, &[u8]); 18] = [
 ];
 
 /// Single cases that must occur.
-const CASES: [&str; 49] = [
+const CASES: [&str; 53] = [
     "7 by CR1",
     "7 by CNT",
     "7 by ARR",
@@ -83,7 +83,11 @@ const CASES: [&str; 49] = [
     "pin reset that changes pins",
     "timer reset that changes pins",
     "open drain released",
-    "second pin takes a channel",
+    "11 of a channel",
+    "11 of an input signal",
+    "11 of a signal that nothing drives",
+    "11 with under 4 places",
+    "pin set again to its signal",
     "UART line idles high",
     "UART input pin",
     "volts not-a-number",
@@ -160,6 +164,15 @@ impl Reach {
                 self.case("7 by ARR", offset & !3 == 0x2c);
                 self.case("7 by a partial write", *size != 4);
             }
+            Call::Pin { pin, function, book, .. } if answer.number == 11 => {
+                let signal = board.entry(*pin as usize, *function);
+                let driven = board.specs().iter().any(|t| (2..=4).contains(&t.number) && (0..t.channels).any(|c| 16 * (t.number + 10) + c + 2 == signal as u32));
+                let input = (1..=9).contains(&(signal >> 4)) && signal & 15 == 1;
+                self.case("11 of a channel", driven);
+                self.case("11 of an input signal", input);
+                self.case("11 of a signal that nothing drives", !driven && !input);
+                self.case("11 with under 4 places", *book < 4);
+            }
             _ if answer.number != 0 && answer.number != 8 => {}
             Call::Setup(s) => {
                 *self.timers.entry(s.timers.len() as u32).or_default() += 1;
@@ -176,8 +189,7 @@ impl Reach {
             }
             Call::Pin { pin, mode, open_drain, function, .. } => {
                 let signal = board.signal(*pin as usize);
-                let taken = before.routed.iter().enumerate().any(|(p, &s)| s == signal && p != *pin as usize);
-                self.case("second pin takes a channel", signal >= 194 && taken);
+                self.case("pin set again to its signal", signal != 0 && before.routed[*pin as usize] == signal);
                 let uart = (1..=9).contains(&(signal >> 4));
                 self.case("UART line idles high", uart && signal & 15 == 0 && answer.entries.iter().any(|e| e.level == 1));
                 self.case("UART input pin", uart && signal & 15 == 1);
@@ -396,8 +408,8 @@ fn far_behind(board: &Board, t: usize, cycle: u64) -> bool {
 
 /// What holds of every answer, whatever the call.
 fn check(call: &Call, answer: &Answer, board: &Board) {
-    assert!(answer.number <= 8);
-    if (1..=7).contains(&answer.number) {
+    assert!(answer.number <= 8 || answer.number == 11);
+    if !matches!(answer.number, 0 | 8) {
         assert!(answer.value == 0 && answer.entries.is_empty(), "{call}: {answer}");
     }
     let book = match *call {

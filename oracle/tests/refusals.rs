@@ -109,7 +109,7 @@ fn clock_tree() {
     expect(&format!("{BOARD}clock 1 1 {ok} 4611686018427387904 # 0\nclock 1 1 {ok} 4611686018427387903 # 5\nclock 1 1 {ok} 4611686018427387905 # 5"));
 }
 
-/// Index, size, cycle, places, counter: the lowest number that applies.
+/// Index, size, cycle, places, counter: the lowest number that applies (11 has its place in `socket_taken`).
 #[test]
 fn the_lowest_number() {
     expect(&with(
@@ -235,6 +235,72 @@ fn seven_is_exactly_what_the_rust_cannot_do() {
     assert!(tried > 50, "{tried}");
 }
 
+/// Socket taken: a non-zero signal that another pin routes, whatever the signal is, and what is next to it and served.
+#[test]
+fn socket_taken() {
+    // Function 1 is channel 1 of timer 2 on three pins, function 2 a UART's receive signal, function 3 a signal of nothing here.
+    let board = format!("setup {HZ} {V5} 3 8 1 2 32 1 1 3 0 5 48 1 194 17 194 33 194 2 17 18 17 3 201 19 201 4 195\nenable 3 1\n");
+    let on = |lines: &str| expect(&format!("{board}{lines}"));
+    // Refused at any pin but its own, until the pin leaves or the pins are reset; function 17 is 1.
+    on("pin 0 2 0 0 0 0 1 5 4 # 0
+        pin 1 2 0 0 0 0 1 5 4 # 11 0 0
+        pin 2 2 1 1 1 1 17 5 4 # 11 0 0
+        pin 0 2 0 0 0 0 1 5 4 # 0
+        pin 0 2 1 0 0 0 17 5 4 # 0
+        pin 0 2 0 0 0 0 4 6 4 # 0
+        pin 1 2 0 0 0 0 1 6 4 # 0
+        pin 0 2 0 0 0 0 1 6 4 # 11 0 0
+        pin 1 0 0 0 0 0 1 6 4 # 0
+        pin 0 2 0 0 0 0 1 6 4 # 0
+        reset-pins 7 3 # 0
+        pin 2 2 0 0 0 0 1 7 4 # 0
+        pin 0 2 0 0 0 0 1 7 4 # 11 0 0");
+    // The order: index, cycle, socket, places.
+    on("pin 0 2 0 0 0 0 1 5 4
+        pin 3 2 0 0 0 0 1 4 0 # 2
+        pin 1 2 0 0 0 0 1 4 0 # 5
+        pin 1 2 0 0 0 0 1 5 0 # 11
+        pin 1 2 0 0 0 0 3 5 0 # 6
+        time 4 # 5
+        time 5 # 0");
+    // Every signal but 0, input signals and signals of no timer of the board; only alternate mode selects one.
+    on("pin 0 2 0 0 0 0 2 5 4 # 0
+        pin 1 2 0 0 0 0 2 5 4 # 11
+        pin 0 2 0 0 0 0 3 5 4 # 0
+        pin 1 2 0 0 0 0 3 5 4 # 11
+        pin 1 0 0 0 0 0 3 5 4 # 0
+        pin 1 1 0 0 0 0 3 5 4 # 0
+        pin 1 3 0 0 0 0 3 5 4 # 0
+        pin 1 258 0 0 0 0 3 5 4 # 0
+        pin 0 2 0 0 0 0 9 5 4 # 0
+        pin 1 2 0 0 0 0 9 5 4 # 0");
+    // A set-up starts free.
+    on(&format!("pin 0 2 0 0 0 0 1 5 4\n{board}pin 1 2 0 0 0 0 1 0 4 # 0"));
+}
+
+/// 11 in random lists: given often, and each time the Rust would have taken the signal from the pin that has it.
+#[test]
+fn eleven_is_what_the_rust_would_take_away() {
+    let mut tried = 0;
+    let selected = |b: &Board| (0..b.pins()).filter(|&p| b.signal(p) != 0).count();
+    let routed = |b: &Board| (0..b.pins()).filter(|&p| b.signal(p) != 0 && b.routed(b.signal(p)) == Some(p)).count();
+    for seed in 400..404 {
+        let mut gen = Gen::new(seed);
+        let list: Vec<_> = (0..4_000).map(|_| gen.step()).collect();
+        for (i, (call, _)) in list.iter().enumerate().filter(|(_, (_, a))| a.number == 11) {
+            let &Call::Pin { pin, mode, function, cycle, .. } = call else { panic!() };
+            let mut board = Board::new();
+            list[..i].iter().for_each(|(c, _)| drop(board.call(c)));
+            // Each pin that selects a signal routes it; after the setting, made all the same, one of them does not.
+            assert_eq!(routed(&board), selected(&board), "seed {seed}: {call}");
+            board.set_unchecked(pin as usize, mode as u8, (function % 16) as u8, cycle);
+            assert_eq!(routed(&board) + 1, selected(&board), "seed {seed}: {call}");
+            tried += 1;
+        }
+    }
+    assert!(tried > 100, "{tried}");
+}
+
 /// What a probe can see of a board: every query, every register, and time.
 fn probe(board: &mut Board) -> Vec<oracle::Answer> {
     let (cycle, mut calls) = (board.last(), vec![Call::Next]);
@@ -254,12 +320,12 @@ fn probe(board: &mut Board) -> Vec<oracle::Answer> {
 
 #[test]
 fn a_refused_call_shows_nothing() {
-    let mut refused = [0; 8];
+    let mut refused = [0; 12];
     for seed in 100..103 {
         let (mut gen, mut board) = (Gen::new(seed), Board::new());
         for _ in 0..20_000 {
             let (call, answer) = gen.step();
-            if !(1..=7).contains(&answer.number) {
+            if matches!(answer.number, 0 | 8) {
                 board.call(&call);
                 continue;
             }
@@ -269,7 +335,7 @@ fn a_refused_call_shows_nothing() {
             refused[answer.number as usize] += 1;
         }
     }
-    assert!(refused[1..].iter().all(|&n| n > 0), "{refused:?}");
+    assert!([1, 2, 3, 4, 5, 6, 7, 11].iter().all(|&n| refused[n] > 0), "{refused:?}");
 }
 
 /// With the refused calls left out, all other answers stay the same.
@@ -279,7 +345,7 @@ fn a_refused_call_has_no_later_effect() {
         let mut gen = Gen::new(seed);
         let list: Vec<_> = (0..20_000).map(|_| gen.step()).collect();
         let mut board = Board::new();
-        for (call, answer) in list.iter().filter(|(_, a)| !(1..=7).contains(&a.number)) {
+        for (call, answer) in list.iter().filter(|(_, a)| matches!(a.number, 0 | 8)) {
             assert!(&board.call(call) == answer, "{call}");
         }
     }

@@ -353,7 +353,8 @@ impl Board {
 
     // ---- pins -----------------------------------------------------------------------------
 
-    /// Sets a pin.
+    /// Sets a pin. One signal goes to one pin: where another pin routes the signal that `c` selects, the call is refused with
+    /// [`Error::SocketTaken`] until that pin leaves it. The same pin can be set again.
     ///
     /// ```
     /// # use board::{Board, Entry, PinConfig};
@@ -713,6 +714,7 @@ impl Board {
             (3, _) => Error::BadSize(about.size),
             (5, _) => Error::CycleAstray { cycle: about.cycle, last: self.last_cycle() },
             (6, _) => Error::BookFull { places: self.places(), needed: if about.all_pins { self.pins() as usize } else { 4 } },
+            (11, Asked::Pin(pin)) => Error::SocketTaken { pin },
             (7, _) => Error::CounterAstray { offset: about.offset },
             _ => other(a),
         }

@@ -61,6 +61,11 @@ pub enum Error {
     },
     /// 10: an entry's cycle is below that of its pin's entry before it, or its pin is above 127, or its level above 1.
     BookOutOfOrder(Disorder),
+    /// 11: the setting of this pin selects a signal that another pin routes. It is looked at after 5 and before 6.
+    SocketTaken {
+        /// The pin that was to be set.
+        pin: u32,
+    },
     /// A number that this crate does not know: the library is newer.
     Other(u8),
 }
@@ -245,6 +250,7 @@ pub const fn word(number: u8) -> Option<&'static str> {
         8 => "backlog",
         9 => "shift reversed",
         10 => "book out of order",
+        11 => "socket taken",
         _ => return None,
     })
 }
@@ -279,6 +285,7 @@ impl Error {
             Error::Backlog => 8,
             Error::ShiftReversed { .. } => 9,
             Error::BookOutOfOrder(_) => 10,
+            Error::SocketTaken { .. } => 11,
             Error::Other(n) => n,
         }
     }
@@ -315,6 +322,7 @@ impl Display for Error {
             Error::CycleAstray { cycle, last } if cycle < last => write!(f, ": cycle {cycle} is below {last}, that of the last changing call"),
             Error::CycleAstray { cycle, .. } => write!(f, ": cycle {cycle} is above 2^62"),
             Error::BookFull { places, needed } => write!(f, ": the book has {places} places, the call asks for {needed}"),
+            Error::SocketTaken { pin } => write!(f, ": another pin routes the signal that this setting of pin {pin} selects"),
             Error::CounterAstray { offset } => match Reg::at(offset) {
                 Some(reg) => write!(f, ": this write of {reg} would leave the counter above the active reload + 1"),
                 None => write!(f, ": this write at {offset:#x} would leave the counter above the active reload + 1"),

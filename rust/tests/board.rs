@@ -1,7 +1,7 @@
 //! The safe board: what its types add to the calls. What the calls do is compare's matter.
 
 use board::ffi;
-use board::{Board, Channel, ClockField, ClockTree, Delivered, Drive, Entry, Error, Index, Limit, Line, Reg, Setup, TimerIndex, TimerSpec};
+use board::{Board, Channel, ClockField, ClockTree, Delivered, Drive, Entry, Error, Index, Limit, Line, PinConfig, Reg, Setup, TimerIndex, TimerSpec};
 
 const TIM2: TimerIndex = TimerIndex(0);
 
@@ -64,14 +64,14 @@ fn every_error_is_given() {
 
 #[test]
 fn every_number_has_its_words() {
-    let words = ["served", "wrong board", "no such post", "odd plug", "bad clock", "clock astray", "book full", "counter astray", "backlog", "shift reversed", "book out of order"];
+    let words = ["served", "wrong board", "no such post", "odd plug", "bad clock", "clock astray", "book full", "counter astray", "backlog", "shift reversed", "book out of order", "socket taken"];
     for (number, words) in (0..).zip(words) {
         assert_eq!(board::word(number), Some(words));
         assert_eq!(board::is_refusal(number), number != 0 && number != 8);
     }
-    assert_eq!(board::word(11), None);
-    let e = Error::Other(11);
-    assert_eq!((e.number(), e.to_string().as_str(), e.is_refusal()), (11, "refused with 11", true));
+    assert_eq!(board::word(12), None);
+    let e = Error::Other(12);
+    assert_eq!((e.number(), e.to_string().as_str(), e.is_refusal()), (12, "refused with 12", true));
 }
 
 #[test]
@@ -405,4 +405,23 @@ fn queries() {
     assert_eq!((b.read_reg(TIM2, Reg::Sr, 22), b.peek_reg(TIM2, Reg::Sr, 22)), (Ok(0), Ok(0x1f)));
     b.reset(TIM2, 23).unwrap();
     assert_eq!(b.next(), None);
+}
+
+/// One signal goes to one pin: another pin is refused until the first has left it, and the same pin is not.
+#[test]
+fn a_taken_socket() {
+    let mut setup = Setup::example();
+    let other = setup.add_pin(&[(1, setup.pins[0][1])]);
+    let mut b = Board::new(64);
+    b.set_up(&setup).unwrap();
+    b.set_pin(0, &PinConfig::alternate(1), 5).unwrap();
+    let before = b.clone();
+    let taken = Error::SocketTaken { pin: other };
+    assert_eq!(b.set_pin(other, &PinConfig::alternate(1), 5), Err(taken));
+    assert!(b.state().same(before.state()));
+    assert_eq!(taken.to_string(), "socket taken: another pin routes the signal that this setting of pin 8 selects");
+    assert_eq!(b.set_pin(other, &PinConfig::alternate(1), 4), Err(Error::CycleAstray { cycle: 4, last: 5 }));
+    b.set_pin(0, &PinConfig::alternate(1), 6).unwrap();
+    b.set_pin(0, &PinConfig::default(), 7).unwrap();
+    b.set_pin(other, &PinConfig::alternate(1), 8).unwrap();
 }

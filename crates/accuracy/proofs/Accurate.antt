@@ -11,15 +11,15 @@ use borrow.Author.Tests.{eqb-true, eqb-false, eq-eqb, ne-eqb}
 use Rattle.sig.specs.Signal.{timSignal}
 use Rattle.book.specs.Book.{Entry}
 use Rattle.machine.specs.Board.{Board, timerAt, gpioAt}
-use Rattle.machine.specs.Sys.{driver, selected}
+use Rattle.machine.specs.Sys.{driver}
 use Rattle.machine.specs.Call.{pinSetting, outsideDrive, pinReset, writing, resetting, delivery, Call, setUp, clockTree, enable, clearPending, ask, lend, deliver, isRefusal}
-use Rattle.machine.specs.Step.{cfgOf, step, run, boardAfter}
+use Rattle.machine.specs.Step.{step, run, boardAfter}
 use Rattle.machine.specs.Sound.{Sound}
 use Rattle.machine.proofs.NumberLaws.{refusal-nonzero}
 use Rattle.machine.proofs.Routing.{by-test}
 use Rattle.machine.proofs.Reach.{Wired, Rest, Leaves, frame-step, frame-refused, sound-step, sound-after}
 use Rattle.accuracy.proofs.Tests.{never, both-left, both-right, one-of, apart}
-use Rattle.accuracy.specs.Claim.{steadyCall, steady, deliveredAt, covered, joined, Pilot, Steady, board₀, board₁, signal, recorded, Claim}
+use Rattle.accuracy.specs.Claim.{steadyCall, steady, deliveredAt, covered, joined, Pilot, Steady, board₀, board₁, recorded, Claim}
 use Rattle.accuracy.proofs.Levels.{Upward}
 use Rattle.accuracy.proofs.Wave.{duty}
 use Rattle.accuracy.proofs.Aim.{Aim, period, high, signalOf, due}
@@ -90,7 +90,7 @@ module _ (a : Aim) (pin l₀ i from : ℕ) (b : Board) (es : List Entry) (sound 
       go false e = leaving (deliver j cycle places) (rw e) (eqb-false j i e)
 
   -- a served call that is steady
-  served-call : (c : Call) → steadyCall i pin (signalOf a) b c ≡ true → Goes c
+  served-call : (c : Call) → steadyCall i pin b c ≡ true → Goes c
   unfolding steadyCall deliveredAt
   served-call (setUp x) h = absurd (never h)
   served-call (clockTree t cycle) h = absurd (never h)
@@ -98,9 +98,7 @@ module _ (a : Aim) (pin l₀ i from : ℕ) (b : Board) (es : List Entry) (sound 
   served-call (clearPending irq) h = leaving (clearPending irq) refl tt
   served-call (ask q) h = leaving (ask q) refl tt
   served-call (lend (pinSetting q mode od out pu pd f) cycle places) h =
-      let free = eqb (selected (b .pads) q (cfgOf mode od out pu pd) f) (signalOf a) in
-      leaving (lend (pinSetting q mode od out pu pd f) cycle places) refl
-      (apart q pin (both-left (not (eqb q pin)) (not free) h), apart _ (signalOf a) (both-right (not (eqb q pin)) (not free) h))
+      leaving (lend (pinSetting q mode od out pu pd f) cycle places) refl (apart q pin h)
   served-call (lend (outsideDrive q e) cycle places) h = leaving (lend (outsideDrive q e) cycle places) refl tt
   served-call (lend pinReset cycle places) h = absurd (never h)
   served-call (lend (writing j offset size value) cycle places) h = leaving (lend (writing j offset size value) cycle places) refl h
@@ -115,23 +113,23 @@ module _ (a : Aim) (pin l₀ i from : ℕ) (b : Board) (es : List Entry) (sound 
       subst (λ (x : ℕ). Kept a pin l₀ i x (step b c .board) (es ++ step b c .entries)) (sym (ap (λ (x : Bool). cond x (deliveredAt i c from) from) z))
       (kept-rest a pin l₀ i from b es (step b c) (sound-step b c sound) (frame-refused b i (signalOf a) pin c h) k)
 
-  any-call : (c : Call) → isRefusal (step b c .number) || steadyCall i pin (signalOf a) b c ≡ true → Goes c
-  any-call c h = go (one-of (isRefusal (step b c .number)) (steadyCall i pin (signalOf a) b c) h)
+  any-call : (c : Call) → isRefusal (step b c .number) || steadyCall i pin b c ≡ true → Goes c
+  any-call c h = go (one-of (isRefusal (step b c .number)) (steadyCall i pin b c) h)
     where
-      go : (isRefusal (step b c .number) ≡ true) ⊎ (steadyCall i pin (signalOf a) b c ≡ true) → Goes c
+      go : (isRefusal (step b c .number) ≡ true) ⊎ (steadyCall i pin b c ≡ true) → Goes c
       go (inl e) = refused-call c e
       go (inr e) = served-call c e
 
 -- ---- a list of calls
 
 module _ (a : Aim) (pin l₀ i : ℕ) where
-  all-calls : (cs : List Call) (from : ℕ) (b : Board) (es : List Entry) → Sound b → Kept a pin l₀ i from b es → steady i pin (signalOf a) b cs ≡ true
+  all-calls : (cs : List Call) (from : ℕ) (b : Board) (es : List Entry) → Sound b → Kept a pin l₀ i from b es → steady i pin b cs ≡ true
       → Kept a pin l₀ i (covered i b cs from) (boardAfter b cs) (es ++ joined (run b cs))
   unfolding steady covered joined run boardAfter
   all-calls [] from b es sound k st = rw append-nil k
   all-calls (c ∷ cs) from b es sound k st =
-      let x = isRefusal (step b c .number) || steadyCall i pin (signalOf a) b c in
-      let rest = steady i pin (signalOf a) (step b c .board) cs in
+      let x = isRefusal (step b c .number) || steadyCall i pin b c in
+      let rest = steady i pin (step b c .board) cs in
       let first = any-call a pin l₀ i from b es sound k c (both-left x rest st) in
       rw append-assoc at (all-calls cs _ (step b c .board) (es ++ step b c .entries) (sound-step b c sound) first (both-right x rest st))
 

@@ -13,12 +13,12 @@ use Rattle.sig.specs.Signal.{timSignal}
 use Rattle.gpio.specs.Gpio.{alternateMode}
 use Rattle.book.specs.Book.{Entry}
 use Rattle.tim.specs.Timer.{isOutput, ocMode, ccrAct}
-use Rattle.machine.specs.Board.{Board, timerAt, gpioAt, routeOf, one}
+use Rattle.machine.specs.Board.{Board, timerAt, gpioAt, one}
 use Rattle.machine.specs.Sys.{driver}
 use Rattle.machine.specs.Call.{Call, Setup, setUp, enable, setPin, write, Outcome}
 use Rattle.machine.specs.Step.{step, run, boardAfter}
 use Rattle.book.specs.Level.{levelAt, highs}
-use Rattle.accuracy.specs.Claim.{Pilot, Steady, Window, steady, covered, joined, board₀, board₁, timer₁, signal, firstUpdate, cyclesOf, periodOf, highOf}
+use Rattle.accuracy.specs.Claim.{Pilot, Steady, Window, steady, covered, joined, board₀, board₁, timer₁, firstUpdate, cyclesOf, periodOf, highOf}
 use Rattle.accuracy.proofs.Computed.{computed}
 use Rattle.accuracy.proofs.Tests.{both-left, both-right}
 use Rattle.accuracy.proofs.Quick.{delivery, few, suffice, joined-last, steady-last, covered-last}
@@ -84,6 +84,9 @@ bench = record { before = usual; cr1 = 1; since = []; last = 140 }
 abbrev pub start : Pilot → Outcome
 start π = step (board₀ π) (write (π .timer) (π .offset) (π .size) (π .value) (π .s) (π .places))
 
+abbrev pub signal : Pilot → ℕ
+signal π = timSignal (timer₁ π .inst .n) (π .ch)
+
 -- the last of them given
 unfoldable pub testsBy : Pilot → Bool → List Bool
 testsBy π since =
@@ -106,16 +109,15 @@ testsBy π since =
     ∷ eqb (g .cfg .mode) alternateMode
     ∷ not (g .cfg .«open_drain»)  -- 15: push-pull
     ∷ eqb (g .sig) (signal π)
-    ∷ eqb (routeOf (board₁ π .pads) (signal π)) (π .pin)  -- 17: last-to-take
-    ∷ since  -- 18: since
+    ∷ since  -- 17: since
     ∷ []
 
 abbrev pub tests : Pilot → List Bool
-tests π = testsBy π (steady (π .timer) (π .pin) (signal π) (board₁ π) (π .after))
+tests π = testsBy π (steady (π .timer) (π .pin) (board₁ π) (π .after))
 
 -- all of them passed
 abbrev pub passed : List Bool
-passed = replicate 19 true
+passed = replicate 18 true
 
 pub steady-by : (π : Pilot) → tests π ≡ passed → Steady π
 unfolding testsBy
@@ -139,9 +141,8 @@ steady-by π e =
         alternate = eqb-true (g .cfg .mode) alternateMode (at 14);
         push-pull = not-true _ (at 15);
         set-to = eqb-true (g .sig) (signal π) (at 16);
-        last-to-take = eqb-true (routeOf (board₁ π .pads) (signal π)) (π .pin) (at 17);
       };
-      since = at 18;
+      since = at 17;
     }
 
 -- ---- a window
@@ -181,8 +182,8 @@ abbrev pub entries : Trial → List Entry
 entries x = joined (run (board₁ (pilot x)) (x .since)) ++ few (board₂ x) (x .last) .entries
 
 module _ (x : Trial) where
-  pub trial-tests : tests (pilot x) ≡ testsBy (pilot x) (steady 0 0 (signal (pilot x)) (board₁ (pilot x)) (x .since))
-  trial-tests = ap (testsBy (pilot x)) (steady-last (x .last) (x .since) 0 (signal (pilot x)) (board₁ (pilot x)))
+  pub trial-tests : tests (pilot x) ≡ testsBy (pilot x) (steady 0 0 (board₁ (pilot x)) (x .since))
+  trial-tests = ap (testsBy (pilot x)) (steady-last (x .last) (x .since) 0 (board₁ (pilot x)))
 
   module _ (enough : suffice (board₂ x) (x .last) ≡ true) where
     pub trial-entries : joined (run (board₁ (pilot x)) (pilot x .after)) ≡ entries x

@@ -1,5 +1,5 @@
--- Thirteen lists of calls in each of which one single condition of the claim fails, and with it the bound. By computation from the first
--- board on.
+-- Eleven lists of calls in each of which one single condition of the claim fails, and with it the bound. By computation from the first
+-- board on. That another pin took the channel is no condition any more: such a setting is refused (11).
 use Prim.Native.Nat.{ℕ, _+_, _-_, _*_}
 use mathlib.Core.Path.{_≡_, refl, sym, ap, _∙_}
 use mathlib.Core.Bool.{Bool, true, _&&_, false}
@@ -8,11 +8,12 @@ use lib.Dec.{leb}
 use borrow.Author.Tests.{le-leb}
 use lib.ListN.{getD, replicate, set, drop}
 use Rattle.machine.specs.Call.{Call, write}
-use Rattle.accuracy.specs.Claim.{Within, steady, board₁, signal}
+use Rattle.machine.specs.Step.{step}
+use Rattle.accuracy.specs.Claim.{Within, steady, board₁}
 use Rattle.accuracy.proofs.Computed.{computed}
 use Rattle.accuracy.proofs.Tests.{never}
 use Rattle.accuracy.proofs.Quick.{suffice}
-use Rattle.accuracy.proofs.Bench.{wire, prepared, plain, usual, Trial, pilot, testsBy, tests, passed, Seen, seenBy, seen, board₂, entries, trial-tests, trial-seen}
+use Rattle.accuracy.proofs.Bench.{wire, prepared, plain, usual, bench, Trial, pilot, testsBy, tests, passed, Seen, seenBy, seen, board₂, entries, trial-tests, trial-seen}
 
 -- the failing test by its number, the calls, a window in the span, and the window's highs
 pub record Case : Type 0 where
@@ -37,9 +38,7 @@ cases =
     ∷ case 12 (prepared 2 plain 0 0x60 3) 1 [] 120 113 4 4  -- CC1P set: high for 7 cycles of 10
     ∷ case 13 (prepared 2 plain 0 0x70 1) 1 [] 120 113 4 4  -- PWM mode 2: high for 7 cycles of 10
     ∷ case 15 (prepared 2 (wire 0 1 0 ∷ []) 0 0x60 1) 1 [] 120 110 8 0  -- open drain, with nothing that pulls up: the pin stays low
-    ∷ case 17 (prepared 2 (wire 0 0 0 ∷ wire 1 0 0 ∷ []) 0 0x60 1) 1 [] 120 110 8 0  -- another pin took the channel last: the pin stays low
-    ∷ case 18 usual 1 (wire 1 0 101 ∷ []) 120 110 4 4  -- another pin takes the channel after the start: the pin stays high
-    ∷ case 18 usual 1 (write 0 0x34 4 7 101 4 ∷ []) 120 110 4 4  -- the compare is written after the start: high for 7 cycles of 10
+    ∷ case 17 usual 1 (write 0 0x34 4 7 101 4 ∷ []) 120 110 4 4  -- the compare is written after the start: high for 7 cycles of 10
     ∷ []
 
 -- every condition but one holds, the window lies in the span, and its highs are these; the period is 10, high for 3
@@ -54,7 +53,7 @@ abbrev quickly : Case → Bool × (List Bool × Seen)
 quickly c =
     let π = pilot (c .trial) in (
       suffice (board₂ (c .trial)) (c .trial .last),
-      (testsBy π (steady 0 0 (signal π) (board₁ π) (c .trial .since)), seenBy π (c .a) (c .W) (c .trial .last + 1) (entries (c .trial))),
+      (testsBy π (steady 0 0 (board₁ π) (c .trial .since)), seenBy π (c .a) (c .W) (c .trial .last + 1) (entries (c .trial))),
     )
 
 abbrev wanted : Case → Bool × (List Bool × Seen)
@@ -79,11 +78,16 @@ pub cases-hold : map outcome cases ≡ map expected cases
 unfolding computed cases testsBy seenBy
 cases-hold = all-by cases refl
 
+-- another pin asks for the bench pilot's channel after the start
+pub another-pin : step (board₁ (pilot bench)) (wire 1 0 101) .number ≡ 11
+unfolding computed
+another-pin = refl
+
 -- the bound as a test, of the figures
 abbrev pub keeps : ℕ → ℕ → ℕ → ℕ → Bool
 keeps H W P D = leb (H * P) (W * D + D * (P - D)) && leb (W * D) (H * P + D * (P - D))
 
-pub cases-fail : map (λ (c : Case). keeps (c .H) (c .W) 10 3) cases ≡ replicate 13 false
+pub cases-fail : map (λ (c : Case). keeps (c .H) (c .W) 10 3) cases ≡ replicate 11 false
 unfolding cases
 cases-fail = refl
 

@@ -86,15 +86,15 @@ module _ (cycle : ℕ) where
   joined-last (c ∷ cs) b e = ap (λ (es : List Entry). step b c .entries ++ es) (joined-last cs (step b c .board) e) ∙ sym (append-assoc (step b c .entries) _ _)
 
   -- it is steady
-  pub steady-last : (cs : List Call) (pin s : ℕ) (b : Board) → steady 0 pin s b (cs ++ (delivery cycle ∷ [])) ≡ steady 0 pin s b cs
+  pub steady-last : (cs : List Call) (pin : ℕ) (b : Board) → steady 0 pin b (cs ++ (delivery cycle ∷ [])) ≡ steady 0 pin b cs
   unfolding steady steadyCall
-  steady-last [] pin s b = go (isRefusal (step b (delivery cycle) .number))
+  steady-last [] pin b = go (isRefusal (step b (delivery cycle) .number))
     where
       go : (x : Bool) → (x || true) && true ≡ true
       go true = refl
       go false = refl
-  steady-last (c ∷ cs) pin s b =
-      ap (λ (y : Bool). (isRefusal (step b c .number) || steadyCall 0 pin s b c) && y) (steady-last cs pin s (step b c .board))
+  steady-last (c ∷ cs) pin b =
+      ap (λ (y : Bool). (isRefusal (step b c .number) || steadyCall 0 pin b c) && y) (steady-last cs pin (step b c .board))
 
   -- and it covers the cycles up to its own
   pub covered-last : (cs : List Call) (b : Board) (end : ℕ) → suffice (boardAfter b cs) cycle ≡ true

@@ -11,11 +11,13 @@ use lib.ListN.{getD, set, length, List·getD-eq-default}
 use Rattle.rm0440.specs.Bits.{DIR}
 use Rattle.rm0440.specs.Counter.{stepCycles}
 use Rattle.tim.specs.Next.{nextSteps}
-use Rattle.machine.specs.Board.{Board, Pads, timerAt, gpioAt, noGpio}
+use Rattle.machine.specs.Board.{Board, Pads, timerAt, gpioAt, routeOf, noGpio}
 use Rattle.gpio.specs.declared.Gpio.{Gpio}
-use Rattle.gpio.specs.Gpio.{alternateMode}
+use Rattle.gpio.specs.Gpio.{signalOf, alternateMode}
+use Rattle.sig.specs.Signal.{timSignal}
 use Rattle.machine.specs.Deliver.{dividerOf}
 use Rattle.machine.specs.Sound.{Sound}
+use Rattle.machine.proofs.Reach.{sockets}
 use Rattle.book.specs.Level.{levelAt}
 use Rattle.accuracy.specs.Claim.{Settings, firstUpdate, cyclesOf}
 use Rattle.accuracy.proofs.Aim.{Aim, Fixed, due, coming}
@@ -91,13 +93,19 @@ module _ (b : Board) (i s ch pin : ℕ) (began : Began b i s) (up : DIR (timerAt
       let arr : (timerAt b i .count .«arr_act» + 1 - timerAt b i .count .cnt0) * cyclesOf b i ≡ (timerAt b i .regs .arr + 1 - timerAt b i .count .cnt0) * cyclesOf b i = ap (λ (x : ℕ). (x + 1 - timerAt b i .count .cnt0) * cyclesOf b i) (set .reload) in
       omega (arith, began .base-is, mul-le-mul-right (cyclesOf b i) (steps-upto (aimOf b i ch s) (timerAt b i) f))
 
+  -- the pin routes the channel's signal, because it is set to it
+  routes : routeOf (b .pads) (timSignal (timerAt b i .inst .n) ch) ≡ pin
+  routes =
+      let e : signalOf (gpioAt (b .pads) pin) ≡ timSignal (timerAt b i .inst .n) ch = rw (set .alternate) (set .set-to) in
+      ap (λ (s : ℕ). routeOf (b .pads) s) (sym e) ∙ sockets (b .pads) (sound .pads) .selected-routes pin (λ z. omega (arith, e, z))
+
   pub told-start : Told (aimOf b i ch s) pin (gpioAt (b .pads) pin .pin .level) (timerAt b i) (b .pads) []
   unfolding levelAt Upward
   told-start = record {
     drives = set .drives;
     fixed = fixed-start;
     phase = coming (record { update = rw (began .base-is, set .reload) refl });
-    wired = record { sound = sound .pads; pin-is = pin-small (b .pads) pin (sound .pads .gpios) (set .alternate); route = set .last-to-take; push-pull = set .push-pull };
+    wired = record { sound = sound .pads; pin-is = pin-small (b .pads) pin (sound .pads .gpios) (set .alternate); route = routes; push-pull = set .push-pull };
     past = λ c from to. omega (arith, due-start);
     present = λ c le. refl;
     ordered = omega arith;

@@ -15,11 +15,11 @@ use Rattle.sig.specs.Signal.{timSignal}
 use Rattle.gpio.specs.Gpio.{alternateMode}
 use Rattle.book.specs.Book.{Entry}
 use Rattle.book.specs.Level.{levelAt, highs}
-use Rattle.machine.specs.Board.{Board, timerAt, gpioAt, routeOf, firstBoard}
-use Rattle.machine.specs.Sys.{driver, selected}
+use Rattle.machine.specs.Board.{Board, timerAt, gpioAt, firstBoard}
+use Rattle.machine.specs.Sys.{driver}
 use Rattle.machine.specs.Deliver.{dividerOf}
 use Rattle.machine.specs.Call.{pinSetting, outsideDrive, pinReset, writing, resetting, delivery, Call, setUp, clockTree, enable, clearPending, ask, lend, write, ifLent, ifDelivery, Outcome, isRefusal}
-use Rattle.machine.specs.Step.{step, run, boardAfter, clockOn, register, cfgOf}
+use Rattle.machine.specs.Step.{step, run, boardAfter, clockOn, register}
 use lib.ListN.{getD}
 
 -- ---- the start: "CEN went from 0 to 1 at cycle s (upward: with DIR 0)", by a write that was served
@@ -47,40 +47,38 @@ pub record Settings (b : Board) (timer ch pin : ℕ) : Type 0 where
   pub enabled : Out.CCxE ch (timerAt b timer .regs .ccer) ≡ true
   pub polarity : Out.CCxP ch (timerAt b timer .regs .ccer) ≡ false
   pub mode : ocMode (timerAt b timer) ch ≡ Out.pwmMode1
-  -- "pin in alternate mode, push-pull, set to that channel and the last pin to take or leave it"
+  -- "pin in alternate mode, push-pull, set to that channel and the last pin to take or leave it"; that it is the last follows, since a pin in
+  -- alternate mode routes the signal that it is set to (document 02, F-4; crates/machine/specs/Sockets.antt)
   pub alternate : gpioAt (b .pads) pin .cfg .mode ≡ alternateMode
   pub push-pull : gpioAt (b .pads) pin .cfg .«open_drain» ≡ false
   pub set-to : gpioAt (b .pads) pin .sig ≡ timSignal (timerAt b timer .inst .n) ch
-  pub last-to-take : routeOf (b .pads) (timSignal (timerAt b timer .inst .n) ch) ≡ pin
 
 -- ---- since then: "refused calls aside, the timer got only reads, peeks, deliveries and writes to SR, DIER, CR2, SMCR; the clock tree and
--- that pin stayed untouched, no other pin took or left the channel, no set-up or pin reset came"
+-- that pin stayed untouched, .. no set-up or pin reset came". "The steady pilot conditions no longer need their clause about another pin" (F-4)
 
 -- "writes to SR, DIER, CR2, SMCR"; a write that the clock gate stops does not reach the timer
 abbrev pub quietRegister : ℕ → Bool
 quietRegister off = eqb off 0x04 || (eqb off 0x08 || (eqb off 0x0c || eqb off 0x10))
 
--- a served call that leaves the pilot of a timer on a pin by a signal steady. Not needed, and not asked: that an outside drive spares
--- the pin, that no other pin leaves the channel.
-unfoldable pub steadyCall : ℕ → ℕ → ℕ → Board → Call → Bool
-steadyCall timer pin s b (setUp _) = false
-steadyCall timer pin s b (clockTree _ _) = false
-steadyCall timer pin s b (enable _ _) = true
-steadyCall timer pin s b (clearPending _) = true
-steadyCall timer pin s b (ask _) = true
-steadyCall timer pin s b (lend (pinSetting q mode od out pu pd f) _ _) =
-    not (eqb q pin) && not (eqb (selected (b .pads) q (cfgOf mode od out pu pd) f) s)
-steadyCall timer pin s b (lend (outsideDrive _ _) _ _) = true
-steadyCall timer pin s b (lend pinReset _ _) = false
-steadyCall timer pin s b (lend (writing i offset size value) _ _) =
+-- a served call that leaves the pilot of a timer on a pin steady. Not needed, and not asked: that an outside drive spares the pin
+unfoldable pub steadyCall : ℕ → ℕ → Board → Call → Bool
+steadyCall timer pin b (setUp _) = false
+steadyCall timer pin b (clockTree _ _) = false
+steadyCall timer pin b (enable _ _) = true
+steadyCall timer pin b (clearPending _) = true
+steadyCall timer pin b (ask _) = true
+steadyCall timer pin b (lend (pinSetting q mode od out pu pd f) _ _) = not (eqb q pin)
+steadyCall timer pin b (lend (outsideDrive _ _) _ _) = true
+steadyCall timer pin b (lend pinReset _ _) = false
+steadyCall timer pin b (lend (writing i offset size value) _ _) =
     not (eqb i timer) || (quietRegister (register offset) || not (clockOn b (timerAt b timer)))
-steadyCall timer pin s b (lend (resetting i) _ _) = not (eqb i timer)
-steadyCall timer pin s b (lend (delivery _) _ _) = true
+steadyCall timer pin b (lend (resetting i) _ _) = not (eqb i timer)
+steadyCall timer pin b (lend (delivery _) _ _) = true
 
 -- "refused calls aside": every other call of the list, on the board that it arrives at
-unfoldable pub steady : ℕ → ℕ → ℕ → Board → List Call → Bool
-steady timer pin s b [] = true
-steady timer pin s b (c ∷ cs) = (isRefusal (step b c .number) || steadyCall timer pin s b c) && steady timer pin s (step b c .board) cs
+unfoldable pub steady : ℕ → ℕ → Board → List Call → Bool
+steady timer pin b [] = true
+steady timer pin b (c ∷ cs) = (isRefusal (step b c .number) || steadyCall timer pin b c) && steady timer pin (step b c .board) cs
 
 -- ---- the span: "from the first update to the last full delivery"
 
@@ -144,9 +142,6 @@ board₁ π = step (board₀ π) (write (π .timer) (π .offset) (π .size) (π 
 abbrev pub timer₁ : Pilot → Timer
 timer₁ π = timerAt (board₁ π) (π .timer)
 
-abbrev pub signal : Pilot → ℕ
-signal π = timSignal (timer₁ π .inst .n) (π .ch)
-
 -- the pin's level at each cycle, by the record
 abbrev pub recorded : Pilot → ℕ → ℕ
 recorded π = levelAt (π .pin) (joined (run (board₁ π) (π .after))) (gpioAt (board₁ π .pads) (π .pin) .pin .level)
@@ -154,7 +149,7 @@ recorded π = levelAt (π .pin) (joined (run (board₁ π) (π .after))) (gpioAt
 pub record Steady (π : Pilot) : Type 0 where
   pub started : Started (board₀ π) (π .timer) (π .offset) (π .size) (π .value) (π .s) (π .places)
   pub settings : Settings (board₁ π) (π .timer) (π .ch) (π .pin)
-  pub since : steady (π .timer) (π .pin) (signal π) (board₁ π) (π .after) ≡ true
+  pub since : steady (π .timer) (π .pin) (board₁ π) (π .after) ≡ true
 
 pub record Window (π : Pilot) (a W : ℕ) : Type 0 where
   pub from : firstUpdate (timer₁ π) (π .s) (cyclesOf (board₁ π) (π .timer)) ≤ a

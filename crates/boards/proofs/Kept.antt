@@ -38,7 +38,7 @@ use Rattle.machine.specs.Sys as Sys
 use Rattle.machine.specs.Deliver.{Run, dividerOf, lineSettled, rebooked, turn, turnOf, dueBy, mostEvents, delivered, afterDelivery}
 use Rattle.machine.specs.Deliver as D
 use Rattle.machine.specs.Call.{Setup, Call, setUp, clockTree, enable, setPin, drivePin, resetPins, read, write, peek, resetTimer, deliver, queryBooked, queryNext, queryLevel, queryVolts, queryLine, queryTime, clearPending, Outcome, Question, reading, peeking, booked, next, level, volts, line, time, BookCall, pinSetting, outsideDrive, pinReset, writing, resetting, delivery, ask, lend}
-use Rattle.machine.specs.Step.{absent, oddSize, cycleAstray, bookFull, withinLimits, clockOn, register, present, written, counterAstray, followed, timerReset, deliveredTo, timerRetimed, allRetimed, treeSet, step, boardAfter}
+use Rattle.machine.specs.Step.{absent, oddSize, cycleAstray, bookFull, socketTaken, withinLimits, clockOn, register, present, written, counterAstray, followed, timerReset, deliveredTo, timerRetimed, allRetimed, treeSet, step, boardAfter}
 use Rattle.machine.specs.Sound.{Sound, SoundPads}
 use Rattle.machine.proofs.Routing.{either, by-test}
 use Rattle.machine.proofs.Reach.{inst-written, run-good, sound-step, sound-first}
@@ -323,7 +323,9 @@ module _ (b : Board) (s : Sound b) (h : Timers b) where
   kept-setPin : (pin mode od out pu pd f cycle places : ℕ) → Good (step b (setPin pin mode od out pu pd f cycle places))
   unfolding step
   kept-setPin pin mode od out pu pd f cycle places =
-      either Good (absent pin (b .counts .pins)) h (by-test Good (cycleAstray b cycle) (λ _. h) (λ e. either Good (bookFull 4 places) h (moves-on cycle e)))
+      either Good (absent pin (b .counts .pins)) h
+      (by-test Good (cycleAstray b cycle) (λ _. h)
+      (λ e. either Good (socketTaken b (pinSetting pin mode od out pu pd f)) h (either Good (bookFull 4 places) h (moves-on cycle e))))
 
   kept-drivePin : (pin : ℕ) (x : ExtDrive) (cycle places : ℕ) → Good (step b (drivePin pin x cycle places))
   unfolding step

@@ -18,10 +18,10 @@ use Rattle.machine.specs.Board.{Board, timerAt, withClocks, withNvic, wi
 use Rattle.machine.specs.Sys as Sys
 use Rattle.machine.specs.Deliver.{dividerOf, delivered, mostEvents, dueBy}
 use Rattle.machine.specs.Call.{Setup, Question, reading, peeking, booked, next, level, volts, line, time, BookCall, pinSetting, outsideDrive, pinReset, writing, resetting, delivery, Call, setUp, clockTree, enable, clearPending, ask, lend, isDelivery, lent, bookCycle, Outcome, refused, served, isRefusal}
-use Rattle.machine.specs.Step.{step, withinLimits, treeSet, moved, cfgOf, pinsReset, changesOf, clockOn, written, followed, timerReset, deliveredTo, asking, told}
-use Rattle.machine.specs.Refusals.{Refusal, _when_, limits, noSuchIndex, ofQuestion, refusals, order, inOrder, among, rank, applies, holds, first, ending, most, lastAfter}
+use Rattle.machine.specs.Step.{step, cycleAstray, withinLimits, treeSet, moved, cfgOf, pinsReset, changesOf, clockOn, written, followed, timerReset, deliveredTo, asking, told}
+use Rattle.machine.specs.Refusals.{Refusal, _when_, limits, noSuchIndex, ofQuestion, ofBookCall, refusals, order, inOrder, among, rank, applies, holds, first, ending, most, lastAfter}
 use Rattle.machine.specs.Demand1.{Every, StampedAt}
-use Rattle.machine.proofs.TableLaws.{positive-same, limits-same, tree-same, away-same}
+use Rattle.machine.proofs.TableLaws.{positive-same, limits-same, tree-same, away-same, taken-same}
 use Rattle.machine.proofs.DeliverLaws.{Delivery, run-law, every-none, every-append, entry-stamped, entries-stamped, entry-few, entries-few}
 
 -- ---- refusals in order, then what follows
@@ -210,6 +210,10 @@ by-tests : (n m : ℕ) (b : Board) (o : Outcome) {t u v w : Bool} → t ≡ u �
     → cond (not t) (refused n b) (cond (not v) (refused m b) o) ≡ cond (not u) (refused n b) (cond (not w) (refused m b) o)
 by-tests n m b o e f = rw (e, f) refl
 
+by-third : (n m k : ℕ) (b : Board) (o : Outcome) (t u : Bool) {v w : Bool} → v ≡ w
+    → cond t (refused n b) (cond u (refused m b) (cond v (refused k b) o)) ≡ cond t (refused n b) (cond u (refused m b) (cond w (refused k b) o))
+by-third n m k b o t u e = rw e refl
+
 pub step-given : (b : Board) (c : Call) → step b c ≡ given (refusals b c) b (performed b c)
 unfolding step given refusals performed
 step-given b (setUp s) = by-tests 1 4 b _ (sym (limits-same s)) (sym (positive-same (s .hz)))
@@ -217,7 +221,8 @@ step-given b (clockTree t cycle) = by-test 4 b _ (sym (tree-same t))
 step-given b (enable word value) = refl
 step-given b (clearPending irq) = refl
 step-given b (ask q) = asked-given b q (served (told b q) b)
-step-given b (lend (pinSetting pin mode openDrain out pullup pulldown function) cycle places) = refl
+step-given b (lend (pinSetting pin mode openDrain out pullup pulldown function) cycle places) =
+    by-third 2 5 11 b _ (leb (b .counts .pins) pin) (cycleAstray b cycle) (sym (taken-same b pin mode openDrain out pullup pulldown function))
 step-given b (lend (outsideDrive pin e) cycle places) = refl
 step-given b (lend pinReset cycle places) = refl
 step-given b (lend (writing timer offset size value) cycle places) = rw (gated, away-same) refl
@@ -384,6 +389,13 @@ fourth : (n₁ n₂ n₃ n₄ : ℕ) (t₁ t₂ t₃ t₄ : Bool) (rs : List Ref
 unfolding applies
 fourth n₁ n₂ n₃ n₄ t₁ t₂ t₃ t₄ rs h = none t₄ (applies rs) (none t₃ _ (none t₂ _ (none t₁ _ h .1) .1) .1) .0
 
+-- a pin setting that is not refused: no other pin routes the signal
+pub socket-free : (b : Board) (pin mode openDrain out pullup pulldown function cycle places : ℕ)
+    → applies (ofBookCall b (pinSetting pin mode openDrain out pullup pulldown function) cycle places) ≡ false
+    → Sys.taken (b .pads) pin (Sys.selected (b .pads) pin (cfgOf mode openDrain out pullup pulldown) function) ≡ false
+socket-free b pin mode openDrain out pullup pulldown function cycle places h =
+    sym (taken-same b pin mode openDrain out pullup pulldown function) ∙ third 2 5 11 _ _ _ _ h
+
 pub performed-few : (b : Board) (c : Call) → length (performed b c .entries) ≤ most b c
 unfolding performed timerReset deliveredTo
 performed-few b (setUp s) = omega arith
@@ -411,7 +423,7 @@ most-fits b (clockTree t cycle) h = omega arith
 most-fits b (enable word value) h = omega arith
 most-fits b (clearPending irq) h = omega arith
 most-fits b (ask q) h = omega arith
-most-fits b (lend (pinSetting pin mode openDrain out pullup pulldown function) cycle places) h = omega (arith, ltb-false places 4 (third 2 5 6 _ _ _ [] h))
+most-fits b (lend (pinSetting pin mode openDrain out pullup pulldown function) cycle places) h = omega (arith, ltb-false places 4 (fourth 2 5 11 6 _ _ _ _ [] h))
 most-fits b (lend (outsideDrive pin e) cycle places) h = omega (arith, ltb-false places 4 (third 2 5 6 _ _ _ [] h))
 most-fits b (lend pinReset cycle places) h = ltb-false places (b .counts .pins) (second 5 6 _ _ [] h)
 most-fits b (lend (writing timer offset size value) cycle places) h = ltb-false places 4 (fourth 2 3 5 6 _ _ _ _ _ h)

@@ -6,11 +6,11 @@ use mathlib.Core.List.{List, [], _∷_, _++_, map}
 use Prim.Native.Nat.{ℕ, zero, suc, _+_, _-_, _≤_, _<_}
 use native.Mathlib.Nat.{not-suc-le-zero, le-of-suc-le-suc}
 use native.Mathlib.Omega.{arith}
-use lib.Dec.{eqb, ltb, leb}
+use lib.Dec.{eqb, ltb, leb, lit<}
 use lib.Ieee.{Float}
-use lib.ListN.{getD, set, length, length-set, length-append, length-map, length-replicate, List·getD-map}
+use lib.ListN.{getD, set, replicate, length, length-set, length-append, length-map, length-replicate, List·getD-map}
 use lib.Seq.{getD-set-same, getD-set-other, map-set-same}
-use borrow.Author.Tests.{eqb-true, eqb-false, leb-true, not-true, ne-eqb}
+use borrow.Author.Tests.{eqb-true, eqb-false, ltb-true, leb-true, not-true, ne-eqb}
 use Rattle.rm0440.specs.Bits.{field, isSet, UDIS, URS, CEN, ARPE}
 use Rattle.rm0440.specs.Output as Out
 use Rattle.tim.specs.declared.Timer.{Timer}
@@ -34,18 +34,20 @@ use Rattle.sig.specs.Signal.{timSignal}
 use Rattle.sig.proofs.Laws.{tim-injective, tim-no-input}
 use Rattle.gpio.specs.declared.Change.{Change}
 use Rattle.gpio.specs.declared.Change.the-variants.{Same, Level}
-use Rattle.gpio.specs.Gpio.{drives}
+use Rattle.gpio.specs.declared.Gpio.{Gpio}
+use Rattle.gpio.specs.Gpio.{drives, signalOf, alternateMode}
 use Rattle.book.specs.Book.{Entry, entryOf, entriesOf}
-use Rattle.machine.specs.Board.{Board, Pads, Clocks, noInst, noTimer, noPin, blankGpio, timerAt, gpioAt, routeOf, withTimer, withPads, withNvic, withBooking, withClocks, withLast, filled, freshBoard, firstBoard, one}
+use Rattle.machine.specs.Board.{Board, Pads, Clocks, noInst, noTimer, noPin, blankGpio, noGpio, timerAt, gpioAt, routeOf, withTimer, withPads, withNvic, withBooking, withClocks, withLast, filled, freshBoard, firstBoard, one}
 use Rattle.machine.specs.Sys as Sys
 use Rattle.machine.specs.Deliver.{Run, Turn, dividerOf, lineSettled, rebooked, applied, countAt, turn, turnOf, stop, dueBy, mostEvents, delivered, afterDelivery}
 use Rattle.machine.specs.Deliver as D
 use Rattle.machine.specs.Call.{Setup, pinSetting, outsideDrive, pinReset, writing, resetting, delivery, Call, setUp, clockTree, enable, clearPending, ask, lend, Outcome, isRefusal}
-use Rattle.machine.specs.Step.{fresh, instGood, instsGood, withinLimits, clockOn, register, told, written, followed, timerReset, deliveredTo, timerRetimed, allRetimed, treeSet, cfgOf, moved, step, boardAfter}
+use Rattle.machine.specs.Step.{fresh, instGood, instsGood, entriesBelow, withinLimits, clockOn, register, told, written, followed, timerReset, deliveredTo, timerRetimed, allRetimed, treeSet, cfgOf, moved, step, boardAfter}
 use Rattle.machine.specs.Refusals.{refusals, applies}
 use Rattle.machine.specs.Sound.{SoundPads, Sound, Held, Elsewhere}
-use Rattle.machine.proofs.NumberLaws.{Verdict, refuses, passes, answered, step-given, performed, performed-served, no-both, here, set-up-within}
-use Rattle.machine.proofs.Routing.{either, unwired, unwired-pins, all-alike, idle-length, sound-outputs, sound-set, sound-drive, SparesAll, held-refl, held-trans, held-set, held-drive, held-outputs}
+use Rattle.machine.specs.Sockets.{Sockets, OneSocket}
+use Rattle.machine.proofs.NumberLaws.{Verdict, refuses, passes, answered, step-given, performed, performed-served, no-both, here, set-up-within, socket-free}
+use Rattle.machine.proofs.Routing.{either, SameSigs, sigs-outputs, sigs-drive, sigs-set, not-taken, unwired, all-alike, idle-length, none-selected, sound-outputs, sound-set, sound-drive, pins-reset, by-test, SparesAll, held-refl, held-trans, held-set, held-drive, held-outputs}
 
 -- ---- a timer keeps its place in the chip
 
@@ -178,20 +180,35 @@ inst-applied t (Compare ch) at div = inst-compared t ch
 
 -- ---- a board with one thing another
 
-sound-pads : (b : Board) (p : Pads) → Sound b → SoundPads p → Sound (withPads b p)
-sound-pads b p h k = record { timers = h .timers; few-timers = h .few-timers; few-pins = h .few-pins; distinct = h .distinct; channels = h .channels; pads = k }
+-- no pin from n on selected a signal
+abbrev Beyond : ℕ → Pads → Type 0
+Beyond n p = (i : ℕ) → n ≤ i → gpioAt p i .sig ≡ 0
+
+beyond-on : (n : ℕ) (p q : Pads) → SameSigs p q → Beyond n p → Beyond n q
+beyond-on n p q e h i l = e i ∙ h i l
+
+sound-pads : (b : Board) (p : Pads) → Sound b → Beyond (b .counts .pins) p → SoundPads p → Sound (withPads b p)
+sound-pads b p h far k = record {
+  timers = h .timers;
+  few-timers = h .few-timers;
+  few-pins = h .few-pins;
+  distinct = h .distinct;
+  channels = h .channels;
+  beyond = far;
+  pads = k;
+}
 
 sound-nvic : (b : Board) (n : Nvic) → Sound b → Sound (withNvic b n)
-sound-nvic b n h = record { timers = h .timers; few-timers = h .few-timers; few-pins = h .few-pins; distinct = h .distinct; channels = h .channels; pads = h .pads }
+sound-nvic b n h = record { timers = h .timers; few-timers = h .few-timers; few-pins = h .few-pins; distinct = h .distinct; channels = h .channels; beyond = h .beyond; pads = h .pads }
 
 sound-booking : (b : Board) (m : List ℕ) → Sound b → Sound (withBooking b m)
-sound-booking b m h = record { timers = h .timers; few-timers = h .few-timers; few-pins = h .few-pins; distinct = h .distinct; channels = h .channels; pads = h .pads }
+sound-booking b m h = record { timers = h .timers; few-timers = h .few-timers; few-pins = h .few-pins; distinct = h .distinct; channels = h .channels; beyond = h .beyond; pads = h .pads }
 
 sound-clocks : (b : Board) (c : Clocks) → Sound b → Sound (withClocks b c)
-sound-clocks b c h = record { timers = h .timers; few-timers = h .few-timers; few-pins = h .few-pins; distinct = h .distinct; channels = h .channels; pads = h .pads }
+sound-clocks b c h = record { timers = h .timers; few-timers = h .few-timers; few-pins = h .few-pins; distinct = h .distinct; channels = h .channels; beyond = h .beyond; pads = h .pads }
 
 sound-last : (b : Board) (cycle : ℕ) → Sound b → Sound (withLast b cycle)
-sound-last b cycle h = record { timers = h .timers; few-timers = h .few-timers; few-pins = h .few-pins; distinct = h .distinct; channels = h .channels; pads = h .pads }
+sound-last b cycle h = record { timers = h .timers; few-timers = h .few-timers; few-pins = h .few-pins; distinct = h .distinct; channels = h .channels; beyond = h .beyond; pads = h .pads }
 
 same-insts : (b : Board) (i : ℕ) (t : Timer) → t .inst ≡ timerAt b i .inst → (j : ℕ) → timerAt (withTimer b i t) j .inst ≡ timerAt b j .inst
 same-insts b i t e j =
@@ -207,6 +224,7 @@ sound-timer b i t e h = record {
   distinct = λ j k a c z.
       h .distinct j k a c (sym (ap (λ (x : Inst). x .n) (same-insts b i t e j)) ∙ (z ∙ ap (λ (x : Inst). x .n) (same-insts b i t e k)));
   channels = λ j a. omega (arith, ap (λ (x : Inst). x .channels) (same-insts b i t e j), h .channels j a);
+  beyond = h .beyond;
   pads = h .pads;
 }
 
@@ -265,10 +283,23 @@ fresh-inst (x ∷ xs) rest (suc i) a = fresh-inst xs rest i (le-of-suc-le-suc a)
 filled-length : {A : Type 0} (n : ℕ) (x : A) (xs : List A) → length xs ≤ n → length (filled n x xs) ≡ n
 filled-length n x xs h = simp (length-append, length-replicate) (omega arith)
 
-pub sound-fresh : (hz vcc : Float) (pins lines : ℕ) (is : List Inst) (table : List ℕ) → length is ≤ 8 → pins ≤ 128 → instsGood is ≡ true
+-- "signal table of .. entries below 256", filled up with 0
+table-small : (table : List ℕ) (n k : ℕ) → entriesBelow 256 table ≡ true → getD (table ++ replicate n 0) k 0 < 256
+unfolding entriesBelow
+table-small [] n k h = rw (all-alike n k 0) (lit< tt)
+table-small (x ∷ xs) n zero h = ltb-true x 256 (and-left (ltb x 256) (entriesBelow 256 xs) h)
+table-small (x ∷ xs) n (suc k) h = table-small xs n k (and-right (ltb x 256) (entriesBelow 256 xs) h)
+
+-- each of the 128 pins is blank, and past them stands one without a signal
+blank-sig : (n i : ℕ) → getD (replicate n blankGpio) i noGpio .sig ≡ 0
+blank-sig zero i = refl
+blank-sig (suc n) zero = refl
+blank-sig (suc n) (suc i) = blank-sig n i
+
+pub sound-fresh : (hz vcc : Float) (pins lines : ℕ) (is : List Inst) (table : List ℕ) → length is ≤ 8 → pins ≤ 128 → instsGood is ≡ true → entriesBelow 256 table ≡ true
     → Sound (freshBoard hz vcc pins lines is table)
 unfolding freshBoard
-sound-fresh hz vcc pins lines is table few small good = record {
+sound-fresh hz vcc pins lines is table few small good below = record {
   timers = filled-length 8 noTimer (started is) (rw (length-map is (λ (i : Inst). C.resetState i 1)) few);
   few-timers = few;
   few-pins = small;
@@ -276,31 +307,41 @@ sound-fresh hz vcc pins lines is table few small good = record {
       insts-distinct is good i j a b
       (sym (ap (λ (x : Inst). x .n) (fresh-inst is _ i a)) ∙ (e ∙ ap (λ (x : Inst). x .n) (fresh-inst is _ j b)));
   channels = λ i a. subst (λ (x : Inst). x .channels ≤ 4) (sym (fresh-inst is _ i a)) (insts-channels is good i a);
-  pads = unwired _ (length-replicate 128 blankGpio) (length-replicate 256 noPin) (idle-length 0 256) (λ s. all-alike 256 s noPin) .sound;
+  beyond = λ i l. blank-sig 128 i;
+  pads = unwired _
+      (record {
+        gpios = length-replicate 128 blankGpio;
+        routes = length-replicate 256 noPin;
+        levels = idle-length 0 256;
+        table = λ k. table-small table (2048 - length table) k below;
+        nowhere = λ s. all-alike 256 s noPin;
+      })
+      (λ i. blank-sig 128 i);
 }
 
 pub sound-first : Sound firstBoard
-unfolding instsGood
-sound-first = sound-fresh one one 0 0 [] [] (omega arith) (omega arith) refl
+unfolding instsGood entriesBelow
+sound-first = sound-fresh one one 0 0 [] [] (omega arith) (omega arith) refl refl
 
--- of nine tests that hold, the second, the fourth and the sixth
-picked : (a b c d e f g h i : Bool) → (a && b && c && d && e && f && g && h && i) ≡ true → (b ≡ true) × (d ≡ true) × (f ≡ true)
+-- of nine tests that hold, the second, the fourth, the sixth and the last
+picked : (a b c d e f g h i : Bool) → (a && b && c && d && e && f && g && h && i) ≡ true → (b ≡ true) × (d ≡ true) × (f ≡ true) × (i ≡ true)
 picked a b c d e f g h i z =
     let u : (a && b && c && d && e && f) ≡ true = and-left _ g (and-left _ h (and-left (a && b && c && d && e && f && g && h) i z)) in
     let v : (a && b && c && d) ≡ true = and-left _ e (and-left (a && b && c && d && e) f u) in
-    (and-right a b (and-left _ c (and-left (a && b && c) d v)), and-right (a && b && c) d v, and-right (a && b && c && d && e) f u)
+    (and-right a b (and-left _ c (and-left (a && b && c) d v)), and-right (a && b && c) d v, and-right (a && b && c && d && e) f u, and-right (a && b && c && d && e && f && g && h) i z)
 
 -- what set-up's limits say
 pub record Limits (s : Setup) : Type 0 where
   pub few : length (s .timers) ≤ 8
   pub small : s .pins ≤ 128
   pub apart : instsGood (s .timers) ≡ true
+  pub below : entriesBelow 256 (s .table) ≡ true
 
 limits : (s : Setup) → withinLimits s ≡ true → Limits s
 unfolding withinLimits
 limits s h =
     let p = picked (leb 1 (length (s .timers))) (leb (length (s .timers)) 8) (leb 1 (s .pins)) (leb (s .pins) 128) (leb (s .lines) 256) (instsGood (s .timers)) _ _ _ h in
-    record { few = leb-true _ 8 (p .0); small = leb-true _ 128 (p .1); apart = p .2 }
+    record { few = leb-true _ 8 (p .0); small = leb-true _ 128 (p .1); apart = p .2; below = p .3 }
 
 -- ---- each call
 
@@ -315,7 +356,9 @@ sound-followed b i cycle w e h =
     let p = cond (w .drive) (d .pads) (b .pads) in
     let c = withPads (withTimer b i t) p in
     let hp : SoundPads p = either SoundPads (w .drive) (sound-outputs t (w .cnt) (b .pads) (h .pads)) (h .pads) in
-    let hc : Sound c = sound-pads (withTimer b i t) p (sound-timer b i t e h) hp in
+    let far : Beyond (b .counts .pins) p =
+    either (Beyond (b .counts .pins)) (w .drive) (beyond-on (b .counts .pins) (b .pads) (d .pads) (sigs-outputs t (w .cnt) (b .pads)) (h .beyond)) (h .beyond) in
+    let hc : Sound c = sound-pads (withTimer b i t) p (sound-timer b i t e h) far hp in
     let l = cond (w .line) (lineSettled t c) c in
     let hl : Sound l = either Sound (w .line) (sound-nvic c _ hc) hc in
     sound-last (cond (w .book) (rebooked i t cycle l) l) cycle (either Sound (w .book) (sound-booking l _ hl) hl)
@@ -326,7 +369,8 @@ sound-reset b i cycle h =
     let t = C.resetState (timerAt b i .inst) (dividerOf b (timerAt b i)) in
     let d = Sys.driveOutputs t 0 (b .pads) in
     let hc : Sound (withPads (withTimer b i t) (d .pads)) =
-    sound-pads (withTimer b i t) (d .pads) (sound-timer b i t (inst-reset (timerAt b i .inst) (dividerOf b (timerAt b i))) h) (sound-outputs t 0 (b .pads) (h .pads)) in
+    sound-pads (withTimer b i t) (d .pads) (sound-timer b i t (inst-reset (timerAt b i .inst) (dividerOf b (timerAt b i))) h)
+    (beyond-on (b .counts .pins) (b .pads) (d .pads) (sigs-outputs t 0 (b .pads)) (h .beyond)) (sound-outputs t 0 (b .pads) (h .pads)) in
     sound-last _ cycle (sound-booking _ _ (sound-nvic _ _ hc))
 
 -- a delivery
@@ -355,15 +399,33 @@ run-good (suc n) now div left i t p h =
     let r = run-good n now div (left - length (s .entries)) i (s .timer) (s .pads) (turn-of-good i t p (nextEvent t) div h) in
     either (Ran i) (dueBy (nextEvent t) now) (either (Ran i) (ltb left 4) h (record { inst = r .inst; pads = r .pads })) h
 
-sound-settled : (b : Board) (i now : ℕ) (t : Timer) (p : Pads) → Turned (timerAt b i .inst) t p → Sound b → Sound (afterDelivery b i now t p)
+-- and its events leave the pins' signals
+sigs-turn : (t : Timer) (p : Pads) (d : Due) (div : ℕ) → SameSigs p (turnOf t p d div .pads)
+unfolding turn
+sigs-turn t p (At at e) div i = sigs-outputs (applied t e at div) (countAt (applied t e at div) e) p i
+sigs-turn t p Stopped div i = refl
+
+sigs-run : (n now div left : ℕ) (t : Timer) (p : Pads) → SameSigs p (D.handled n now div left t p .pads)
+unfolding D.handled
+sigs-run zero now div left t p i = refl
+sigs-run (suc n) now div left t p i =
+    let s = turnOf t p (nextEvent t) div in
+    let P : Run → Type 0 = λ r. gpioAt (r .pads) i .sig ≡ gpioAt p i .sig in
+    either P (dueBy (nextEvent t) now)
+    (either P (ltb left 4) refl (sigs-run n now div (left - length (s .entries)) (s .timer) (s .pads) i ∙ sigs-turn t p (nextEvent t) div i)) refl
+
+sound-settled : (b : Board) (i now : ℕ) (t : Timer) (p : Pads) → Turned (timerAt b i .inst) t p → SameSigs (b .pads) p → Sound b → Sound (afterDelivery b i now t p)
 unfolding afterDelivery rebooked lineSettled
-sound-settled b i now t p k h = sound-booking _ _ (sound-nvic _ _ (sound-pads (withTimer b i t) p (sound-timer b i t (k .inst) h) (k .pads)))
+sound-settled b i now t p k e h =
+    sound-booking _ _ (sound-nvic _ _
+    (sound-pads (withTimer b i t) p (sound-timer b i t (k .inst) h) (beyond-on (b .counts .pins) (b .pads) p e (h .beyond)) (k .pads)))
 
 sound-delivered : (b : Board) (i cycle places : ℕ) → Sound b → Good (deliveredTo b i cycle places)
 unfolding deliveredTo delivered
 sound-delivered b i cycle places h =
     let r = run-good mostEvents cycle (dividerOf b (timerAt b i)) places (timerAt b i .inst) (timerAt b i) (b .pads) (record { inst = refl; pads = h .pads }) in
-    sound-last _ cycle (sound-settled b i cycle _ _ r h)
+    sound-last _ cycle
+    (sound-settled b i cycle _ _ r (sigs-run mostEvents cycle (dividerOf b (timerAt b i)) places (timerAt b i) (b .pads)) h)
 
 -- the clock tree
 sound-retimed : (i cycle : ℕ) (b : Board) → Sound b → Sound (timerRetimed i cycle b)
@@ -384,21 +446,31 @@ sound-tree b t cycle h =
     let k = sound-clocks b _ h in
     either Sound (differing (b .clocks .tree) t) (sound-all-retimed (b .counts .timers) 0 cycle _ k) k
 
+-- a pin set
+sound-set-pin : (b : Board) (q : ℕ) (c : PinCfg) (f : ℕ) → q < b .counts .pins → Sys.taken (b .pads) q (Sys.selected (b .pads) q c f) ≡ false
+    → Sound b → Sound (withPads b (Sys.setPin (b .pads) q c f .pads))
+sound-set-pin b q c f there free h =
+    sound-pads b _ h (λ i l. sigs-set (b .pads) q c f i (λ z. omega (arith, z)) ∙ h .beyond i l) (sound-set (b .pads) q c f (h .pads) free)
+
 -- a call that is not refused
 sound-performed : (b : Board) (c : Call) → Sound b → applies (refusals b c) ≡ false → Good (performed b c)
 unfolding performed refusals
 sound-performed b (setUp s) h a =
     let l = limits s (set-up-within b s a) in
-    sound-fresh (s .hz) (s .vcc) (s .pins) (s .lines) (s .timers) (s .table) (l .few) (l .small) (l .apart)
+    sound-fresh (s .hz) (s .vcc) (s .pins) (s .lines) (s .timers) (s .table) (l .few) (l .small) (l .apart) (l .below)
 sound-performed b (clockTree t cycle) h a = sound-last _ cycle (sound-tree b t cycle h)
 sound-performed b (enable word value) h a = sound-clocks b _ h
 sound-performed b (clearPending irq) h a = sound-nvic b _ h
 sound-performed b (ask q) h a = h
 sound-performed b (lend (pinSetting pin mode od out pu pd f) cycle places) h a =
-    sound-last _ cycle (sound-pads b _ h (sound-set (b .pads) pin (cfgOf mode od out pu pd) f (h .pads)))
-sound-performed b (lend (outsideDrive pin e) cycle places) h a = sound-last _ cycle (sound-pads b _ h (sound-drive (b .pads) pin e (h .pads)))
+    sound-last _ cycle
+    (sound-set-pin b pin (cfgOf mode od out pu pd) f (here pin (b .counts .pins) _ a) (socket-free b pin mode od out pu pd f cycle places a) h)
+sound-performed b (lend (outsideDrive pin e) cycle places) h a =
+    sound-last _ cycle
+    (sound-pads b _ h (beyond-on (b .counts .pins) (b .pads) (Sys.drivePin (b .pads) pin e .pads) (sigs-drive (b .pads) pin e) (h .beyond)) (sound-drive (b .pads) pin e (h .pads)))
 sound-performed b (lend pinReset cycle places) h a =
-    sound-last _ cycle (sound-pads b _ h (unwired-pins (b .pads) (b .counts .pins) (h .pads) .sound))
+    sound-last _ cycle
+    (sound-pads b _ h (λ i l. none-selected (b .pads) (b .counts .pins) (h .beyond) i) (pins-reset (b .pads) (b .counts .pins) (h .pads) (h .beyond)))
 sound-performed b (lend (writing timer offset size value) cycle places) h a =
     either Good (clockOn b (timerAt b timer))
     (sound-followed b timer cycle (written b (timerAt b timer) offset size value cycle) (inst-written b (timerAt b timer) offset size value cycle) h)
@@ -420,6 +492,24 @@ sound-run b (c ∷ cs) h = sound-run (step b c .board) cs (sound-step b c h)
 
 pub sound-after : (cs : List Call) → Sound (boardAfter firstBoard cs)
 sound-after cs = sound-run firstBoard cs sound-first
+
+-- ---- one channel, one socket
+
+-- a pin that follows a signal selected it
+selects : (g : Gpio) → (signalOf g ≡ 0 → ⊥) → signalOf g ≡ g .sig
+selects g = by-test (λ (s : ℕ). (s ≡ 0 → ⊥) → s ≡ g .sig) (eqb (g .cfg .mode) alternateMode) (λ t z. refl) (λ t z. absurd (z refl))
+
+pub sockets : (pads : Pads) → SoundPads pads → Sockets pads
+sockets pads h = record { selected-routes = routes; one-pin = λ p q z e. sym (routes p z) ∙ (ap (λ (s : ℕ). routeOf pads s) e ∙ routes q (λ y. z (e ∙ y))) }
+  where
+    routes : (p : ℕ) → (signalOf (gpioAt pads p) ≡ 0 → ⊥) → routeOf pads (signalOf (gpioAt pads p)) ≡ p
+    routes p z =
+        let e = selects (gpioAt pads p) z in
+        ap (λ (s : ℕ). routeOf pads s) e ∙ h .owns p (λ y. z (e ∙ y))
+
+-- "a pin in alternate mode with a non-zero signal selected routes it", so two pins never select one signal, on every board that calls lead to
+pub one-socket : OneSocket
+one-socket cs = sockets (boardAfter firstBoard cs .pads) (sound-after cs .pads)
 
 -- ---- what a call leaves alone of a pilot
 
@@ -647,10 +737,13 @@ module _ (b : Board) (i ch s p : ℕ) (w : Wired b i ch s p) where
   frame-last : (cycle : ℕ) → Rest i s p b (record { number = 0; value = 0; entries = []; board = withLast b cycle })
   frame-last cycle = record { past = past-last i s p b b cycle (past-refl i s p b); spared = tt }
 
-  rest-set : (q mode od out pu pd f cycle : ℕ) → (q ≡ p → ⊥) → (Sys.selected (b .pads) q (cfgOf mode od out pu pd) f ≡ s → ⊥)
+  -- another pin set: the channel's signal is taken, so it is set to another
+  rest-set : (q mode od out pu pd f cycle : ℕ) → (q ≡ p → ⊥) → Sys.taken (b .pads) q (Sys.selected (b .pads) q (cfgOf mode od out pu pd) f) ≡ false
       → Rest i s p b (moved b cycle (Sys.setPin (b .pads) q (cfgOf mode od out pu pd) f))
-  rest-set q mode od out pu pd f cycle ne free =
+  rest-set q mode od out pu pd f cycle ne untaken =
       let m = Sys.setPin (b .pads) q (cfgOf mode od out pu pd) f in
+      let free : Sys.selected (b .pads) q (cfgOf mode od out pu pd) f ≡ s → ⊥ = λ z.
+      not-taken (b .pads) q p s (sym (ap (λ (x : ℕ). Sys.taken (b .pads) q x) z) ∙ untaken) (λ y. omega (arith, w .signal, y)) (w .route) (w .pin) (λ y. ne (sym y)) in
       let k = held-set (b .pads) s p q (cfgOf mode od out pu pd) f (w .route) ne free in
       record { past = past-last i s p b (withPads b (m .pads)) cycle (past-pads i s p b (m .pads) (k .held)); spared = spared-entry p cycle (m .change) (k .elsewhere) }
 
@@ -732,7 +825,7 @@ Leaves i p s b (clockTree _ _) = ⊥
 Leaves i p s b (enable _ _) = Unit {0}
 Leaves i p s b (clearPending _) = Unit {0}
 Leaves i p s b (ask _) = Unit {0}
-Leaves i p s b (lend (pinSetting q mode od out pu pd f) _ _) = (q ≡ p → ⊥) × (Sys.selected (b .pads) q (cfgOf mode od out pu pd) f ≡ s → ⊥)
+Leaves i p s b (lend (pinSetting q mode od out pu pd f) _ _) = q ≡ p → ⊥
 Leaves i p s b (lend (outsideDrive _ _) _ _) = Unit {0}
 Leaves i p s b (lend pinReset _ _) = ⊥
 Leaves i p s b (lend (writing j offset size value) _ _) =
@@ -748,7 +841,8 @@ frame-performed b i ch s p w (enable word value) h a =
     let k = past-refl i s p b in record { past = record { held = k .held; timer = k .timer; tree = refl; timers = refl }; spared = tt }
 frame-performed b i ch s p w (clearPending irq) h a = record { past = past-nvic i s p b b _ (past-refl i s p b); spared = tt }
 frame-performed b i ch s p w (ask q) h a = rest-still i s p b 0 (told b q)
-frame-performed b i ch s p w (lend (pinSetting q mode od out pu pd f) cycle places) h a = rest-set b i ch s p w q mode od out pu pd f cycle (h .0) (h .1)
+frame-performed b i ch s p w (lend (pinSetting q mode od out pu pd f) cycle places) h a =
+    rest-set b i ch s p w q mode od out pu pd f cycle h (socket-free b q mode od out pu pd f cycle places a)
 frame-performed b i ch s p w (lend (outsideDrive q e) cycle places) h a = rest-drive b i ch s p w q e cycle
 frame-performed b i ch s p w (lend pinReset cycle places) h a = absurd h
 frame-performed b i ch s p w (lend (writing j offset size value) cycle places) h a =

@@ -1,13 +1,14 @@
 -- The pads: what an act on them leaves alone of a signal and the pin that routes it, and what keeps them sound. Assumes nothing.
 use mathlib.Core.Path.{_≡_, refl, sym, ap, _∙_}
-use mathlib.Core.Bool.{Bool, true, false, cond}
+use mathlib.Core.Bool.{Bool, true, false, cond, not, _&&_, false≢true}
+use mathlib.Core.List.{List}
 use Prim.Native.Nat.{ℕ, zero, suc, _+_, _≤_, _<_}
 use native.Mathlib.Omega.{arith}
 use lib.Dec.{eqb, ltb}
 use lib.Ieee.{Float}
-use lib.ListN.{getD, length, replicate, length-set, length-replicate, List·getD-eq-default}
-use lib.Seq.{getD-set-same, getD-set-other}
-use borrow.Author.Tests.{eqb-true, eqb-false, eq-eqb, ltb-true, ltb-false}
+use lib.ListN.{getD, set, length, replicate, length-set, length-replicate, List·getD-eq-default, List·getD-map}
+use lib.Seq.{getD-set-same, getD-set-other, map-set-same}
+use borrow.Author.Tests.{eqb-true, eqb-false, eq-eqb, ne-eqb, ltb-true, ltb-false}
 use Rattle.pins.specs.declared.Pin.{Pin}
 use Rattle.pins.specs.declared.Mcu.{Mcu}
 use Rattle.pins.specs.declared.ExtDrive.{ExtDrive}
@@ -21,9 +22,10 @@ use Rattle.sig.specs.Signal.{timSignal}
 use Rattle.gpio.specs.declared.Change.{Change}
 use Rattle.gpio.specs.declared.Change.the-variants.{Same}
 use Rattle.gpio.specs.Gpio.{drives, signalSide, sideOf, signalOf, alternateMode, withMcu, changed, updated, refreshed, configured, connected}
-use Rattle.machine.specs.Board.{Pads, gpioAt, routeOf, levelOf, withGpio, withRoute, withSigLevel, noPin, noGpio, idleLevels}
-use Rattle.machine.specs.Sys.{Move, Drive, updatePin, refreshPin, leave, take, selected, selectAf, sigOut, driveChannel, driver, driveOutputs, setPin, drivePin, unrouted, resetPin, resetFrom, resetPins}
+use Rattle.machine.specs.Board.{Pads, gpioAt, routeOf, levelOf, withGpio, withRoute, withSigLevel, noPin, noGpio, plainCfg, idleLevels}
+use Rattle.machine.specs.Sys.{Move, Drive, updatePin, refreshPin, leave, take, selected, taken, selectAf, sigOut, driveChannel, driver, driveOutputs, setPin, drivePin, unrouted, resetPin, resetFrom, resetPins}
 use Rattle.machine.specs.Sound.{Routed, SoundPads, Held, Elsewhere}
+use Rattle.machine.proofs.PinLaws.{select-gpio}
 
 -- what holds of both arms holds of either
 pub either : {A : Type 0} (P : A → Type 0) (b : Bool) {x y : A} → P x → P y → P (cond b x y)
@@ -89,6 +91,74 @@ updated-level : (i : ℕ) (g : Gpio) (vcc : Float) (l : ℕ) → updated i g vcc
 unfolding updated
 updated-level i g vcc l e = rw e
 
+-- ---- the signals that pins selected
+
+updated-sig : (i : ℕ) (g : Gpio) (vcc : Float) → updated i g vcc .gpio .sig ≡ g .sig
+unfolding updated
+updated-sig i g vcc = refl
+
+refreshed-sig : (i : ℕ) (g : Gpio) (l : ℕ) (vcc : Float) → refreshed i g l vcc .gpio .sig ≡ g .sig
+unfolding refreshed
+refreshed-sig i g l vcc = updated-sig i (withMcu g (sideOf g l)) vcc
+
+-- each pin keeps its signal
+abbrev pub SameSigs : Pads → Pads → Type 0
+SameSigs a b = (p : ℕ) → gpioAt b p .sig ≡ gpioAt a p .sig
+
+sigs-put : (pads : Pads) (q : ℕ) (g : Gpio) → g .sig ≡ gpioAt pads q .sig → SameSigs pads (withGpio pads q g)
+sigs-put pads q g e p =
+    sym (List·getD-map (λ (x : Gpio). x .sig) (set (pads .gpio) q g) p noGpio)
+    ∙ (ap (λ (l : List ℕ). getD l p 0) (map-set-same (λ (x : Gpio). x .sig) (pads .gpio) q g noGpio e)
+    ∙ List·getD-map (λ (x : Gpio). x .sig) (pads .gpio) p noGpio)
+
+sigs-refresh : (pads : Pads) (q : ℕ) → SameSigs pads (refreshPin pads q .pads)
+unfolding refreshPin
+sigs-refresh pads q = sigs-put pads q _ (refreshed-sig q (gpioAt pads q) _ (pads .vcc))
+
+pub sigs-drive : (pads : Pads) (q : ℕ) (e : ExtDrive) → SameSigs pads (drivePin pads q e .pads)
+unfolding drivePin updatePin
+sigs-drive pads q e p =
+    let x = withGpio pads q (connected (gpioAt pads q) e) in
+    sigs-put x q _ (updated-sig q (gpioAt x q) (pads .vcc)) p ∙ sigs-put pads q (connected (gpioAt pads q) e) refl p
+
+sigs-out : (pads : Pads) (s l : ℕ) → SameSigs pads (sigOut pads s l .pads)
+unfolding sigOut
+sigs-out pads s l p =
+    let P : Move → Type 0 = λ m. gpioAt (m .pads) p .sig ≡ gpioAt pads p .sig in
+    either P (eqb (levelOf pads s) l) refl
+    (either P (eqb (routeOf pads s) noPin) refl (sigs-refresh (withSigLevel pads s l) (routeOf pads s) p))
+
+sigs-channel : (t : Timer) (cnt ch : ℕ) (pads : Pads) → SameSigs pads (driveChannel t cnt ch pads .pads)
+unfolding driveChannel
+sigs-channel t cnt ch pads p =
+    either (λ (m : Move). gpioAt (m .pads) p .sig ≡ gpioAt pads p .sig) (ltb ch (t .inst .channels)) (sigs-out pads (timSignal (t .inst .n) ch) _ p) refl
+
+pub sigs-outputs : (t : Timer) (cnt : ℕ) (pads : Pads) → SameSigs pads (driveOutputs t cnt pads .pads)
+unfolding driveOutputs
+sigs-outputs t cnt pads p =
+    let a = driveChannel t cnt 0 pads .pads in
+    let b = driveChannel t cnt 1 a .pads in
+    let c = driveChannel t cnt 2 b .pads in
+    either (λ (m : Drive). gpioAt (m .pads) p .sig ≡ gpioAt pads p .sig) (driver (t .inst .n))
+    (sigs-channel t cnt 3 c p ∙ (sigs-channel t cnt 2 b p ∙ (sigs-channel t cnt 1 a p ∙ sigs-channel t cnt 0 pads p))) refl
+
+-- a pin that selected a signal is one of the 128: past them stands one that has none
+pub selecting-pin : (pads : Pads) (p : ℕ) → length (pads .gpio) ≡ 128 → (gpioAt pads p .sig ≡ 0 → ⊥) → p < 128
+selecting-pin pads p l z = go (ltb p 128) refl
+  where
+    go : (t : Bool) → ltb p 128 ≡ t → p < 128
+    go true e = ltb-true p 128 e
+    go false e = absurd (z (ap (λ (g : Gpio). g .sig) (List·getD-eq-default (pads .gpio) noGpio (omega (arith, ltb-false p 128 e)))))
+
+-- each pin that selected a signal routes it
+abbrev Owns : Pads → Type 0
+Owns pads = (p : ℕ) → (gpioAt pads p .sig ≡ 0 → ⊥) → routeOf pads (gpioAt pads p .sig) ≡ p
+
+-- as long as routes and signals stay
+owns-on : (a b : Pads) → b .route ≡ a .route → SameSigs a b → Owns a → Owns b
+owns-on a b r e h p z =
+    ap (λ (l : List ℕ). getD l (gpioAt b p .sig) noPin) r ∙ (ap (λ (s : ℕ). routeOf a s) (e p) ∙ h p (λ y. z (e p ∙ y)))
+
 -- ---- soundness
 
 -- Routed, by the pin and the level
@@ -108,8 +178,10 @@ pub record Loose (q : ℕ) (pads : Pads) : Type 0 where
   pub gpios : length (pads .gpio) ≡ 128
   pub routes : length (pads .route) ≡ 256
   pub levels : length (pads .sigLevel) ≡ 256
+  pub table : (k : ℕ) → getD (pads .af) k 0 < 256
   pub none : routeOf pads 0 ≡ noPin
   pub routed : (s p : ℕ) → s < 256 → p < 128 → (p ≡ q → ⊥) → routeOf pads s ≡ p → Routed pads s p
+  pub owns : Owns pads
   pub mode : (s : ℕ) → s < 256 → q < 128 → routeOf pads s ≡ q → gpioAt pads q .cfg .mode ≡ alternateMode
   pub selects : (s : ℕ) → s < 256 → q < 128 → routeOf pads s ≡ q → gpioAt pads q .sig ≡ s
 
@@ -118,8 +190,10 @@ loose pads q h = record {
   gpios = h .gpios;
   routes = h .routes;
   levels = h .levels;
+  table = h .table;
   none = h .none;
   routed = λ s p a b _ e. h .routed s p a b e;
+  owns = h .owns;
   mode = λ s a b e. h .routed s q a b e .mode;
   selects = λ s a b e. h .routed s q a b e .selects;
 }
@@ -130,19 +204,23 @@ tight pads q h far = record {
   gpios = h .gpios;
   routes = h .routes;
   levels = h .levels;
+  table = h .table;
   none = h .none;
   routed = λ s p a b e. h .routed s p a b (λ z. omega arith) e;
+  owns = h .owns;
 }
 
--- pin q replaced by one that shows every signal routed to it
-place : (pads : Pads) (q : ℕ) (g : Gpio) → Loose q pads
+-- pin q replaced by one of the same signal that shows every signal routed to it
+place : (pads : Pads) (q : ℕ) (g : Gpio) → Loose q pads → g .sig ≡ gpioAt pads q .sig
     → ((s : ℕ) → s < 256 → q < 128 → routeOf pads s ≡ q → Showing g s (levelOf pads s)) → SoundPads (withGpio pads q g)
-place pads q g h own = record {
+place pads q g h same own = record {
   gpios = length-set (pads .gpio) q g ∙ h .gpios;
   routes = h .routes;
   levels = h .levels;
+  table = h .table;
   none = h .none;
   routed = λ s p a b e. go s p a b e (eqb p q) refl;
+  owns = owns-on pads (withGpio pads q g) refl (sigs-put pads q g same) (h .owns);
 }
   where
     go : (s p : ℕ) → s < 256 → p < 128 → routeOf pads s ≡ p → (t : Bool) → eqb p q ≡ t → Routed (withGpio pads q g) s p
@@ -157,13 +235,14 @@ place pads q g h own = record {
 pub sound-update : (pads : Pads) (q : ℕ) → SoundPads pads → SoundPads (updatePin pads q .pads)
 unfolding updatePin
 sound-update pads q h =
-    place pads q (updated q (gpioAt pads q) (pads .vcc) .gpio) (loose pads q h)
+    place pads q (updated q (gpioAt pads q) (pads .vcc) .gpio) (loose pads q h) (updated-sig q (gpioAt pads q) (pads .vcc))
     (λ s a b e. let r = h .routed s q a b e in updated-showing q (gpioAt pads q) (pads .vcc) s (levelOf pads s) (r .mode) (r .selects) (r .side))
 
 pub sound-refresh-loose : (pads : Pads) (q : ℕ) → Loose q pads → SoundPads (refreshPin pads q .pads)
 unfolding refreshPin
 sound-refresh-loose pads q h =
     place pads q (refreshed q (gpioAt pads q) (levelOf pads (signalOf (gpioAt pads q))) (pads .vcc) .gpio) h
+    (refreshed-sig q (gpioAt pads q) (levelOf pads (signalOf (gpioAt pads q))) (pads .vcc))
     (λ s a b e.
     rw (signal-of (gpioAt pads q) s (h .mode s a b e) (h .selects s a b e))
     (refreshed-showing q (gpioAt pads q) (pads .vcc) s (levelOf pads s) (h .mode s a b e) (h .selects s a b e)))
@@ -173,7 +252,7 @@ sound-refresh pads q h = sound-refresh-loose pads q (loose pads q h)
 
 pub sound-connected : (pads : Pads) (q : ℕ) (e : ExtDrive) → SoundPads pads → SoundPads (withGpio pads q (connected (gpioAt pads q) e))
 sound-connected pads q e h =
-    place pads q (connected (gpioAt pads q) e) (loose pads q h)
+    place pads q (connected (gpioAt pads q) e) (loose pads q h) refl
     (λ s a b r. let k = h .routed s q a b r in record { mode = k .mode; selects = k .selects; side = k .side; shows = k .shows })
 
 pub sound-drive : (pads : Pads) (q : ℕ) (e : ExtDrive) → SoundPads pads → SoundPads (drivePin pads q e .pads)
@@ -186,7 +265,9 @@ loose-level pads s l h = record {
   gpios = h .gpios;
   routes = h .routes;
   levels = length-set (pads .sigLevel) s l ∙ h .levels;
+  table = h .table;
   none = h .none;
+  owns = h .owns;
   routed = λ t p a b ne e.
       to-routed (withSigLevel pads s l) t p (gpioAt pads p) (levelOf pads t) refl
       (getD-set-other (pads .sigLevel) s t l 0 (λ z. ne (sym e ∙ ap (λ (x : ℕ). routeOf pads x) z)))
@@ -216,30 +297,55 @@ sound-outputs t cnt pads h =
 
 -- ---- a pin set
 
--- pin q selects the signal new, and no signal is routed to it yet
+-- pin q selects the signal new, which no other pin has selected, and no signal is routed to it yet
 record Freed (q new : ℕ) (pads : Pads) : Type 0 where
   gpios : length (pads .gpio) ≡ 128
   routes : length (pads .route) ≡ 256
   levels : length (pads .sigLevel) ≡ 256
+  table : (k : ℕ) → getD (pads .af) k 0 < 256
   none : routeOf pads 0 ≡ noPin
+  owns : (p : ℕ) → (p ≡ q → ⊥) → (gpioAt pads p .sig ≡ 0 → ⊥) → routeOf pads (gpioAt pads p .sig) ≡ p
+  apart : (p : ℕ) → (p ≡ q → ⊥) → (gpioAt pads p .sig ≡ 0 → ⊥) → gpioAt pads p .sig ≡ new → ⊥
   routed : (s p : ℕ) → s < 256 → p < 128 → (p ≡ q → ⊥) → routeOf pads s ≡ p → Routed pads s p
   free : (s : ℕ) → s < 256 → q < 128 → routeOf pads s ≡ q → ⊥
   mode : (new ≡ 0 → ⊥) → q < 128 → gpioAt pads q .cfg .mode ≡ alternateMode
   selects : q < 128 → gpioAt pads q .sig ≡ new
 
-module _ (pads : Pads) (q new : ℕ) (g : Gpio) (h : SoundPads pads) (m : (new ≡ 0 → ⊥) → g .cfg .mode ≡ alternateMode) (e : g .sig ≡ new) where
+-- a signal that another pin selected is taken
+taken-by : (pads : Pads) (q p s : ℕ) → (s ≡ 0 → ⊥) → routeOf pads s ≡ p → p < 128 → (p ≡ q → ⊥) → taken pads q s ≡ true
+taken-by pads q p s z r k ne = rw (ne-eqb s 0 z, ne-eqb (routeOf pads s) noPin (λ y. omega (arith, r, y)), ne-eqb (routeOf pads s) q (λ y. ne (sym r ∙ y)))
+
+pub not-taken : (pads : Pads) (q p s : ℕ) → taken pads q s ≡ false → (s ≡ 0 → ⊥) → routeOf pads s ≡ p → p < 128 → (p ≡ q → ⊥) → ⊥
+not-taken pads q p s free z r k ne = false≢true (sym free ∙ taken-by pads q p s z r k ne)
+
+module _ (pads : Pads) (q new : ℕ) (g : Gpio) (h : SoundPads pads) (m : (new ≡ 0 → ⊥) → g .cfg .mode ≡ alternateMode) (e : g .sig ≡ new) (untaken : taken pads q new ≡ false) where
   own-place : q < 128 → gpioAt (withGpio pads q g) q ≡ g
   own-place a = getD-set-same (pads .gpio) q g noGpio (omega (arith, h .gpios))
 
   others : (s p : ℕ) → s < 256 → p < 128 → (p ≡ q → ⊥) → routeOf pads s ≡ p → Showing (gpioAt (withGpio pads q g) p) s (levelOf pads s)
   others s p a b ne r = rw (getD-set-other (pads .gpio) q p g noGpio ne) (to-showing pads s p (h .routed s p a b r))
 
+  other-sig : (p : ℕ) → (p ≡ q → ⊥) → gpioAt (withGpio pads q g) p .sig ≡ gpioAt pads p .sig
+  other-sig p ne = ap (λ (x : Gpio). x .sig) (getD-set-other (pads .gpio) q p g noGpio ne)
+
+  other-owns : (p : ℕ) → (p ≡ q → ⊥) → (gpioAt (withGpio pads q g) p .sig ≡ 0 → ⊥) → routeOf pads (gpioAt (withGpio pads q g) p .sig) ≡ p
+  other-owns p ne z = let k = other-sig p ne in ap (λ (s : ℕ). routeOf pads s) k ∙ h .owns p (λ y. z (k ∙ y))
+
+  other-apart : (p : ℕ) → (p ≡ q → ⊥) → (gpioAt (withGpio pads q g) p .sig ≡ 0 → ⊥) → gpioAt (withGpio pads q g) p .sig ≡ new → ⊥
+  other-apart p ne z y =
+      let k = other-sig p ne in
+      not-taken pads q p new untaken (λ x. z (y ∙ x)) (ap (λ (s : ℕ). routeOf pads s) (sym y) ∙ other-owns p ne z)
+      (selecting-pin pads p (h .gpios) (λ x. z (k ∙ x))) ne
+
   keep : ((s : ℕ) → s < 256 → q < 128 → routeOf pads s ≡ q → ⊥) → Freed q new (withGpio pads q g)
   keep free = record {
     gpios = length-set (pads .gpio) q g ∙ h .gpios;
     routes = h .routes;
     levels = h .levels;
+    table = h .table;
     none = h .none;
+    owns = other-owns;
+    apart = other-apart;
     routed = λ s p a b ne r. to-routed (withGpio pads q g) s p _ (levelOf pads s) refl refl (others s p a b ne r);
     free = free;
     mode = λ z a. rw (own-place a) (m z);
@@ -261,12 +367,22 @@ module _ (pads : Pads) (q new : ℕ) (g : Gpio) (h : SoundPads pads) (m : (new �
   own-signal : (s : ℕ) → s < 256 → q < 128 → routeOf pads s ≡ q → s ≡ gpioAt pads q .sig
   own-signal s a b r = sym (h .routed s q a b r .selects)
 
-  cut : (gpioAt pads q .sig ≡ 0 → ⊥) → Freed q new (withRoute (withGpio pads q g) (gpioAt pads q .sig) noPin)
-  cut nz = record {
+  -- the route that goes is not another pin's
+  uncut-owns : (o : ℕ) → routeOf pads o ≡ q → (p : ℕ) → (p ≡ q → ⊥) → (gpioAt (withGpio pads q g) p .sig ≡ 0 → ⊥)
+      → routeOf (withRoute pads o noPin) (gpioAt (withGpio pads q g) p .sig) ≡ p
+  uncut-owns o r p ne z =
+      let k = other-owns p ne z in
+      getD-set-other (pads .route) o (gpioAt (withGpio pads q g) p .sig) noPin noPin (λ y. ne (sym k ∙ (ap (λ (s : ℕ). routeOf pads s) y ∙ r))) ∙ k
+
+  cut : (gpioAt pads q .sig ≡ 0 → ⊥) → routeOf pads (gpioAt pads q .sig) ≡ q → Freed q new (withRoute (withGpio pads q g) (gpioAt pads q .sig) noPin)
+  cut nz own = record {
     gpios = length-set (pads .gpio) q g ∙ h .gpios;
     routes = length-set (pads .route) (gpioAt pads q .sig) noPin ∙ h .routes;
     levels = h .levels;
+    table = h .table;
     none = getD-set-other (pads .route) (gpioAt pads q .sig) 0 noPin noPin (λ z. nz (sym z)) ∙ h .none;
+    owns = uncut-owns (gpioAt pads q .sig) own;
+    apart = other-apart;
     routed = λ s p a b ne r.
         to-routed (withRoute (withGpio pads q g) (gpioAt pads q .sig) noPin) s p _ (levelOf pads s) refl refl
         (others s p a b ne (uncut (gpioAt pads q .sig) s p a b r .1));
@@ -285,11 +401,11 @@ module _ (pads : Pads) (q new : ℕ) (g : Gpio) (h : SoundPads pads) (m : (new �
       let k : routeOf pads 0 ≡ q = rw z at r in
       omega (arith, k, h .none)))
       (λ t. by-test (Freed q new) (eqb (routeOf pads (gpioAt pads q .sig)) q)
-      (λ u. cut (eqb-false (gpioAt pads q .sig) 0 t))
+      (λ u. cut (eqb-false (gpioAt pads q .sig) 0 t) (eqb-true (routeOf pads (gpioAt pads q .sig)) q u))
       (λ u. keep (λ s a b r. eqb-false (routeOf pads (gpioAt pads q .sig)) q u (sym (ap (λ (x : ℕ). routeOf pads x) (own-signal s a b r)) ∙ r))))
 
 -- the signal taken
-module _ (pads : Pads) (q new : ℕ) (h : Freed q new pads) where
+module _ (pads : Pads) (q new : ℕ) (small : new < 256) (h : Freed q new pads) where
   untaken : (s : ℕ) → (s ≡ new → ⊥) → routeOf (withRoute pads new q) s ≡ routeOf pads s
   untaken s ne = getD-set-other (pads .route) new s q noPin ne
 
@@ -310,15 +426,40 @@ module _ (pads : Pads) (q new : ℕ) (h : Freed q new pads) where
       go true t = absurd (ne (sym r ∙ taken-one s a (eqb-true s new t)))
       go false t = sym (untaken s (eqb-false s new t)) ∙ r
 
-  taken : Loose q (take pads q new)
-  taken =
+  -- q routes what it selected, the others what they had
+  owner : (p : ℕ) → (gpioAt pads p .sig ≡ 0 → ⊥) → routeOf (withRoute pads new q) (gpioAt pads p .sig) ≡ p
+  owner p z = go (eqb p q) refl
+    where
+      go : (t : Bool) → eqb p q ≡ t → routeOf (withRoute pads new q) (gpioAt pads p .sig) ≡ p
+      go true t =
+          let e : p ≡ q = eqb-true p q t in
+          let own : gpioAt pads p .sig ≡ new = ap (λ (x : ℕ). gpioAt pads x .sig) e ∙ h .selects (omega (arith, e, selecting-pin pads p (h .gpios) z)) in
+          taken-one (gpioAt pads p .sig) (omega (arith, own)) own ∙ sym e
+      go false t =
+          let ne = eqb-false p q t in
+          untaken (gpioAt pads p .sig) (h .apart p ne z) ∙ h .owns p ne z
+
+  -- if it selected nothing, it owns nothing
+  ownless : new ≡ 0 → Owns pads
+  ownless n p z = go (eqb p q) refl
+    where
+      go : (t : Bool) → eqb p q ≡ t → routeOf pads (gpioAt pads p .sig) ≡ p
+      go true t =
+          let e : p ≡ q = eqb-true p q t in
+          absurd (z (ap (λ (x : ℕ). gpioAt pads x .sig) e ∙ (h .selects (omega (arith, e, selecting-pin pads p (h .gpios) z)) ∙ n)))
+      go false t = h .owns p (eqb-false p q t) z
+
+  took-it : Loose q (take pads q new)
+  took-it =
       by-test (Loose q) (eqb new 0)
       (λ t. record {
         gpios = h .gpios;
         routes = h .routes;
         levels = h .levels;
+        table = h .table;
         none = h .none;
         routed = h .routed;
+        owns = ownless (eqb-true new 0 t);
         mode = λ s a b r. absurd (h .free s a b r);
         selects = λ s a b r. absurd (h .free s a b r);
       })
@@ -326,7 +467,9 @@ module _ (pads : Pads) (q new : ℕ) (h : Freed q new pads) where
         gpios = h .gpios;
         routes = length-set (pads .route) new q ∙ h .routes;
         levels = h .levels;
+        table = h .table;
         none = untaken 0 (λ z. eqb-false new 0 t (sym z)) ∙ h .none;
+        owns = owner;
         routed = λ s p a b ne r.
             to-routed (withRoute pads new q) s p (gpioAt pads p) (levelOf pads s) refl refl
             (to-showing pads s p (h .routed s p a b ne (left-be s p a ne r)));
@@ -338,21 +481,36 @@ selected-mode : (pads : Pads) (q : ℕ) (c : PinCfg) (f : ℕ) → (selected pad
 selected-mode pads q c f =
     by-test (λ (x : ℕ). (x ≡ 0 → ⊥) → c .mode ≡ alternateMode) (eqb (c .mode) alternateMode) (λ t _. eqb-true (c .mode) alternateMode t) (λ t z. absurd (z refl))
 
-pub loose-select : (pads : Pads) (q : ℕ) (c : PinCfg) (f : ℕ) → SoundPads pads → Loose q (selectAf pads q c f)
-unfolding selectAf
-loose-select pads q c f h =
-    taken (leave (withGpio pads q (configured (gpioAt pads q) c (selected pads q c f))) q (gpioAt pads q .sig)) q (selected pads q c f)
-    (freed pads q (selected pads q c f) (configured (gpioAt pads q) c (selected pads q c f)) h (selected-mode pads q c f) refl)
+selected-small : (pads : Pads) (q : ℕ) (c : PinCfg) (f : ℕ) → SoundPads pads → selected pads q c f < 256
+selected-small pads q c f h = either (λ (s : ℕ). s < 256) (eqb (c .mode) alternateMode) (h .table _) (omega arith)
 
-pub sound-set : (pads : Pads) (q : ℕ) (c : PinCfg) (f : ℕ) → SoundPads pads → SoundPads (setPin pads q c f .pads)
+pub loose-select : (pads : Pads) (q : ℕ) (c : PinCfg) (f : ℕ) → SoundPads pads → taken pads q (selected pads q c f) ≡ false → Loose q (selectAf pads q c f)
+unfolding selectAf
+loose-select pads q c f h free =
+    took-it (leave (withGpio pads q (configured (gpioAt pads q) c (selected pads q c f))) q (gpioAt pads q .sig)) q (selected pads q c f)
+    (selected-small pads q c f h)
+    (freed pads q (selected pads q c f) (configured (gpioAt pads q) c (selected pads q c f)) h (selected-mode pads q c f) refl free)
+
+pub sound-set : (pads : Pads) (q : ℕ) (c : PinCfg) (f : ℕ) → SoundPads pads → taken pads q (selected pads q c f) ≡ false → SoundPads (setPin pads q c f .pads)
 unfolding setPin
-sound-set pads q c f h = sound-refresh-loose (selectAf pads q c f) q (loose-select pads q c f h)
+sound-set pads q c f h free = sound-refresh-loose (selectAf pads q c f) q (loose-select pads q c f h free)
+
+-- and the other pins keep their signals
+pub sigs-set : (pads : Pads) (q : ℕ) (c : PinCfg) (f p : ℕ) → (p ≡ q → ⊥) → gpioAt (setPin pads q c f .pads) p .sig ≡ gpioAt pads p .sig
+unfolding setPin
+sigs-set pads q c f p ne =
+    sigs-refresh (selectAf pads q c f) q p
+    ∙ (ap (λ (gs : List Gpio). getD gs p noGpio .sig) (select-gpio pads q c f)
+    ∙ ap (λ (x : Gpio). x .sig) (getD-set-other (pads .gpio) q p (configured (gpioAt pads q) c (selected pads q c f)) noGpio ne))
 
 -- ---- pin reset
 
--- no signal is routed
+-- pads of the right sizes, in which no signal is routed
 pub record Unwired (pads : Pads) : Type 0 where
-  pub sound : SoundPads pads
+  pub gpios : length (pads .gpio) ≡ 128
+  pub routes : length (pads .route) ≡ 256
+  pub levels : length (pads .sigLevel) ≡ 256
+  pub table : (k : ℕ) → getD (pads .af) k 0 < 256
   pub nowhere : (s : ℕ) → routeOf pads s ≡ noPin
 
 pub all-alike : (n s a : ℕ) → getD (replicate n a) s a ≡ a
@@ -365,41 +523,88 @@ unfolding idleLevels
 idle-length s zero = refl
 idle-length s (suc n) = ap suc (idle-length (s + 1) n)
 
--- pads of the right sizes with no routes
-pub unwired : (pads : Pads) → length (pads .gpio) ≡ 128 → length (pads .route) ≡ 256 → length (pads .sigLevel) ≡ 256
-    → ((s : ℕ) → routeOf pads s ≡ noPin) → Unwired pads
-unwired pads g r l n = record {
-  sound = record {
-    gpios = g;
-    routes = r;
-    levels = l;
-    none = n 0;
-    routed = λ s p a b e. absurd (omega (arith, n s, e));
-  };
-  nowhere = n;
+-- they are sound if no pin selected a signal
+pub unwired : (pads : Pads) → Unwired pads → ((p : ℕ) → gpioAt pads p .sig ≡ 0) → SoundPads pads
+unwired pads h none = record {
+  gpios = h .gpios;
+  routes = h .routes;
+  levels = h .levels;
+  table = h .table;
+  none = h .nowhere 0;
+  routed = λ s p a b e. absurd (omega (arith, h .nowhere s, e));
+  owns = λ p z. absurd (z (none p));
 }
 
-pub unwired-reset : (pads : Pads) → SoundPads pads → Unwired (unrouted pads)
+unwired-reset : (pads : Pads) → SoundPads pads → Unwired (unrouted pads)
 unfolding unrouted
-unwired-reset pads h =
-    unwired (unrouted pads) (h .gpios) (length-replicate 256 noPin) (idle-length 0 256) (λ s. all-alike 256 s noPin)
+unwired-reset pads h = record {
+  gpios = h .gpios;
+  routes = length-replicate 256 noPin;
+  levels = idle-length 0 256;
+  table = h .table;
+  nowhere = λ s. all-alike 256 s noPin;
+}
 
 unwired-pin : (pads : Pads) (i : ℕ) → Unwired pads → Unwired (resetPin pads i .pads)
 unfolding resetPin refreshPin
-unwired-pin pads i h =
-    unwired (resetPin pads i .pads) (simp length-set (h .sound .gpios)) (h .sound .routes) (h .sound .levels) (h .nowhere)
+unwired-pin pads i h = record {
+  gpios = simp length-set (h .gpios);
+  routes = h .routes;
+  levels = h .levels;
+  table = h .table;
+  nowhere = h .nowhere;
+}
 
-pub unwired-from : (n i : ℕ) (pads : Pads) → Unwired pads → Unwired (resetFrom n i pads .pads)
+unwired-from : (n i : ℕ) (pads : Pads) → Unwired pads → Unwired (resetFrom n i pads .pads)
 unfolding resetFrom
 unwired-from zero i pads h = h
 unwired-from (suc n) i pads h = unwired-from n (i + 1) (resetPin pads i .pads) (unwired-pin pads i h)
 
-pub unwired-pins : (pads : Pads) (pins : ℕ) → SoundPads pads → Unwired (resetPins pads pins .pads)
-unfolding resetPins
-unwired-pins pads pins h = unwired-from pins 0 (unrouted pads) (unwired-reset pads h)
+-- a pin that selects nothing in a place
+put-none : (pads : Pads) (i : ℕ) (g : Gpio) → g .sig ≡ 0 → gpioAt (withGpio pads i g) i .sig ≡ 0
+put-none pads i g e = go (ltb i (length (pads .gpio))) refl
+  where
+    go : (t : Bool) → ltb i (length (pads .gpio)) ≡ t → gpioAt (withGpio pads i g) i .sig ≡ 0
+    go true t = ap (λ (x : Gpio). x .sig) (getD-set-same (pads .gpio) i g noGpio (ltb-true _ _ t)) ∙ e
+    go false t =
+        ap (λ (x : Gpio). x .sig)
+        (List·getD-eq-default (set (pads .gpio) i g) noGpio (omega (arith, length-set (pads .gpio) i g, ltb-false i (length (pads .gpio)) t)))
 
-pub sound-reset : (pads : Pads) (pins : ℕ) → SoundPads pads → SoundPads (resetPins pads pins .pads)
-sound-reset pads pins h = unwired-pins pads pins h .sound
+reset-none : (pads : Pads) (i p : ℕ) → ((p ≡ i → ⊥) → gpioAt pads p .sig ≡ 0) → gpioAt (resetPin pads i .pads) p .sig ≡ 0
+unfolding resetPin
+reset-none pads i p h = go (eqb p i) refl
+  where
+    x : Pads
+    x = withGpio pads i (configured (gpioAt pads i) plainCfg 0)
+
+    go : (t : Bool) → eqb p i ≡ t → gpioAt (resetPin pads i .pads) p .sig ≡ 0
+    go true t = sigs-refresh x i p ∙ rw (eqb-true p i t) (put-none pads i (configured (gpioAt pads i) plainCfg 0) refl)
+    go false t =
+        let ne = eqb-false p i t in
+        sigs-refresh x i p ∙ (ap (λ (y : Gpio). y .sig) (getD-set-other (pads .gpio) i p (configured (gpioAt pads i) plainCfg 0) noGpio ne) ∙ h ne)
+
+-- n pins from i on reset: none has a signal, if no other had
+none-from : (n i : ℕ) (pads : Pads) → ((p : ℕ) → (i ≤ p → p < i + n → ⊥) → gpioAt pads p .sig ≡ 0) → (p : ℕ) → gpioAt (resetFrom n i pads .pads) p .sig ≡ 0
+unfolding resetFrom
+none-from zero i pads h p = h p (λ a b. omega arith)
+none-from (suc n) i pads h p =
+    none-from n (i + 1) (resetPin pads i .pads) (λ k out. reset-none pads i k (λ ne. h k (λ a b. out (omega arith) (omega arith)))) p
+
+-- "no routes .. and each pin an input again": no pin has a signal, if none beyond the board's pins had
+pub none-selected : (pads : Pads) (pins : ℕ) → ((p : ℕ) → pins ≤ p → gpioAt pads p .sig ≡ 0) → (p : ℕ) → gpioAt (resetPins pads pins .pads) p .sig ≡ 0
+unfolding resetPins unrouted
+none-selected pads pins h p = none-from pins 0 (unrouted pads) (λ k out. h k (beyond k out)) p
+  where
+    beyond : (k : ℕ) → (0 ≤ k → k < 0 + pins → ⊥) → pins ≤ k
+    beyond k out = go (ltb k pins) refl
+      where
+        go : (t : Bool) → ltb k pins ≡ t → pins ≤ k
+        go true t = absurd (out (omega arith) (omega (arith, ltb-true k pins t)))
+        go false t = ltb-false k pins t
+
+pub pins-reset : (pads : Pads) (pins : ℕ) → SoundPads pads → ((p : ℕ) → pins ≤ p → gpioAt pads p .sig ≡ 0) → SoundPads (resetPins pads pins .pads)
+unfolding resetPins
+pins-reset pads pins h beyond = unwired (resetPins pads pins .pads) (unwired-from pins 0 (unrouted pads) (unwired-reset pads h)) (none-selected pads pins beyond)
 
 -- ---- what is held
 
@@ -549,7 +754,7 @@ held-select pads s p q c f routes ne free =
     held-trans (held-trans (held-gpio pads s p q g ne) (held-leave (withGpio pads q g) s p q (gpioAt pads q .sig) routes ne))
     (held-take (leave (withGpio pads q g) q (gpioAt pads q .sig)) s p q (selected pads q c f) free)
 
--- another pin set, to another signal
+-- another pin set, to another signal than the one that is routed
 pub held-set : (pads : Pads) (s p q : ℕ) (c : PinCfg) (f : ℕ) → routeOf pads s ≡ p → (q ≡ p → ⊥) → (selected pads q c f ≡ s → ⊥) → Spares s p pads (setPin pads q c f)
 unfolding setPin
 held-set pads s p q c f routes ne free =

@@ -1,4 +1,4 @@
--- What the table says of 1, 4 and 7 is what `step` tests. Assumes nothing.
+-- What the table says of 1, 4, 7 and 11 is what `step` tests. Assumes nothing.
 use mathlib.Core.Path.{_≡_, refl, ap, sym, _∙_}
 use mathlib.Core.Bool.{Bool, true, false, cond, not, _&&_, _||_}
 use mathlib.Core.List.{List, [], _∷_, map}
@@ -6,6 +6,8 @@ use Prim.Native.Nat.{ℕ, _+_, _*_}
 use lib.Dec.{eqb, ltb, leb}
 use lib.ListN.{length}
 use lib.Ieee.{Float, nan, inf, fin}
+use native.Mathlib.Omega.{arith}
+use borrow.Author.Tests.{leb-false, ne-eqb}
 use Rattle.rm0440.specs.Bits.{DIR}
 use Rattle.tim.specs.declared.Timer.{Timer}
 use Rattle.tim.specs.declared.Inst.{Inst}
@@ -13,9 +15,11 @@ use Rattle.regs.specs.Regs as R
 use Rattle.real.specs.Real.{positive}
 use Rattle.clk.specs.declared.ClockTree.{ClockTree}
 use Rattle.clk.specs.Clk.{inRange, timerDiv, good}
+use Rattle.machine.specs.Board.{Board, routeOf, functionOf, noPin}
+use Rattle.machine.specs.Sys as Sys
 use Rattle.machine.specs.Call.{Setup}
-use Rattle.machine.specs.Step.{fresh, instsGood, entriesBelow, withinLimits}
-use Rattle.machine.specs.Refusals.{all, different, finiteAboveZero, timerLimits, limits, goodTree, runsAway}
+use Rattle.machine.specs.Step.{fresh, instsGood, entriesBelow, withinLimits, cfgOf}
+use Rattle.machine.specs.Refusals.{all, different, finiteAboveZero, timerLimits, limits, goodTree, runsAway, signalSet, routedElsewhere}
 
 pub positive-same : (f : Float) → finiteAboveZero f ≡ positive f
 unfolding finiteAboveZero positive
@@ -108,3 +112,18 @@ away-tests true false d a = refl
 pub away-same : (t : Timer) → runsAway t ≡ R.astray t
 unfolding runsAway R.astray
 away-same t = away-tests (t .count .running) (eqb (t .inst .channels) 0) (DIR (t .regs .cr1)) (ltb (t .count .«arr_act» + 1) (t .count .cnt0))
+
+-- ---- 11
+
+mode-same : (mode : ℕ) → eqb mode 2 ≡ eqb (cond (leb mode 3) mode 0) 2
+mode-same mode = go (leb mode 3) refl
+  where
+    go : (t : Bool) → leb mode 3 ≡ t → eqb mode 2 ≡ eqb (cond t mode 0) 2
+    go true e = refl
+    go false e = ne-eqb mode 2 (λ z. omega (arith, leb-false mode 3 e))
+
+pub taken-same : (b : Board) (pin mode openDrain out pullup pulldown function : ℕ)
+    → (not (eqb (signalSet b pin mode function) 0) && routedElsewhere b pin (signalSet b pin mode function))
+    ≡ Sys.taken (b .pads) pin (Sys.selected (b .pads) pin (cfgOf mode openDrain out pullup pulldown) function)
+taken-same b pin mode openDrain out pullup pulldown function =
+    ap (λ (t : Bool). Sys.taken (b .pads) pin (cond t (functionOf (b .pads) pin function) 0)) (mode-same mode)

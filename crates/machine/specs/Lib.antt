@@ -6,3 +6,4 @@ pub mod Step
 pub mod Refusals
 pub mod Sound
 pub mod Demand1
+pub mod Sockets

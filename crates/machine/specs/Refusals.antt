@@ -1,4 +1,4 @@
--- The table of document 01, call by call: the numbers that a call can be refused with, in order, and when each applies.
+-- The table of document 01, and what document 02 adds to it, call by call: the numbers that a call can be refused with, in order, and when each applies.
 use mathlib.Core.Bool.{Bool, true, false, cond, not, _&&_, _||_}
 use mathlib.Core.List.{List, [], _∷_, map}
 use Prim.Native.Nat.{ℕ, suc, _+_, _*_, _/_}
@@ -13,7 +13,7 @@ use Rattle.tim.specs.Next.{nextEvent}
 use Rattle.real.specs.Real.{zeroFloat}
 use Rattle.clk.specs.declared.ClockTree.{ClockTree}
 use Rattle.clk.specs.Clk.{timerDiv}
-use Rattle.machine.specs.Board.{Board, timerAt}
+use Rattle.machine.specs.Board.{Board, timerAt, routeOf, functionOf, noPin}
 use Rattle.machine.specs.Deliver.{delivered, dueBy}
 use Rattle.machine.specs.Call.{Setup, Question, reading, peeking, booked, next, level, volts, line, time, BookCall, pinSetting, outsideDrive, pinReset, writing, resetting, delivery, Call, setUp, clockTree, enable, clearPending, ask, lend, ifLent, ifDelivery}
 use Rattle.machine.specs.Step.{clockOn, written}
@@ -117,6 +117,18 @@ abbrev pub counterAstray : Board → ℕ → ℕ → ℕ → ℕ → ℕ → Ref
 counterAstray b timer offset size value cycle =
     7 when (clockOn b (timerAt b timer) && (toCounter (offset / 4 * 4) && runsAway (written b (timerAt b timer) offset size value cycle .timer)))
 
+-- 11, socket taken: "Setting a pin to a non-zero signal that another pin now routes shall be turned away. Setting the same pin again is served."
+-- The signal that a setting selects: in alternate mode, 2, the table's entry, else none
+abbrev pub signalSet : Board → ℕ → ℕ → ℕ → ℕ
+signalSet b pin mode function = cond (eqb mode 2) (functionOf (b .pads) pin function) 0
+
+abbrev pub routedElsewhere : Board → ℕ → ℕ → Bool
+routedElsewhere b pin signal = not (eqb (routeOf (b .pads) signal) noPin) && not (eqb (routeOf (b .pads) signal) pin)
+
+abbrev pub socketTaken : Board → ℕ → ℕ → ℕ → Refusal
+socketTaken b pin mode function =
+    11 when (not (eqb (signalSet b pin mode function) 0) && routedElsewhere b pin (signalSet b pin mode function))
+
 -- of a call that asks
 abbrev pub ofQuestion : Board → Question → List Refusal
 ofQuestion b (reading timer offset size cycle) = noSuchIndex timer (b .counts .timers) ∷ badSize size ∷ clockAstray b cycle ∷ []
@@ -131,7 +143,7 @@ ofQuestion b (time cycle) = clockAstray b cycle ∷ []
 -- of a call that is lent a book
 abbrev pub ofBookCall : Board → BookCall → ℕ → ℕ → List Refusal
 ofBookCall b (pinSetting pin mode openDrain out pullup pulldown function) cycle places =
-    noSuchIndex pin (b .counts .pins) ∷ clockAstray b cycle ∷ bookFull 4 places ∷ []
+    noSuchIndex pin (b .counts .pins) ∷ clockAstray b cycle ∷ socketTaken b pin mode function ∷ bookFull 4 places ∷ []
 ofBookCall b (outsideDrive pin e) cycle places = noSuchIndex pin (b .counts .pins) ∷ clockAstray b cycle ∷ bookFull 4 places ∷ []
 ofBookCall b pinReset cycle places = clockAstray b cycle ∷ bookFull (b .counts .pins) places ∷ []
 ofBookCall b (writing timer offset size value) cycle places =
@@ -150,9 +162,9 @@ refusals b (lend k cycle places) = ofBookCall b k cycle places
 -- ---- the order of the numbers
 
 -- "The lowest number that applies is given", of these; "a place named for it goes before the rule of the lowest number": a later number stands where
--- its request says
+-- its request says, 11 "after 5 and before 6"
 abbrev pub order : List ℕ
-order = 1 ∷ 2 ∷ 3 ∷ 4 ∷ 5 ∷ 6 ∷ 7 ∷ []
+order = 1 ∷ 2 ∷ 3 ∷ 4 ∷ 5 ∷ 11 ∷ 6 ∷ 7 ∷ []
 
 -- the numbers of a list stand in an order
 unfoldable pub inOrder : List ℕ → List Refusal → Bool

@@ -2,7 +2,7 @@
 use mathlib.Core.Path.{_≡_}
 use mathlib.Core.Bool.{true, false}
 use Prim.Native.Nat.{ℕ, _≤_, _<_}
-use lib.ListN.{length}
+use lib.ListN.{getD, length}
 use Rattle.gpio.specs.declared.Change.{Change}
 use Rattle.gpio.specs.declared.Change.the-variants.{Same, Level}
 use Rattle.gpio.specs.Gpio.{drives, signalSide, alternateMode}
@@ -19,9 +19,13 @@ pub record SoundPads (pads : Pads) : Type 0 where
   pub gpios : length (pads .gpio) ≡ 128
   pub routes : length (pads .route) ≡ 256
   pub levels : length (pads .sigLevel) ≡ 256
+  -- the table's entries are signals
+  pub table : (k : ℕ) → getD (pads .af) k 0 < 256
   -- 0 is no signal
   pub none : routeOf pads 0 ≡ noPin
   pub routed : (s p : ℕ) → s < 256 → p < 128 → routeOf pads s ≡ p → Routed pads s p
+  -- a pin that selected a signal routes it
+  pub owns : (p : ℕ) → (gpioAt pads p .sig ≡ 0 → ⊥) → routeOf pads (gpioAt pads p .sig) ≡ p
 
 pub record Sound (b : Board) : Type 0 where
   pub timers : length (b .timers) ≡ 8
@@ -29,6 +33,8 @@ pub record Sound (b : Board) : Type 0 where
   pub few-pins : b .counts .pins ≤ 128
   pub distinct : (i j : ℕ) → i < b .counts .timers → j < b .counts .timers → timerAt b i .inst .n ≡ timerAt b j .inst .n → i ≡ j
   pub channels : (i : ℕ) → i < b .counts .timers → timerAt b i .inst .channels ≤ 4
+  -- no pin beyond the board's selected a signal
+  pub beyond : (p : ℕ) → b .counts .pins ≤ p → gpioAt (b .pads) p .sig ≡ 0
   pub pads : SoundPads (b .pads)
 
 -- between two pads nothing was done to the signal s and the pin p that routes it (its outside drive and volts aside)

@@ -1,5 +1,5 @@
--- What each call does (document 01): the refusals, lowest number first, then the call.
-use mathlib.Core.Bool.{Bool, true, cond, not, _&&_, _||_}
+-- What each call does (document 01): the refusals, in the order of the table (Refusals.antt), then the call.
+use mathlib.Core.Bool.{Bool, true, false, cond, not, _&&_, _||_}
 use mathlib.Core.List.{List, [], _∷_, _++_}
 use Prim.Native.Nat.{ℕ, zero, suc, _+_, _*_, _/_}
 use lib.Dec.{eqb, ltb, leb}
@@ -205,6 +205,16 @@ fitting b (writing timer offset size value) o = refuseIf (absent timer (b .count
 fitting b (resetting timer) o = refuseIf (absent timer (b .counts .timers)) 2 b o
 fitting b (delivery timer) o = refuseIf (absent timer (b .counts .timers)) 2 b o
 
+-- 11: "Setting a pin to a non-zero signal that another pin now routes shall be turned away. Setting the same pin again is served."
+abbrev pub socketTaken : Board → BookCall → Bool
+socketTaken b (pinSetting pin mode openDrain out pullup pulldown function) =
+    Sys.taken (b .pads) pin (Sys.selected (b .pads) pin (cfgOf mode openDrain out pullup pulldown) function)
+socketTaken b (outsideDrive pin e) = false
+socketTaken b pinReset = false
+socketTaken b (writing timer offset size value) = false
+socketTaken b (resetting timer) = false
+socketTaken b (delivery timer) = false
+
 -- 6: "a write, delivery, timer reset, pin setting or outside drive with under 4 places; a pin reset with fewer places than pins"
 abbrev pub needed : Board → BookCall → ℕ
 needed b (pinSetting pin mode openDrain out pullup pulldown function) = 4
@@ -248,8 +258,9 @@ step b (ask q) = asking b q (served (told b q) b)
 step b (lend k cycle places) =
     fitting b k
     (refuseIf (cycleAstray b cycle) 5 b
+    (refuseIf (socketTaken b k) 11 b
     (refuseIf (bookFull (needed b k) places) 6 b
-    (doing b k cycle places)))
+    (doing b k cycle places))))
 
 -- a list of calls: each gets the board that the last one left
 unfoldable pub run : Board → List Call → List Outcome

@@ -1,5 +1,5 @@
 -- Pins, routing and outputs (sys.rs; document 01, "Output, signal, pin").
-use mathlib.Core.Bool.{Bool, cond, _&&_}
+use mathlib.Core.Bool.{Bool, cond, not, _&&_}
 use mathlib.Core.List.{List, [], _∷_}
 use Prim.Native.Nat.{ℕ, zero, suc, _+_}
 use lib.Dec.{eqb, ltb, leb}
@@ -46,6 +46,10 @@ take p i s = cond (eqb s 0) p (withRoute p s i)
 -- the signal that function f of pin i selects: none unless in alternate mode
 abbrev pub selected : Pads → ℕ → PinCfg → ℕ → ℕ
 selected p i c f = cond (eqb (c .mode) alternateMode) (functionOf p i f) 0
+
+-- "a non-zero signal that another pin now routes": signal s, for pin i
+abbrev pub taken : Pads → ℕ → ℕ → Bool
+taken p i s = not (eqb s 0) && (not (eqb (routeOf p s) noPin) && not (eqb (routeOf p s) i))
 
 -- "`select_af`": configuration c with function f
 unfoldable pub selectAf : Pads → ℕ → PinCfg → ℕ → Pads

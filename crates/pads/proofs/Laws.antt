@@ -6,7 +6,7 @@ use Prim.Native.Nat.{ℕ, _≤_, _<_}
 use native.Mathlib.Omega.{arith}
 use lib.Dec.{ltb, leb, lit≤}
 use lib.Ieee.{Float}
-use borrow.Author.Tests.{ltb-false, leb-false}
+use borrow.Author.Tests.{ltb-false, leb-false, le-leb, lt-leb, lt-ltb, le-ltb}
 use Rattle.gpio.specs.declared.PinCfg.{PinCfg}
 use Rattle.pins.specs.declared.ExtDrive.{ExtDrive}
 use Rattle.gpio.specs.declared.Change.{Change}
@@ -16,8 +16,9 @@ use Rattle.machine.specs.Board.{Board, withPads, withLast}
 use Rattle.machine.specs.Sys as S
 use Rattle.machine.specs.Call.{Call, Outcome, setPin, drivePin, resetPins}
 use Rattle.machine.specs.Step.{step, cfgOf, moved, changesOf, cycleAstray}
-use Rattle.machine.specs.Refusals.{refusals, first, noSuchIndex, badSize, clockAstray, bookFull}
+use Rattle.machine.specs.Refusals.{_when_, refusals, first, noSuchIndex, badSize, clockAstray, bookFull}
 use Rattle.machine.proofs.NumberLaws.{performed}
+use Rattle.machine.proofs.TableLaws.{taken-same}
 use Rattle.state.specs.View.{view}
 use Rattle.sys.specs.Moves.{Moves, Reset}
 use Rattle.answer.specs.declared.Answer.{Answer}
@@ -42,6 +43,57 @@ pub reset-number : (b : Board) (cycle need room pl n : ℕ)
 unfolding first refusals
 reset-number b cycle need room pl n h e f =
     h ∙ ap (λ (k : ℕ). cond (cycleAstray b cycle) 5 (cond (ltb room k) 6 0)) e ∙ ap (λ (k : ℕ). cond (cycleAstray b cycle) 5 (cond (ltb k (b .counts .pins)) 6 0)) f
+
+-- those of a pin setting, one after the other
+module _ (b : Board) (pin cycle pl : ℕ) (t : Bool) where
+  abbrev pub asked : ℕ
+  asked = first (noSuchIndex pin (b .counts .pins) ∷ clockAstray b cycle ∷ (11 when t) ∷ bookFull 4 pl ∷ [])
+
+  pub no-pin : (count : ℕ) → count ≡ b .counts .pins → count ≤ pin → 2 ≡ asked
+  unfolding first
+  no-pin count e l = rw (le-leb (b .counts .pins) pin (omega arith))
+
+  module _ (count : ℕ) (e : count ≡ b .counts .pins) (l : pin < count) where
+    there : leb (b .counts .pins) pin ≡ false
+    there = lt-leb (b .counts .pins) pin (omega arith)
+
+    pub astray : cycleAstray b cycle ≡ true → 5 ≡ asked
+    unfolding first
+    astray a = rw (there, a)
+
+    pub taken : cycleAstray b cycle ≡ false → t ≡ true → 11 ≡ asked
+    unfolding first
+    taken a k = rw (there, a, k)
+
+    pub full : (room : ℕ) → room ≡ pl → cycleAstray b cycle ≡ false → t ≡ false → room < 4 → 6 ≡ asked
+    unfolding first
+    full room r a k f = rw (there, a, k, lt-ltb pl 4 (omega arith))
+
+    pub none : (room : ℕ) → room ≡ pl → cycleAstray b cycle ≡ false → t ≡ false → 4 ≤ room → 0 ≡ asked
+    unfolding first
+    none room r a k f = rw (there, a, k, le-ltb pl 4 (omega arith))
+
+-- and none of them
+pub setting-there : (b : Board) (pin cycle pl n : ℕ) (t : Bool) → n ≡ asked b pin cycle pl t → n ≡ 0 → (pin < b .counts .pins) × (4 ≤ pl)
+unfolding first
+setting-there b pin cycle pl n t h z =
+    let q = four (leb (b .counts .pins) pin) (cycleAstray b cycle) t (ltb pl 4) (sym h ∙ z) in (leb-false _ _ (q .0), ltb-false _ _ (q .1))
+  where
+    four : (t u k v : Bool) → _≡_ {A = ℕ} (cond t 2 (cond u 5 (cond k 11 (cond v 6 0)))) 0 → (t ≡ false) × (v ≡ false)
+    four true u k v h = absurd (omega (arith, h))
+    four false true k v h = absurd (omega (arith, h))
+    four false false true v h = absurd (omega (arith, h))
+    four false false false true h = absurd (omega (arith, h))
+    four false false false false h = (refl, refl)
+
+-- they are step's
+pub setting-number : (b : Board) (pin mode drain out up down function cycle pl n : ℕ) (g : PinCfg) → g ≡ cfgOf mode drain out up down
+    → n ≡ asked b pin cycle pl (S.taken (b .pads) pin (S.selected (b .pads) pin g function))
+    → n ≡ first (refusals b (setPin pin mode drain out up down function cycle pl))
+unfolding refusals
+setting-number b pin mode drain out up down function cycle pl n g e h =
+    h ∙ ap (λ (y : PinCfg). asked b pin cycle pl (S.taken (b .pads) pin (S.selected (b .pads) pin y function))) e
+    ∙ ap (λ (t : Bool). asked b pin cycle pl t) (sym (taken-same b pin mode drain out up down function))
 
 three : (t u v : Bool) → _≡_ {A = ℕ} (cond t 2 (cond u 5 (cond v 6 0))) 0 → (t ≡ false) × (v ≡ false)
 three true u v h = absurd (omega (arith, h))
@@ -77,6 +129,15 @@ refuses w x u call n r h z e =
     let s = refused-step (view w x) call n h z in
     (away w x _ n s r e, unbooked (step (view w x) call) u (r .count) (ap (λ (a : Answer). a .count) e) (ap (λ (o : Outcome). o .entries) s))
 
+pub setting-refused : (w : List ℕ) (x : List Float) (u : Lent) (pin mode drain out up down function cycle n : ℕ) (g : PinCfg) (r : Answer)
+    → g ≡ cfgOf mode drain out up down
+    → n ≡ asked (view w x) pin cycle (places u) (S.taken (view w x .pads) pin (S.selected (view w x .pads) pin g function)) → (n ≡ 0 → ⊥) → r ≡ answer n 0 0
+    → let c = setPin pin mode drain out up down function cycle (places u) in
+    (Answers (step (view w x) c) r w w x x) × (Holds (step (view w x) c .entries) u u (r .count))
+setting-refused w x u pin mode drain out up down function cycle n g r e h z a =
+    refuses w x u (setPin pin mode drain out up down function cycle (places u)) n r
+    (setting-number (view w x) pin mode drain out up down function cycle (places u) n g e h) z a
+
 -- ---- a call that makes the entries es and leaves the board b
 served : (w w₁ : List ℕ) (x x₁ : List Float) (u u₁ : Lent) (call : Call) (n : ℕ) (r : Answer) (es : List Entry) (b : Board)
     → n ≡ first (refusals (view w x) call) → n ≡ 0 → performed (view w x) call ≡ record { number = 0; value = 0; entries = es; board = b }
@@ -102,17 +163,18 @@ pin-moved w w₁ w₂ x x₁ u u₁ call n cycle r m change h z does room moves 
     (put ∙ ap (λ (d : Change). puts (book u 0) (entryOf cycle d)) (moves .change)) (omega arith, omega arith, omega arith))
 
 pub pin-set : (w w₁ w₂ : List ℕ) (x x₁ : List Float) (u u₁ : Lent) (pin mode drain out up down function n cycle : ℕ) (r : Answer) (g : PinCfg) (change : Change)
-    → n ≡ first (noSuchIndex pin (view w x .counts .pins) ∷ clockAstray (view w x) cycle ∷ bookFull 4 (places u) ∷ []) → n ≡ 0
+    → n ≡ asked (view w x) pin cycle (places u) (S.taken (view w x .pads) pin (S.selected (view w x .pads) pin g function)) → n ≡ 0
     → g ≡ cfgOf mode drain out up down → Moves (S.setPin (view w x .pads) pin g function) (view w x) (view w₁ x₁) change
     → view w₂ x₁ ≡ withLast (view w₁ x₁) cycle
     → r ≡ answer 0 0 (r .count) → book u₁ (r .count) ≡ puts (book u 0) (entryOf cycle change) → r .count ≤ 1
     → (Answers (step (view w x) (setPin pin mode drain out up down function cycle (places u))) r w w₂ x x₁)
     × (Holds (step (view w x) (setPin pin mode drain out up down function cycle (places u)) .entries) u u₁ (r .count))
-unfolding refusals performed
+unfolding performed
 pin-set w w₁ w₂ x x₁ u u₁ pin mode drain out up down function n cycle r g change h z cfg moves last e put few =
     pin-moved w w₁ w₂ x x₁ u u₁ (setPin pin mode drain out up down function cycle (places u)) n cycle r
-    (S.setPin (view w x .pads) pin g function) change h z (ap (λ (y : PinCfg). moved (view w x) cycle (S.setPin (view w x .pads) pin y function)) (sym cfg))
-    (pin-there (view w x) pin cycle (places u) n h z .1) moves last e put few
+    (S.setPin (view w x .pads) pin g function) change (setting-number (view w x) pin mode drain out up down function cycle (places u) n g cfg h) z
+    (ap (λ (y : PinCfg). moved (view w x) cycle (S.setPin (view w x .pads) pin y function)) (sym cfg))
+    (setting-there (view w x) pin cycle (places u) n _ h z .1) moves last e put few
 
 pub pin-driven : (w w₁ w₂ : List ℕ) (x x₁ : List Float) (u u₁ : Lent) (pin : ℕ) (d d₁ : ExtDrive) (n cycle : ℕ) (r : Answer) (change : Change)
     → n ≡ first (noSuchIndex pin (view w x .counts .pins) ∷ clockAstray (view w x) cycle ∷ bookFull 4 (places u) ∷ []) → n ≡ 0

@@ -16,8 +16,9 @@ ghost use Rattle.answer.specs.Promise.{answer, Answers};
 ghost use Rattle.book.specs.Book.{book, puts, entryOf, places, Holds, slices, Room};
 ghost use Rattle.machine.specs.Board.{withLast};
 ghost use Rattle.machine.specs.Call as C;
-ghost use Rattle.machine.specs.Refusals.{first, noSuchIndex, clockAstray, bookFull};
+ghost use Rattle.machine.specs.Refusals.{_when_, first, noSuchIndex, clockAstray, bookFull};
 ghost use Rattle.machine.specs.Step.{step, cfgOf, yes};
+ghost use Rattle.machine.specs.Sys as S;
 ghost use Rattle.state.specs.View.{view};
 ghost use Rattle.pads.specs.Ext.{driveOf};
 
@@ -62,7 +63,7 @@ fn ext_of(kind: u32, volts: f64) -> ExtDrive
     }
 }
 
-// The number that a call of one pin is refused with, 0 if none applies.
+// The number that an outside drive is refused with, 0 if none applies.
 fn refusal(
     words: &[u64; WORDS],
     pins: &[u8],
@@ -76,6 +77,38 @@ fn refusal(
     let count = state::pin_count(words);
     let room = book::room(pins, levels, cycles);
     answer::refusal(words, pin, count, 4, cycle, 4, room)
+}
+
+// The number that a pin setting is refused with, 0 if none applies: 11, a signal that another pin routes, comes after 5 and before 6.
+fn setting_refusal(
+    words: &[u64; WORDS],
+    pins: &[u8],
+    levels: &[u8],
+    cycles: &[u64],
+    pin: u32,
+    cfg: PinCfg,
+    function: u32,
+    cycle: u64,
+) -> u8
+    ensures { λ r. ⌜ ((x : List Float) → r ≡ first (noSuchIndex pin (view (now (words .entry)) x .counts .pins) ∷ clockAstray (view (now (words .entry)) x) cycle ∷ (11 when S.taken (view (now (words .entry)) x .pads) pin (S.selected (view (now (words .entry)) x .pads) pin cfg function)) ∷ bookFull 4 (places (slices (now (pins .entry)) (now (levels .entry)) (now (cycles .entry)))) ∷ [])) ⌝ }
+{
+    let count = state::pin_count(words);
+    if count <= pin as usize {
+        return 2;
+    }
+    let astray = answer::is_astray(words, cycle);
+    let taken = sys::is_taken(words, pin as usize, cfg, function);
+    let room = book::room(pins, levels, cycles);
+    if astray {
+        return 5;
+    }
+    if taken {
+        return 11;
+    }
+    if room < 4 {
+        return 6;
+    }
+    0
 }
 
 // A pin was changed by a call at a cycle: the cycle is the last, and the change is in the book.
@@ -121,11 +154,11 @@ pub fn set_pin(
     ensures { λ r. ⌜ Answers (step (view (now (words .entry)) (now (reals .entry))) (C.setPin pin mode «open_drain» out pullup pulldown function cycle (places (slices (now (pins .entry)) (now (levels .entry)) (now (cycles .entry)))))) r (now (words .entry)) (now (words .exit)) (now (reals .entry)) (now (reals .exit)) ⌝ }
     ensures { λ r. ⌜ Holds (step (view (now (words .entry)) (now (reals .entry))) (C.setPin pin mode «open_drain» out pullup pulldown function cycle (places (slices (now (pins .entry)) (now (levels .entry)) (now (cycles .entry))))) .entries) (slices (now (pins .entry)) (now (levels .entry)) (now (cycles .entry))) (slices (now (pins .exit)) (now (levels .exit)) (now (cycles .exit))) (r .count) ⌝ }
 {
-    let n = refusal(words, pins, levels, cycles, pin, cycle);
+    let cfg = cfg_of(mode, open_drain, out, pullup, pulldown);
+    let n = setting_refusal(words, pins, levels, cycles, pin, cfg, function, cycle);
     if n != 0 {
         return answer::refused(n);
     }
-    let cfg = cfg_of(mode, open_drain, out, pullup, pulldown);
     let change = sys::set_pin(words, reals, pin as usize, cfg, function);
     changed(words, pins, levels, cycles, change, cycle)
 }

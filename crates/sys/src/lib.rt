@@ -133,6 +133,22 @@ fn selected(words: &[u64; WORDS], i: usize, c: PinCfg, f: u32) -> u32
     0
 }
 
+// Another pin routes the signal that function f of pin i selects: the signal's route says it in one look.
+pub fn is_taken(words: &[u64; WORDS], i: usize, c: PinCfg, f: u32) -> bool
+    requires { ⌜ i < 128 ⌝ }
+    ensures { λ r. ⌜ ((x : List Float) → r ≡ S.taken (view (now (words .entry)) x .pads) i (S.selected (view (now (words .entry)) x .pads) i c f)) ⌝ }
+{
+    let new = selected(words, i, c, f);
+    if new == 0 {
+        return false;
+    }
+    let p = state::route(words, new as usize);
+    if p == 128 {
+        return false;
+    }
+    p != i
+}
+
 // Configures pin i and selects its function f; refresh_pin follows.
 pub fn select_af(words: &mut [u64; WORDS], reals: &mut [f64; REALS], i: usize, c: PinCfg, f: u32)
     requires { ⌜ (i < 128) × (c .odr ≤ 1) ⌝ }
