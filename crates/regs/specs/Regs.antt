@@ -124,14 +124,14 @@ arrWritten t v now =
     cond (ARPE (t .regs .cr1)) (only s) (booked (recomputed (withArrAct s (keptWidth t v))))
 
 -- CCRx: "without OCxPE a compare does. An immediate compare write settles its own channel so."
-abbrev pub settled : Timer → ℕ → Timer
-settled t ch = withDone t (set (t .chan .«cc_done») ch (behind t ch))
+abbrev pub settledChannel : Timer → ℕ → Timer
+settledChannel t ch = withDone t (set (t .chan .«cc_done») ch (behind t ch))
 
 unfoldable pub ccrWritten : Timer → ℕ → ℕ → ℕ → Written
 ccrWritten t ch v now =
     let s = withCcr (synced t now) ch (keptWidth t v) in
     let a = withCcrAct s ch (keptWidth t v) in
-    cond (Out.OCxPE (ccmrByte t ch)) (only s) (driven (settled a ch) (cntAt a now) true)
+    cond (Out.OCxPE (ccmrByte t ch)) (only s) (driven (settledChannel a ch) (cntAt a now) true)
 
 unfoldable pub ccmrWritten : Timer → ℕ → ℕ → ℕ → Written
 ccmrWritten t i v now = let s = withCcmr (synced t now) i v in driven s (cntAt s now) true
