@@ -15,7 +15,7 @@ use Rattle.accuracy.specs.Claim.{Pilot, Steady, Within, board₁, recorded, per
 use Rattle.accuracy.proofs.Aim.{due}
 use Rattle.accuracy.proofs.Levels.{Upward}
 use Rattle.accuracy.proofs.Accurate.{accurate, in-order, pin-is}
-use Rattle.shift.specs.Shift.{Shift, levelBefore, highIn, cycleBefore, astray, outOfOrder, numberOf, Figures, figures, figuresAt, Reports}
+use Rattle.shift.specs.Shift.{Shift, levelBefore, highIn, cycleBefore, misplaced, outOfOrder, numberOf, Figures, figures, figuresAt, Reports}
 use Rattle.reported.specs.Planned.{entriesAfter, Planned, ReportClaim, OrderClaim, OnlyOf, ServedClaim}
 
 -- the report's high cycles are demand 3's
@@ -50,7 +50,7 @@ orderly π st before e rest split x =
 
 -- entries of one pin, each in order behind those before it
 only-order : (pin : ℕ) (es : List Entry) → OnlyOf pin es → (all : List Entry)
-    → ((before : List Entry) (e : Entry) (rest : List Entry) → all ≡ before ++ (e ∷ rest) → e .pin ≡ pin → astray before e ≡ false)
+    → ((before : List Entry) (e : Entry) (rest : List Entry) → all ≡ before ++ (e ∷ rest) → e .pin ≡ pin → misplaced before e ≡ false)
     → (before : List Entry) → all ≡ before ++ es → outOfOrder before es ≡ false
 unfolding OnlyOf outOfOrder
 only-order pin [] o all h before k = refl

@@ -9,7 +9,7 @@ use Rattle.book.specs.Book.{Entry}
 use Rattle.machine.specs.Board.{gpioAt}
 use Rattle.machine.specs.Step.{run}
 use Rattle.accuracy.specs.Claim.{Pilot, Steady, Window, Within, board₁, joined, periodOf, highOf}
-use Rattle.shift.specs.Shift.{Shift, levelBefore, astray, numberOf, Reports}
+use Rattle.shift.specs.Shift.{Shift, levelBefore, misplaced, numberOf, Reports}
 
 -- "the entries of all calls after the start, joined in order"
 abbrev pub entriesAfter : Pilot → List Entry
@@ -30,7 +30,7 @@ ReportClaim =
 abbrev pub OrderClaim : Type 0
 OrderClaim =
     (π : Pilot) → Steady π → (before : List Entry) (e : Entry) (rest : List Entry) → entriesAfter π ≡ before ++ (e ∷ rest) → e .pin ≡ π .pin
-    → astray before e ≡ false
+    → misplaced before e ≡ false
 
 -- every entry is of one pin
 unfoldable pub OnlyOf : ℕ → List Entry → Type 0

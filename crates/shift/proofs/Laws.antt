@@ -11,7 +11,7 @@ use borrow.Author.Tests.{eqb-true, eqb-false, ltb-true, ltb-false, leb-true, leb
 use Rattle.book.specs.Book.{Entry}
 use Rattle.book.specs.Level.{levelAt, highs}
 use Rattle.shift.specs.declared.Track.{Track}
-use Rattle.shift.specs.Shift.{Shift, levelBefore, levelIn, highIn, isEdge, edges, lastCycle, cycleBefore, astray, outOfOrder}
+use Rattle.shift.specs.Shift.{Shift, levelBefore, levelIn, highIn, isEdge, edges, lastCycle, cycleBefore, misplaced, outOfOrder}
 use Rattle.shift.specs.Kept.{counts, rest, turned, passed, latest, Told}
 
 -- ---- one entry more in each definition
@@ -57,12 +57,12 @@ or-false : (a : Bool) → a || false ≡ a
 or-false true = refl
 or-false false = refl
 
-pub order-more : (es before : List Entry) (e : Entry) → outOfOrder before (es ++ (e ∷ [])) ≡ outOfOrder before es || astray (before ++ es) e
+pub order-more : (es before : List Entry) (e : Entry) → outOfOrder before (es ++ (e ∷ [])) ≡ outOfOrder before es || misplaced (before ++ es) e
 unfolding outOfOrder
-order-more [] before e = or-false (astray before e) ∙ ap (λ (x : List Entry). astray x e) (sym (append-nil before))
+order-more [] before e = or-false (misplaced before e) ∙ ap (λ (x : List Entry). misplaced x e) (sym (append-nil before))
 order-more (x ∷ es) before e =
-    ap (λ (b : Bool). astray before x || b) (order-more es (before ++ (x ∷ [])) e ∙ ap (λ (l : List Entry). outOfOrder (before ++ (x ∷ [])) es || astray l e) (append-assoc before (x ∷ []) es))
-    ∙ or-assoc (astray before x) (outOfOrder (before ++ (x ∷ [])) es) (astray (before ++ (x ∷ es)) e)
+    ap (λ (b : Bool). misplaced before x || b) (order-more es (before ++ (x ∷ [])) e ∙ ap (λ (l : List Entry). outOfOrder (before ++ (x ∷ [])) es || misplaced l e) (append-assoc before (x ∷ []) es))
+    ∙ or-assoc (misplaced before x) (outOfOrder (before ++ (x ∷ [])) es) (misplaced (before ++ (x ∷ es)) e)
 
 -- ---- high cycles
 

@@ -13,7 +13,7 @@ use borrow.Author.Tests.{eqb-true, eqb-false, ltb-true, ltb-false}
 use Rattle.book.specs.Book.{Entry}
 use Rattle.book.specs.Level.{levelAt, highs}
 use Rattle.shift.specs.declared.Track.{Track}
-use Rattle.shift.specs.Shift.{Shift, levelOf, levelBefore, edges, cycleBefore, astray, outOfOrder, numberOf}
+use Rattle.shift.specs.Shift.{Shift, levelOf, levelBefore, edges, cycleBefore, misplaced, outOfOrder, numberOf}
 use Rattle.shift.specs.Kept.{counts, turned, passed, took, trackAt, putTrack, freshTrack, Fresh, fromOf, toOf, numberIn, strays, entered, fed, latest, Told, Stands}
 use Rattle.shift.proofs.Laws.{order-more, told-other, repeats, too-late, turns}
 
@@ -125,17 +125,17 @@ module _ (s : Shift) (es : List Entry) (e : Entry) where
       go true x h = omega arith
       go false x h = ltb-false (s .to) (s .from) x
 
-  next : numberOf s es ≡ 0 → numberOf s grown ≡ cond (astray es e) 10 0
+  next : numberOf s es ≡ 0 → numberOf s grown ≡ cond (misplaced es e) 10 0
   unfolding numberOf
   next = go (ltb (s .to) (s .from)) (outOfOrder [] es) refl
     where
-      go : (a b : Bool) → outOfOrder [] es ≡ b → byTests a b ≡ 0 → byTests a (outOfOrder [] grown) ≡ cond (astray es e) 10 0
+      go : (a b : Bool) → outOfOrder [] es ≡ b → byTests a b ≡ 0 → byTests a (outOfOrder [] grown) ≡ cond (misplaced es e) 10 0
       go true b x n = omega arith
       go false true x n = omega arith
       go false false x n = rw (order-more es [] e, x)
 
   module _ (w : List ℕ) (h : Stands s es w) where
-    same-stray : numberOf s es ≡ 0 → strays w e ≡ astray es e
+    same-stray : numberOf s es ≡ 0 → strays w e ≡ misplaced es e
     same-stray z = go (ltb 127 (e .pin)) refl
       where
         go : (b : Bool) → ltb 127 (e .pin) ≡ b
@@ -147,7 +147,7 @@ module _ (s : Shift) (es : List Entry) (e : Entry) where
     Grows w₁ = Stands s grown w₁
 
     -- what an entry that is not astray says
-    fine : astray es e ≡ false → (e .pin < 128) × (e .level ≤ 1) × (cycleBefore (e .pin) es 0 ≤ e .cycle)
+    fine : misplaced es e ≡ false → (e .pin < 128) × (e .level ≤ 1) × (cycleBefore (e .pin) es 0 ≤ e .cycle)
     fine = go (ltb 127 (e .pin)) refl (ltb 1 (e .level)) refl (ltb (e .cycle) (cycleBefore (e .pin) es 0)) refl
       where
         go : (a : Bool) → ltb 127 (e .pin) ≡ a → (b : Bool) → ltb 1 (e .level) ≡ b → (c : Bool) → ltb (e .cycle) (cycleBefore (e .pin) es 0) ≡ c → a || (b || c) ≡ false
@@ -158,7 +158,7 @@ module _ (s : Shift) (es : List Entry) (e : Entry) where
         go false x false y false z n = (omega (arith, ltb-false 127 (e .pin) x), ltb-false 1 (e .level) y, ltb-false (e .cycle) (cycleBefore (e .pin) es 0) z)
 
     -- an entry astray: 10 from now on
-    turned-away : numberOf s es ≡ 0 → astray es e ≡ true → Grows (set w 514 10)
+    turned-away : numberOf s es ≡ 0 → misplaced es e ≡ true → Grows (set w 514 10)
     turned-away z a =
         let n : numberOf s grown ≡ 10 = next z ∙ rw a in
         record {
@@ -171,7 +171,7 @@ module _ (s : Shift) (es : List Entry) (e : Entry) where
         }
 
     -- an entry in order
-    taken : numberOf s es ≡ 0 → astray es e ≡ false → Grows (putTrack w (e .pin) (took (fromOf w) (toOf w) (trackAt w (e .pin)) (e .level) (e .cycle)))
+    taken : numberOf s es ≡ 0 → misplaced es e ≡ false → Grows (putTrack w (e .pin) (took (fromOf w) (toOf w) (trackAt w (e .pin)) (e .level) (e .cycle)))
     taken z a =
         let u = took (fromOf w) (toOf w) (trackAt w (e .pin)) (e .level) (e .cycle) in
         let f = fine a in

@@ -84,12 +84,12 @@ cycleBefore pin [] c = c
 cycleBefore pin (e ∷ es) c = cycleBefore pin es (cond (eqb (e .pin) pin) (e .cycle) c)
 
 -- "an entry's cycle is below that of its pin's entry before it, or its pin is above 127 or its level above 1"
-abbrev pub astray : List Entry → Entry → Bool
-astray before e = ltb 127 (e .pin) || (ltb 1 (e .level) || ltb (e .cycle) (cycleBefore (e .pin) before 0))
+abbrev pub misplaced : List Entry → Entry → Bool
+misplaced before e = ltb 127 (e .pin) || (ltb 1 (e .level) || ltb (e .cycle) (cycleBefore (e .pin) before 0))
 
 unfoldable pub outOfOrder : List Entry → List Entry → Bool
 outOfOrder before [] = false
-outOfOrder before (e ∷ es) = astray before e || outOfOrder (before ++ (e ∷ [])) es
+outOfOrder before (e ∷ es) = misplaced before e || outOfOrder (before ++ (e ∷ [])) es
 
 -- "9 'shift reversed' when to is below from, then 10 'book out of order'", "the only refusals here"
 unfoldable pub numberOf : Shift → List Entry → ℕ
