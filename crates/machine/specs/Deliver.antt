@@ -39,7 +39,7 @@ bookingOf (At at e) now = max at now
 bookingOf Stopped now = S.never
 
 unfoldable pub rebooked : ℕ → Timer → ℕ → Board → Board
-rebooked i t now b = withBooking b (S.book (b .booking) i (bookingOf (nextEvent t) now))
+rebooked i t now b = withBooking b (S.rebook (b .booking) i (bookingOf (nextEvent t) now))
 
 -- ---- one event
 
