@@ -14,7 +14,7 @@ use Rattle.state.specs.View.{view}
 use Rattle.answer.specs.declared.Answer.{Answer}
 use Rattle.answer.specs.Promise.{Answers}
 use Rattle.book.specs.Level.{levelAt, highs}
-use Rattle.accuracy.specs.Claim.{Pilot, Steady, Window, Within, board₀, board₁, joined, periodOf, highOf}
+use Rattle.accuracy.specs.Claim.{Pilot, Steady, Window, WithinBound, board₀, board₁, joined, periodOf, highOf}
 use Rattle.accuracy.proofs.Accurate.{accurate}
 use Rattle.recorded.specs.Recorded.{Made, found, leaves, Kept, Chain, entriesFrom, entriesLeft, callsOf, MadeOf, levelLeft, BookClaim}
 
@@ -113,7 +113,7 @@ book-accurate π s st a W w =
   where
     Bounded : List Entry → Board → Type 0
     Bounded es b =
-        Within (highs (levelAt (π .pin) es (gpioAt (b .pads) (π .pin) .pin .level)) a W) W (periodOf (board₁ π) (π .timer)) (highOf (board₁ π) (π .timer) (π .ch))
+        WithinBound (highs (levelAt (π .pin) es (gpioAt (b .pads) (π .pin) .pin .level)) a W) W (periodOf (board₁ π) (π .timer)) (highOf (board₁ π) (π .timer) (π .ch))
 
 -- ---- what keeps a run: the contracts of the exported functions
 

@@ -11,7 +11,7 @@ use Rattle.machine.specs.Call.{Call, write}
 use Rattle.machine.specs.Step.{run, boardAfter}
 use Rattle.state.specs.View.{view}
 use Rattle.book.specs.Level.{levelAt, highs}
-use Rattle.accuracy.specs.Claim.{Pilot, Steady, Window, Within, board₁, joined, periodOf, highOf}
+use Rattle.accuracy.specs.Claim.{Pilot, Steady, Window, WithinBound, board₁, joined, periodOf, highOf}
 
 -- one run of an exported function: the calls that it performed (one; `run_calls` some), what its arrays and its book held when it came and
 -- when it returned, and its count of entries. A function that is lent no book leaves an empty one.
@@ -77,4 +77,4 @@ levelLeft π s = levelAt (π .pin) (entriesLeft (s .after)) (gpioAt (leaves (s .
 abbrev pub BookClaim : Type 0
 BookClaim =
     (π : Pilot) (s : MadeOf π) → Steady π → (a W : ℕ) → Window π a W
-    → Within (highs (levelLeft π s) a W) W (periodOf (board₁ π) (π .timer)) (highOf (board₁ π) (π .timer) (π .ch))
+    → WithinBound (highs (levelLeft π s) a W) W (periodOf (board₁ π) (π .timer)) (highOf (board₁ π) (π .timer) (π .ch))

@@ -11,7 +11,7 @@ use Rattle.book.specs.Book.{Entry}
 use Rattle.book.specs.Level.{levelAt, highs}
 use Rattle.machine.specs.Board.{timerAt, gpioAt}
 use Rattle.machine.specs.Step.{boardAfter}
-use Rattle.accuracy.specs.Claim.{Pilot, Steady, Within, board₁, recorded, periodOf, highOf}
+use Rattle.accuracy.specs.Claim.{Pilot, Steady, WithinBound, board₁, recorded, periodOf, highOf}
 use Rattle.accuracy.proofs.Aim.{due}
 use Rattle.accuracy.proofs.Levels.{Upward}
 use Rattle.accuracy.proofs.Accurate.{accurate, in-order, pin-is}
@@ -26,7 +26,7 @@ pub reported : ReportClaim
 reported π st s p number high lent left r z =
     let f : figuresAt left (π .pin) ≡ figures s (entriesAfter π) (π .pin) = r .each (sym (r .answered) ∙ z) (π .pin) (pin-is π st) in
     let h : getD left (3 * π .pin) 0 ≡ highs (recorded π) (s .from) (s .to - s .from) = ap (λ (x : Figures). x .high) f ∙ same-high π s p in
-    subst (λ (n : ℕ). Within n (s .to - s .from) (periodOf (board₁ π) (π .timer)) (highOf (board₁ π) (π .timer) (π .ch))) (sym h)
+    subst (λ (n : ℕ). WithinBound n (s .to - s .from) (periodOf (board₁ π) (π .timer)) (highOf (board₁ π) (π .timer) (π .ch))) (sym h)
     (accurate π st (s .from) (s .to - s .from) (p .window))
 
 -- ---- the order

@@ -146,7 +146,7 @@ module _ (s : Shift) (es : List Entry) (e : Entry) where
     abbrev Grows : List ℕ → Type 0
     Grows w₁ = Stands s grown w₁
 
-    -- what an entry that is not astray says
+    -- what an entry that is not misplaced says
     fine : misplaced es e ≡ false → (e .pin < 128) × (e .level ≤ 1) × (cycleBefore (e .pin) es 0 ≤ e .cycle)
     fine = go (ltb 127 (e .pin)) refl (ltb 1 (e .level)) refl (ltb (e .cycle) (cycleBefore (e .pin) es 0)) refl
       where
@@ -157,7 +157,7 @@ module _ (s : Shift) (es : List Entry) (e : Entry) where
         go false x false y true z n = absurd (let k : _≡_ {A = ℕ} 0 1 = ap (λ (v : Bool). cond v 0 1) n in omega arith)
         go false x false y false z n = (omega (arith, ltb-false 127 (e .pin) x), ltb-false 1 (e .level) y, ltb-false (e .cycle) (cycleBefore (e .pin) es 0) z)
 
-    -- an entry astray: 10 from now on
+    -- an entry misplaced: 10 from now on
     turned-away : numberOf s es ≡ 0 → misplaced es e ≡ true → Grows (set w 514 10)
     turned-away z a =
         let n : numberOf s grown ≡ 10 = next z ∙ rw a in
