@@ -23,7 +23,7 @@ use Rattle.follows.specs.Follows.{Call, Delivered, between}
 use Rattle.follows.proofs.Theorem.{follows}
 use Rattle.boards.specs.Boards.{divOf, after}
 use Rattle.boards.proofs.Kept.{kept-after}
-use Rattle.waves.specs.Waves.{shown, Pilot}
+use Rattle.waves.specs.Waves.{shown, DrivenPin}
 use Rattle.waves.proofs.Waved.{waves}
 
 -- timer 2, PWM mode 1, reload 9, compare 3; started at cycle 100
@@ -51,7 +51,7 @@ call-at c le = record {
 not-done : {A : Type 0} → false ≡ true → A
 not-done e = absurd (let z : _≡_ {A = ℕ} 0 1 = cc in omega arith)
 
-pub pilot : Pilot t div 100 0 0 (b .pads)
+pub pilot : DrivenPin t div 100 0 0 (b .pads)
 unfolding computed
 pilot = record {
   call = call-at 100 (leb-true 100 100 refl);

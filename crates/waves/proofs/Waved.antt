@@ -41,7 +41,7 @@ use Rattle.follows.specs.Follows.{Call, Delivered, between}
 use Rattle.follows.proofs.Theorem.{follows}
 use Rattle.follows.proofs.Delivered.{steady}
 use Rattle.follows.proofs.Lasting.{left-updated, left-compared, updated-within}
-use Rattle.waves.specs.Waves.{onward, Settled, shown, Pilot, Waves}
+use Rattle.waves.specs.Waves.{onward, Settled, shown, DrivenPin, Waves}
 use Rattle.waves.proofs.Settled.{compare-count, settled-compared, settled-after, later}
 
 -- the event's own cycle
@@ -317,7 +317,7 @@ unfolding levelAt
 level-none pin l c = refl
 
 -- at cycle a, before any event
-pub begins : (t : Timer) (div a ch pin : ℕ) (p : Pads) (o : Pilot t div a ch pin p) → Told t div a ch pin (o .call) (o .quiet) (o .channel) (shown p pin) 0 t p [] a
+pub begins : (t : Timer) (div a ch pin : ℕ) (p : Pads) (o : DrivenPin t div a ch pin p) → Told t div a ch pin (o .call) (o .quiet) (o .channel) (shown p pin) 0 t p [] a
 begins t div a ch pin p o = record {
   goes = record {
     left = record { timed = o .call .timed; based = o .call .came };

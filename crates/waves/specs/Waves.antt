@@ -1,5 +1,5 @@
 -- The waveform on record: the level of a channel's pin at every cycle of a delivery, and of deliveries one after the other of `step`, is the
--- machine's, whatever the mode, the direction and the polarity (`Pilot` has the premises). The proof: proofs/Waved.antt and proofs/Joined.antt; an instance: proofs/Bench.antt.
+-- machine's, whatever the mode, the direction and the polarity (`DrivenPin` has the premises). The proof: proofs/Waved.antt and proofs/Joined.antt; an instance: proofs/Bench.antt.
 use Prim.Native.Nat.{ℕ, suc, _+_, _-_, _/_, _≤_, _<_}
 use mathlib.Core.Path.{_≡_}
 use mathlib.Core.Bool.{true, false, cond}
@@ -40,7 +40,7 @@ shown p pin = gpioAt p pin .pin .level
 
 -- a driving timer with channel ch's push-pull pin routed; nothing is due at cycle a, and the pin shows the machine's level from there up to the
 -- next event (else direction-late: a write of CR1, ARR or PSC does not drive)
-pub record Pilot (t : Timer) (div a ch pin : ℕ) (p : Pads) : Type 0 where
+pub record DrivenPin (t : Timer) (div a ch pin : ℕ) (p : Pads) : Type 0 where
   pub call : Call t div a
   pub quiet : Delivered t a
   pub drives : driver (t .inst .n) ≡ true
@@ -56,7 +56,7 @@ pub record Pilot (t : Timer) (div a ch pin : ℕ) (p : Pads) : Type 0 where
 -- a delivery answered 0 at cycle now: at every cycle from a to now the record has the machine's level
 abbrev pub Waves : Type 0
 Waves =
-    (events places now : ℕ) (t : Timer) (div a ch pin : ℕ) (p : Pads) → Pilot t div a ch pin p → handled events now div places t p .number ≡ 0
+    (events places now : ℕ) (t : Timer) (div a ch pin : ℕ) (p : Pads) → DrivenPin t div a ch pin p → handled events now div places t p .number ≡ 0
     → (c : ℕ) → a ≤ c → c ≤ now
     → levelAt pin (handled events now div places t p .entries) (shown p pin) c ≡ bit (level (clocks (rulesOf t) (between t div a c) (seen t div a)) ch)
 
@@ -71,7 +71,7 @@ recorded cs i ds cycle places = joined (run (after cs) (deliveries i ds)) ++ las
 abbrev pub StepWaves : Type 0
 StepWaves =
     (cs : List AnyCall) (i a ch pin : ℕ) (ds : List Lent) (cycle places : ℕ) → i < after cs .counts .timers → a ≤ after cs .counts .last
-    → Pilot (timerAt (after cs) i) (divOf (after cs) i) a ch pin (after cs .pads) → last cs i ds cycle places .number ≡ 0
+    → DrivenPin (timerAt (after cs) i) (divOf (after cs) i) a ch pin (after cs .pads) → last cs i ds cycle places .number ≡ 0
     → (c : ℕ) → a ≤ c → c ≤ cycle
     → levelAt pin (recorded cs i ds cycle places) (shown (after cs .pads) pin) c
     ≡ bit (level (clocks (rulesOf (timerAt (after cs) i)) (between (timerAt (after cs) i) (divOf (after cs) i) a c) (seen (timerAt (after cs) i) (divOf (after cs) i) a)) ch)
