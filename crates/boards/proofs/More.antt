@@ -43,7 +43,7 @@ use Rattle.machine.specs.Step.{refuseIf, absent, oddSize, cycleAstray, bookFull
 use Rattle.machine.specs.Sound.{Sound}
 use Rattle.machine.proofs.Routing.{either, by-test}
 use Rattle.machine.proofs.Reach.{run-good, sound-step, sound-after}
-use Rattle.boards.specs.Boards.{divOf, after, merged, Boards, Lent, deliveries, before, last, treed, StepEvents, StepSeries, StepSeriesDue, StepReads, StepLate, StepLateWrites, StepResets, StepGated, StepRetimes, StepDeliversManual, StepWritesManual}
+use Rattle.boards.specs.Boards.{divOf, after, valueOn, Boards, Lent, deliveries, before, last, treed, StepEvents, StepSeries, StepSeriesDue, StepReads, StepLate, StepLateWrites, StepResets, StepGated, StepRetimes, StepDeliversManual, StepWritesManual}
 use Rattle.boards.proofs.Kept.{at-place, elsewhere, not-astray, kept-after}
 use Rattle.boards.proofs.Stepped.{never, due-same, turn-same, run-same, Passed, peel, delivered-timer, followed-timer, delivers-so, handled, writes-so, written-is, delivers, writes}
 use Rattle.boards.proofs.Fitting.{fits}
@@ -218,7 +218,7 @@ late-writes cs f i offset size value cycle places l h on z within left =
     let p = writes-so b s i cycle l offset size value places on z in
     let k = call cs i cycle l h (not-astray b cycle (p .1)) in
     let off = register offset in
-    let v = merged b i offset size value cycle in
+    let v = valueOn b i offset size value cycle in
     let u : Timer = S.written t off v cycle div in
     let same : timerAt (step b (C.write i offset size value cycle places) .board) i ≡ u =
     ap (λ (x : Outcome). timerAt (x .board) i) (p .0) ∙ followed-timer b s i cycle l (written b t offset size value cycle) ∙ written-is b s i cycle l offset size value in
@@ -375,7 +375,7 @@ writes-manual : StepWritesManual
 writes-manual cs f i offset size value cycle places l h d on z within left o =
     let b = after cs in
     let t = timerAt b i in
-    sym (write-same (rulesOf t) (register offset) (merged b i offset size value cycle) (seen t (divOf b i) cycle) o)
+    sym (write-same (rulesOf t) (register offset) (valueOn b i offset size value cycle) (seen t (divOf b i) cycle) o)
     ∙ writes cs f i offset size value cycle places l h d on z within left
 
 pub boards : Boards

@@ -31,7 +31,7 @@ use Rattle.machine.specs.Step.{refuseIf, absent, oddSize, cycleAstray, bookFull
 use Rattle.machine.specs.Sound.{Sound}
 use Rattle.machine.proofs.Routing.{either}
 use Rattle.machine.proofs.Reach.{sound-after}
-use Rattle.boards.specs.Boards.{divOf, after, merged, StepDelivers, StepWrites}
+use Rattle.boards.specs.Boards.{divOf, after, valueOn, StepDelivers, StepWrites}
 use Rattle.boards.proofs.Kept.{at-place, not-astray, kept-after}
 
 pub never : (n : ℕ) → suc n ≡ 0 → ⊥
@@ -138,7 +138,7 @@ module _ (b : Board) (s : Sound b) (i cycle : ℕ) (l : i < b .counts .timers) w
       let p5 = peel (counterAstray (register offset) (w offset size value .timer)) 7 b (followed b i cycle (w offset size value)) (λ e. omega arith) (ap (λ (o : Outcome). o .number) (sym on4) ∙ p4 .number) in
       (p1 .is ∙ p2 .is ∙ p3 .is ∙ p4 .is ∙ on4 ∙ p5 .is, p3 .test)
 
-  pub written-is : (offset size value : ℕ) → w offset size value .timer ≡ R.regWritten (timerAt b i) (register offset) (merged b i offset size value cycle) cycle (divOf b i) .timer
+  pub written-is : (offset size value : ℕ) → w offset size value .timer ≡ R.regWritten (timerAt b i) (register offset) (valueOn b i offset size value cycle) cycle (divOf b i) .timer
   unfolding written
   written-is offset size value = refl
 
@@ -164,11 +164,11 @@ writes cs f i offset size value cycle places l h d on z within left =
     let s = sound-after cs in
     let p = writes-so b s i cycle l offset size value places on z in
     let o = kept-after cs i l in
-    let u : Timer = R.regWritten (timerAt b i) (register offset) (merged b i offset size value cycle) cycle (divOf b i) .timer in
+    let u : Timer = R.regWritten (timerAt b i) (register offset) (valueOn b i offset size value cycle) cycle (divOf b i) .timer in
     let same : timerAt (step b (C.write i offset size value cycle places) .board) i ≡ u =
     ap (λ (x : Outcome). timerAt (x .board) i) (p .0) ∙ followed-timer b s i cycle l (written b (timerAt b i) offset size value cycle) ∙ written-is b s i cycle l offset size value in
     let early : b .counts .last ≤ cycle = not-astray b cycle (p .1) in
     let came : timerAt b i .count .base ≤ cycle = omega (arith, o .based) in
-    follows .writes f (timerAt b i) (divOf b i) (register offset) (merged b i offset size value cycle) cycle
+    follows .writes f (timerAt b i) (divOf b i) (register offset) (valueOn b i offset size value cycle) cycle
     (record { timed = o .timed; within = follows .upward (timerAt b i) cycle came d h; came = came }) d (subst Within same within) (subst (λ (t : Timer). Delivered (S.deliver f cycle (divOf b i) t) cycle) same left) tt
     ∙ ap (λ (t : Timer). seen (S.deliver f cycle (divOf b i) t) (divOf b i) cycle) (sym same)

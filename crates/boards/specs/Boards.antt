@@ -47,8 +47,8 @@ StepDelivers =
     × Delivered (timerAt (step (after cs) (C.deliver i cycle places) .board) i) cycle
 
 -- the value that a write of some bytes gives its register
-abbrev pub merged : Board → ℕ → ℕ → ℕ → ℕ → ℕ → ℕ
-merged b i offset size value cycle = laneWrite (present (timerAt b i) (register offset) cycle) offset size value
+abbrev pub valueOn : Board → ℕ → ℕ → ℕ → ℕ → ℕ → ℕ
+valueOn b i offset size value cycle = laneWrite (present (timerAt b i) (register offset) cycle) offset size value
 
 -- a write answered 0 with the timer's clock on and nothing due, and what it makes due at once delivered: the machine's write
 abbrev pub StepWrites : Type 0
@@ -57,7 +57,7 @@ StepWrites =
     → clockOn (after cs) (timerAt (after cs) i) ≡ true → step (after cs) (C.write i offset size value cycle places) .number ≡ 0
     → Within (timerAt (step (after cs) (C.write i offset size value cycle places) .board) i)
     → Delivered (deliver f cycle (divOf (after cs) i) (timerAt (step (after cs) (C.write i offset size value cycle places) .board) i)) cycle
-    → M.write (rulesOf (timerAt (after cs) i)) (register offset) (merged (after cs) i offset size value cycle) (seen (timerAt (after cs) i) (divOf (after cs) i) cycle)
+    → M.write (rulesOf (timerAt (after cs) i)) (register offset) (valueOn (after cs) i offset size value cycle) (seen (timerAt (after cs) i) (divOf (after cs) i) cycle)
     ≡ seen (deliver f cycle (divOf (after cs) i) (timerAt (step (after cs) (C.write i offset size value cycle places) .board) i)) (divOf (after cs) i) cycle
 
 -- ---- timer i after calls cs: its divider, its rules, and what is seen of it at a cycle
@@ -141,7 +141,7 @@ abbrev pub left : List Call → ℕ → ℕ → ℕ → ℕ → ℕ → ℕ → 
 left cs i offset size value cycle places = timerAt (wrote cs i offset size value cycle places .board) i
 
 abbrev pub word : List Call → ℕ → ℕ → ℕ → ℕ → ℕ → ℕ
-word cs i offset size value cycle = merged (after cs) i offset size value cycle
+word cs i offset size value cycle = valueOn (after cs) i offset size value cycle
 
 -- a write with the timer's clock on, with events due or not: the machine's, of what is seen
 abbrev pub StepLateWrites : Type 0
