@@ -43,7 +43,7 @@ use Rattle.machine.specs.Step.{refuseIf, absent, oddSize, cycleAstray, bookFull
 use Rattle.machine.specs.Sound.{Sound}
 use Rattle.machine.proofs.Routing.{either, by-test}
 use Rattle.machine.proofs.Reach.{run-good, sound-step, sound-after}
-use Rattle.boards.specs.Boards.{divOf, after, valueOn, Boards, Lent, deliveries, before, last, treed, StepEvents, StepSeries, StepSeriesDue, StepReads, StepLate, StepLateWrites, StepResets, StepGated, StepRetimes, StepDeliversManual, StepWritesManual}
+use Rattle.boards.specs.Boards.{divOf, after, valueOn, Boards, Delivery, deliveries, before, last, treed, StepEvents, StepSeries, StepSeriesDue, StepReads, StepLate, StepLateWrites, StepResets, StepGated, StepRetimes, StepDeliversManual, StepWritesManual}
 use Rattle.boards.proofs.Kept.{at-place, elsewhere, not-astray, kept-after}
 use Rattle.boards.proofs.Stepped.{never, due-same, turn-same, run-same, Passed, peel, delivered-timer, followed-timer, delivers-so, handled, writes-so, written-is, delivers, writes}
 use Rattle.boards.proofs.Fitting.{fits}
@@ -114,10 +114,10 @@ pub record Reaches (t : Timer) (div cycle : ℕ) (u : Timer) : Type 0 where
   pub quiet : Delivered u cycle
 
 module _ (i cycle places : ℕ) where
-  abbrev end : Board → List Lent → Outcome
+  abbrev end : Board → List Delivery → Outcome
   end b ds = step (boardAfter b (deliveries i ds)) (C.deliver i cycle places)
 
-  abbrev Ends : Board → Board → List Lent → Type 0
+  abbrev Ends : Board → Board → List Delivery → Type 0
   Ends b c ds = end c ds .number ≡ 0 → Reaches (timerAt b i) (divOf b i) cycle (timerAt (end c ds .board) i) × (b .counts .last ≤ cycle)
 
   last-one : (b : Board) → Sound b → i < b .counts .timers → Ends b b []
@@ -133,7 +133,7 @@ module _ (i cycle places : ℕ) where
         early,
       )
 
-  reach : (ds : List Lent) (b : Board) → Sound b → i < b .counts .timers → Ends b b ds
+  reach : (ds : List Delivery) (b : Board) → Sound b → i < b .counts .timers → Ends b b ds
   unfolding boardAfter
   reach [] b s l = last-one b s l
   reach (d ∷ ds) b s l =

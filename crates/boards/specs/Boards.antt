@@ -77,12 +77,12 @@ view cs i c = seen (timer cs i) (divider cs i) c
 -- ---- deliveries one after the other
 
 -- a delivery's cycle and places
-pub record Lent : Type 0 where
+pub record Delivery : Type 0 where
   pub cycle : ℕ
   pub places : ℕ
 
-abbrev pub deliveries : ℕ → List Lent → List Call
-deliveries i ds = map (λ (d : Lent). C.deliver i (d .cycle) (d .places)) ds
+abbrev pub deliveries : ℕ → List Delivery → List Call
+deliveries i ds = map (λ (d : Delivery). C.deliver i (d .cycle) (d .places)) ds
 
 -- a delivery, whatever it answers (0, 8 or a refusal), is as many events as its value says
 abbrev pub StepEvents : Type 0
@@ -91,19 +91,19 @@ StepEvents =
     → timerAt (step (after cs) (C.deliver i cycle places) .board) i ≡ deliver (step (after cs) (C.deliver i cycle places) .value) cycle (divider cs i) (timer cs i)
 
 -- the board before the last delivery, what that answers, and the timer after it
-abbrev pub before : List Call → ℕ → List Lent → Board
+abbrev pub before : List Call → ℕ → List Delivery → Board
 before cs i ds = boardAfter (after cs) (deliveries i ds)
 
-abbrev pub last : List Call → ℕ → List Lent → ℕ → ℕ → C.Outcome
+abbrev pub last : List Call → ℕ → List Delivery → ℕ → ℕ → C.Outcome
 last cs i ds cycle places = step (before cs i ds) (C.deliver i cycle places)
 
-abbrev pub ended : List Call → ℕ → List Lent → ℕ → ℕ → Timer
+abbrev pub ended : List Call → ℕ → List Delivery → ℕ → ℕ → Timer
 ended cs i ds cycle places = timerAt (last cs i ds cycle places .board) i
 
 -- deliveries of which the last is answered 0, the others as may be (8 too), from a cycle a at which nothing was due: so many kernel clocks
 abbrev pub StepSeries : Type 0
 StepSeries =
-    (cs : List Call) (i a : ℕ) (ds : List Lent) (cycle places : ℕ) → i < after cs .counts .timers → WithinDown (timer cs i)
+    (cs : List Call) (i a : ℕ) (ds : List Delivery) (cycle places : ℕ) → i < after cs .counts .timers → WithinDown (timer cs i)
     → timer cs i .count .base ≤ a → a ≤ cycle → Delivered (timer cs i) a → last cs i ds cycle places .number ≡ 0
     → (clocks (rules cs i) (between (timer cs i) (divider cs i) a cycle) (view cs i a)
     ≡ seen (ended cs i ds cycle places) (divider cs i) cycle)
@@ -112,7 +112,7 @@ StepSeries =
 -- the same with events due, at the reference itself or since: from the reference, with what matches there
 abbrev pub StepSeriesDue : Type 0
 StepSeriesDue =
-    (cs : List Call) (i : ℕ) (ds : List Lent) (cycle places : ℕ) → i < after cs .counts .timers → Within (timer cs i) → last cs i ds cycle places .number ≡ 0
+    (cs : List Call) (i : ℕ) (ds : List Delivery) (cycle places : ℕ) → i < after cs .counts .timers → Within (timer cs i) → last cs i ds cycle places .number ≡ 0
     → clocks (rules cs i) (clocksAt (timer cs i) (divider cs i) cycle)
     (matched (rules cs i) (view cs i (timer cs i .count .base)))
     ≡ seen (ended cs i ds cycle places) (divider cs i) cycle
@@ -199,7 +199,7 @@ Clear cs i a cycle =
 
 abbrev pub StepDeliversManual : Type 0
 StepDeliversManual =
-    (cs : List Call) (i a : ℕ) (ds : List Lent) (cycle places : ℕ) → i < after cs .counts .timers → WithinDown (timer cs i)
+    (cs : List Call) (i a : ℕ) (ds : List Delivery) (cycle places : ℕ) → i < after cs .counts .timers → WithinDown (timer cs i)
     → timer cs i .count .base ≤ a → a ≤ cycle → Delivered (timer cs i) a → last cs i ds cycle places .number ≡ 0 → Clear cs i a cycle
     → clocks manual (between (timer cs i) (divider cs i) a cycle) (view cs i a)
     ≡ seen (ended cs i ds cycle places) (divider cs i) cycle

@@ -31,7 +31,7 @@ use Rattle.machine.proofs.Reach.{sound-step, sound-after}
 use Rattle.accuracy.specs.Claim.{joined}
 use Rattle.follows.specs.Seen as S
 use Rattle.follows.specs.Follows.{Call, Delivered}
-use Rattle.boards.specs.Boards.{divOf, after, Lent, deliveries, last}
+use Rattle.boards.specs.Boards.{divOf, after, Delivery, deliveries, last}
 use Rattle.boards.proofs.Stepped.{delivered-timer}
 use Rattle.boards.proofs.More.{by-call, delivered-keeps, inst-delivered}
 use Rattle.waves.specs.Waves.{shown, DrivenPin, recorded, StepWaves}
@@ -147,11 +147,11 @@ module _ (t₀ : Timer) (div a ch pin : ℕ) (call : Call t₀ div a) (quiet : D
           cycle (ran .none-due (sym (number-same b cycle places) ∙ z)) y from le′)
 
     module _ (cycle places : ℕ) where
-      abbrev end : Board → List Lent → Outcome
+      abbrev end : Board → List Delivery → Outcome
       end b ds = step (boardAfter b (deliveries i ds)) (C.deliver i cycle places)
 
       -- the record from here on has the machine's level
-      abbrev Shown : Board → List Entry → List Lent → Type 0
+      abbrev Shown : Board → List Entry → List Delivery → Type 0
       Shown b es ds = end b ds .number ≡ 0 → (y : ℕ) → a ≤ y → y ≤ cycle
           → levelAt pin (es ++ (joined (Step.run b (deliveries i ds)) ++ end b ds .entries)) l₀ y ≡ wave t₀ div a ch pin call quiet four l₀ y
 
@@ -161,7 +161,7 @@ module _ (t₀ : Timer) (div a ch pin : ℕ) (call : Call t₀ div a) (quiet : D
           by-call b i cycle places (λ (x : Outcome). x .number ≡ 0 → (y : ℕ) → a ≤ y → y ≤ cycle → levelAt pin (es ++ x .entries) l₀ y ≡ wave t₀ div a ch pin call quiet four l₀ y)
           (λ n ne z. absurd (ne z)) (λ le. shown-all b sound l es o cycle places le)
 
-      all-shown : (ds : List Lent) (b : Board) → Sound b → i < b .counts .timers → (es : List Entry) → Kept b es → Shown b es ds
+      all-shown : (ds : List Delivery) (b : Board) → Sound b → i < b .counts .timers → (es : List Entry) → Kept b es → Shown b es ds
       unfolding boardAfter Step.run joined
       all-shown [] b sound l es o = last-shown b sound l es o
       all-shown (d ∷ ds) b sound l es o =

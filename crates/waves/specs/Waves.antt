@@ -23,7 +23,7 @@ use Rattle.book.specs.Level.{levelAt}
 use Rattle.accuracy.specs.Claim.{joined}
 use Rattle.follows.specs.Seen.{clocksAt, per, seen, rulesOf}
 use Rattle.follows.specs.Follows.{Call, Delivered, between}
-use Rattle.boards.specs.Boards.{divOf, after, Lent, deliveries, last}
+use Rattle.boards.specs.Boards.{divOf, after, Delivery, deliveries, last}
 
 -- the count k steps after the reference, before the turn
 abbrev pub onward : Timer → ℕ → ℕ
@@ -63,14 +63,14 @@ Waves =
 -- ---- of `step`
 
 -- the entries of deliveries to timer i one after the other, joined
-abbrev pub recorded : List AnyCall → ℕ → List Lent → ℕ → ℕ → List Entry
+abbrev pub recorded : List AnyCall → ℕ → List Delivery → ℕ → ℕ → List Entry
 recorded cs i ds cycle places = joined (run (after cs) (deliveries i ds)) ++ last cs i ds cycle places .entries
 
 -- deliveries of which the last is answered 0, the others as may be (8 too), from a board that calls lead to: at every cycle from a to the last one's
 -- the record has the machine's level
 abbrev pub StepWaves : Type 0
 StepWaves =
-    (cs : List AnyCall) (i a ch pin : ℕ) (ds : List Lent) (cycle places : ℕ) → i < after cs .counts .timers → a ≤ after cs .counts .last
+    (cs : List AnyCall) (i a ch pin : ℕ) (ds : List Delivery) (cycle places : ℕ) → i < after cs .counts .timers → a ≤ after cs .counts .last
     → DrivenPin (timerAt (after cs) i) (divOf (after cs) i) a ch pin (after cs .pads) → last cs i ds cycle places .number ≡ 0
     → (c : ℕ) → a ≤ c → c ≤ cycle
     → levelAt pin (recorded cs i ds cycle places) (shown (after cs .pads) pin) c
