@@ -52,9 +52,9 @@ unfoldable pub entriesLeft : List Made → List Entry
 entriesLeft [] = []
 entriesLeft (m ∷ ms) = entriesFrom 0 (m .count) (m .left) ++ entriesLeft ms
 
-unfoldable pub callsOf : List Made → List Call
-callsOf [] = []
-callsOf (m ∷ ms) = m .calls ++ callsOf ms
+unfoldable pub callsMade : List Made → List Call
+callsMade [] = []
+callsMade (m ∷ ms) = m .calls ++ callsMade ms
 
 -- a pilot's calls as they were made: those before the start from the first board on, the start by itself, those after it
 pub record MadeOf (π : Pilot) : Type 0 where
@@ -65,9 +65,9 @@ pub record MadeOf (π : Pilot) : Type 0 where
   pub after : List Made
   pub first : view words reals ≡ firstBoard
   pub chain : Chain words reals (before ++ (start ∷ after))
-  pub calls-before : callsOf before ≡ π .before
+  pub calls-before : callsMade before ≡ π .before
   pub call-start : start .calls ≡ write (π .timer) (π .offset) (π .size) (π .value) (π .s) (π .places) ∷ []
-  pub calls-after : callsOf after ≡ π .after
+  pub calls-after : callsMade after ≡ π .after
 
 -- the pin's level at each cycle, by the books of the calls after the start, else its level in the arrays that the start left
 abbrev pub levelLeft : (π : Pilot) → MadeOf π → ℕ → ℕ
