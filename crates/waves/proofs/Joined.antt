@@ -34,7 +34,7 @@ use Rattle.follows.specs.Follows.{Call, Delivered}
 use Rattle.boards.specs.Boards.{divOf, after, Delivery, deliveries, last}
 use Rattle.boards.proofs.Stepped.{delivered-timer}
 use Rattle.boards.proofs.More.{by-call, delivered-keeps, inst-delivered}
-use Rattle.waves.specs.Waves.{shown, DrivenPin, recorded, StepWaves}
+use Rattle.waves.specs.Waves.{shown, DrivenPin, entriesMade, StepWaves}
 use Rattle.waves.proofs.Waved.{due, Told, all-told, s, q, fs, told, applied-same, due-same, nothing-left, rest, wave, begins}
 
 module _ (t₀ : Timer) (div a ch pin : ℕ) (call : Call t₀ div a) (quiet : Delivered t₀ a) (four : ch < 4) (l₀ : ℕ) where

@@ -63,8 +63,8 @@ Waves =
 -- ---- of `step`
 
 -- the entries of deliveries to timer i one after the other, joined
-abbrev pub recorded : List AnyCall → ℕ → List Delivery → ℕ → ℕ → List Entry
-recorded cs i ds cycle places = joined (run (after cs) (deliveries i ds)) ++ last cs i ds cycle places .entries
+abbrev pub entriesMade : List AnyCall → ℕ → List Delivery → ℕ → ℕ → List Entry
+entriesMade cs i ds cycle places = joined (run (after cs) (deliveries i ds)) ++ last cs i ds cycle places .entries
 
 -- deliveries of which the last is answered 0, the others as may be (8 too), from a board that calls lead to: at every cycle from a to the last one's
 -- the record has the machine's level
@@ -73,5 +73,5 @@ StepWaves =
     (cs : List AnyCall) (i a ch pin : ℕ) (ds : List Delivery) (cycle places : ℕ) → i < after cs .counts .timers → a ≤ after cs .counts .last
     → DrivenPin (timerAt (after cs) i) (divOf (after cs) i) a ch pin (after cs .pads) → last cs i ds cycle places .number ≡ 0
     → (c : ℕ) → a ≤ c → c ≤ cycle
-    → levelAt pin (recorded cs i ds cycle places) (shown (after cs .pads) pin) c
+    → levelAt pin (entriesMade cs i ds cycle places) (shown (after cs .pads) pin) c
     ≡ bit (level (clocks (rulesOf (timerAt (after cs) i)) (between (timerAt (after cs) i) (divOf (after cs) i) a c) (seen (timerAt (after cs) i) (divOf (after cs) i) a)) ch)
