@@ -97,8 +97,8 @@ before cs i ds = boardAfter (after cs) (deliveries i ds)
 abbrev pub last : List Call → ℕ → List Delivery → ℕ → ℕ → C.Outcome
 last cs i ds cycle places = step (before cs i ds) (C.deliver i cycle places)
 
-abbrev pub ended : List Call → ℕ → List Delivery → ℕ → ℕ → Timer
-ended cs i ds cycle places = timerAt (last cs i ds cycle places .board) i
+abbrev pub lastTimer : List Call → ℕ → List Delivery → ℕ → ℕ → Timer
+lastTimer cs i ds cycle places = timerAt (last cs i ds cycle places .board) i
 
 -- deliveries of which the last is answered 0, the others as may be (8 too), from a cycle a at which nothing was due: so many kernel clocks
 abbrev pub StepSeries : Type 0
@@ -106,8 +106,8 @@ StepSeries =
     (cs : List Call) (i a : ℕ) (ds : List Delivery) (cycle places : ℕ) → i < after cs .counts .timers → WithinDown (timer cs i)
     → timer cs i .count .base ≤ a → a ≤ cycle → Delivered (timer cs i) a → last cs i ds cycle places .number ≡ 0
     → (clocks (rules cs i) (between (timer cs i) (divider cs i) a cycle) (view cs i a)
-    ≡ seen (ended cs i ds cycle places) (divider cs i) cycle)
-    × Delivered (ended cs i ds cycle places) cycle
+    ≡ seen (lastTimer cs i ds cycle places) (divider cs i) cycle)
+    × Delivered (lastTimer cs i ds cycle places) cycle
 
 -- the same with events due, at the reference itself or since: from the reference, with what matches there
 abbrev pub StepSeriesDue : Type 0
@@ -115,7 +115,7 @@ StepSeriesDue =
     (cs : List Call) (i : ℕ) (ds : List Delivery) (cycle places : ℕ) → i < after cs .counts .timers → Within (timer cs i) → last cs i ds cycle places .number ≡ 0
     → clocks (rules cs i) (clocksAt (timer cs i) (divider cs i) cycle)
     (matched (rules cs i) (view cs i (timer cs i .count .base)))
-    ≡ seen (ended cs i ds cycle places) (divider cs i) cycle
+    ≡ seen (lastTimer cs i ds cycle places) (divider cs i) cycle
 
 -- ---- reads, late calls and writes, reset, gate, clock tree
 
@@ -202,7 +202,7 @@ StepDeliversManual =
     (cs : List Call) (i a : ℕ) (ds : List Delivery) (cycle places : ℕ) → i < after cs .counts .timers → WithinDown (timer cs i)
     → timer cs i .count .base ≤ a → a ≤ cycle → Delivered (timer cs i) a → last cs i ds cycle places .number ≡ 0 → Clear cs i a cycle
     → clocks manual (between (timer cs i) (divider cs i) a cycle) (view cs i a)
-    ≡ seen (ended cs i ds cycle places) (divider cs i) cycle
+    ≡ seen (lastTimer cs i ds cycle places) (divider cs i) cycle
 
 abbrev pub StepWritesManual : Type 0
 StepWritesManual =
