@@ -71,8 +71,8 @@ divider cs i = divOf (after cs) i
 abbrev pub rules : List Call → ℕ → Rules
 rules cs i = rulesOf (timer cs i)
 
-abbrev pub view : List Call → ℕ → ℕ → State.Timer
-view cs i c = seen (timer cs i) (divider cs i) c
+abbrev pub seenAfter : List Call → ℕ → ℕ → State.Timer
+seenAfter cs i c = seen (timer cs i) (divider cs i) c
 
 -- ---- deliveries one after the other
 
@@ -105,7 +105,7 @@ abbrev pub StepSeries : Type 0
 StepSeries =
     (cs : List Call) (i a : ℕ) (ds : List Delivery) (cycle places : ℕ) → i < after cs .counts .timers → WithinDown (timer cs i)
     → timer cs i .count .base ≤ a → a ≤ cycle → Delivered (timer cs i) a → last cs i ds cycle places .number ≡ 0
-    → (clocks (rules cs i) (between (timer cs i) (divider cs i) a cycle) (view cs i a)
+    → (clocks (rules cs i) (between (timer cs i) (divider cs i) a cycle) (seenAfter cs i a)
     ≡ seen (lastTimer cs i ds cycle places) (divider cs i) cycle)
     × Delivered (lastTimer cs i ds cycle places) cycle
 
@@ -114,7 +114,7 @@ abbrev pub StepSeriesDue : Type 0
 StepSeriesDue =
     (cs : List Call) (i : ℕ) (ds : List Delivery) (cycle places : ℕ) → i < after cs .counts .timers → Within (timer cs i) → last cs i ds cycle places .number ≡ 0
     → clocks (rules cs i) (clocksAt (timer cs i) (divider cs i) cycle)
-    (matched (rules cs i) (view cs i (timer cs i .count .base)))
+    (matched (rules cs i) (seenAfter cs i (timer cs i .count .base)))
     ≡ seen (lastTimer cs i ds cycle places) (divider cs i) cycle
 
 -- ---- reads, late calls and writes, reset, gate, clock tree
@@ -124,14 +124,14 @@ abbrev pub StepReads : Type 0
 StepReads =
     (cs : List Call) (i offset size cycle : ℕ) → step (after cs) (C.read i offset size cycle) .number ≡ 0
     → step (after cs) (C.read i offset size cycle) .value
-    ≡ cond (clockOn (after cs) (timer cs i)) (laneRead (read (register offset) (view cs i cycle)) offset size) 0
+    ≡ cond (clockOn (after cs) (timer cs i)) (laneRead (read (register offset) (seenAfter cs i cycle)) offset size) 0
 
 -- at any cycle of a call, with events due or not, the machine is seen of whose clocks the counters alone are seen
 abbrev pub StepLate : Type 0
 StepLate =
     (cs : List Call) (i cycle : ℕ) → i < after cs .counts .timers → Within (timer cs i) → after cs .counts .last ≤ cycle
-    → passes (rules cs i) (clocksAt (timer cs i) (divider cs i) cycle) (view cs i (timer cs i .count .base))
-    ≡ view cs i cycle
+    → passes (rules cs i) (clocksAt (timer cs i) (divider cs i) cycle) (seenAfter cs i (timer cs i .count .base))
+    ≡ seenAfter cs i cycle
 
 -- what a write answers, the timer that it leaves, and the value that it gives its register
 abbrev pub wrote : List Call → ℕ → ℕ → ℕ → ℕ → ℕ → ℕ → C.Outcome
@@ -150,8 +150,8 @@ StepLateWrites =
     → clockOn (after cs) (timer cs i) ≡ true → wrote cs i offset size value cycle places .number ≡ 0
     → Within (left cs i offset size value cycle places)
     → Delivered (deliver f cycle (divider cs i) (left cs i offset size value cycle places)) cycle
-    → M.write (rules cs i) (register offset) (word cs i offset size value cycle) (view cs i cycle)
-    ≡ cond (acts (register offset) (word cs i offset size value cycle) (view cs i cycle))
+    → M.write (rules cs i) (register offset) (word cs i offset size value cycle) (seenAfter cs i cycle)
+    ≡ cond (acts (register offset) (word cs i offset size value cycle) (seenAfter cs i cycle))
     (seen (deliver f cycle (divider cs i) (left cs i offset size value cycle places)) (divider cs i) cycle)
     (seen (left cs i offset size value cycle places) (divider cs i) cycle)
 
@@ -159,7 +159,7 @@ StepLateWrites =
 abbrev pub StepResets : Type 0
 StepResets =
     (cs : List Call) (i cycle places : ℕ) → i < after cs .counts .timers → step (after cs) (C.resetTimer i cycle places) .number ≡ 0
-    → M.reset (view cs i cycle) ≡ seen (timerAt (step (after cs) (C.resetTimer i cycle places) .board) i) (divider cs i) cycle
+    → M.reset (seenAfter cs i cycle) ≡ seen (timerAt (step (after cs) (C.resetTimer i cycle places) .board) i) (divider cs i) cycle
 
 -- with its clock off a write leaves the timer; the gate itself stops nothing (docs/DIFFERENCES.md, gated-counts)
 abbrev pub StepGated : Type 0
@@ -178,7 +178,7 @@ StepRetimes =
     → differing (after cs .clocks .tree) tree ≡ true
     → (timerAt (treed cs tree cycle) i .count .running ≡ true → ticksAt (timerAt (treed cs tree cycle) i) cycle ≡ 0)
     → seen (timerAt (treed cs tree cycle) i) (divOf (treed cs tree cycle) i) cycle
-    ≡ State.withCount (view cs i cycle) (synced (timer cs i) cycle .count .running)
+    ≡ State.withCount (seenAfter cs i cycle) (synced (timer cs i) cycle .count .running)
     (cond (synced (timer cs i) cycle .count .running)
     (clocksAt (synced (timer cs i) cycle) (divOf (treed cs tree cycle) i) cycle % per (synced (timer cs i) cycle)) 0)
     (cntAt (timer cs i) cycle)
@@ -189,19 +189,19 @@ StepRetimes =
 abbrev pub StepFits : Type 0
 StepFits =
     (cs : List Call) (i cycle : ℕ)
-    → Fits (view cs i cycle) × (timer cs i .regs .arr ≤ view cs i cycle .max)
+    → Fits (seenAfter cs i cycle) × (timer cs i .regs .arr ≤ seenAfter cs i cycle .max)
 
 -- clocks of which none meets a case that the timer's rules leave to the Rust
 abbrev pub Clear : List Call → ℕ → ℕ → ℕ → Type 0
 Clear cs i a cycle =
     (m : ℕ) → m < between (timer cs i) (divider cs i) a cycle
-    → Outside (rules cs i) (clocks (rules cs i) m (view cs i a))
+    → Outside (rules cs i) (clocks (rules cs i) m (seenAfter cs i a))
 
 abbrev pub StepDeliversManual : Type 0
 StepDeliversManual =
     (cs : List Call) (i a : ℕ) (ds : List Delivery) (cycle places : ℕ) → i < after cs .counts .timers → WithinDown (timer cs i)
     → timer cs i .count .base ≤ a → a ≤ cycle → Delivered (timer cs i) a → last cs i ds cycle places .number ≡ 0 → Clear cs i a cycle
-    → clocks manual (between (timer cs i) (divider cs i) a cycle) (view cs i a)
+    → clocks manual (between (timer cs i) (divider cs i) a cycle) (seenAfter cs i a)
     ≡ seen (lastTimer cs i ds cycle places) (divider cs i) cycle
 
 abbrev pub StepWritesManual : Type 0
@@ -210,8 +210,8 @@ StepWritesManual =
     → clockOn (after cs) (timer cs i) ≡ true → wrote cs i offset size value cycle places .number ≡ 0
     → Within (left cs i offset size value cycle places)
     → Delivered (deliver f cycle (divider cs i) (left cs i offset size value cycle places)) cycle
-    → OutsideWrite (rules cs i) (register offset) (word cs i offset size value cycle) (view cs i cycle)
-    → M.write manual (register offset) (word cs i offset size value cycle) (view cs i cycle)
+    → OutsideWrite (rules cs i) (register offset) (word cs i offset size value cycle) (seenAfter cs i cycle)
+    → M.write manual (register offset) (word cs i offset size value cycle) (seenAfter cs i cycle)
     ≡ seen (deliver f cycle (divider cs i) (left cs i offset size value cycle places)) (divider cs i) cycle
 
 pub record Boards : Type 0 where
