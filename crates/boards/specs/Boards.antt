@@ -140,8 +140,8 @@ wrote cs i offset size value cycle places = step (after cs) (C.write i offset si
 abbrev pub left : List Call → ℕ → ℕ → ℕ → ℕ → ℕ → ℕ → Timer
 left cs i offset size value cycle places = timerAt (wrote cs i offset size value cycle places .board) i
 
-abbrev pub word : List Call → ℕ → ℕ → ℕ → ℕ → ℕ → ℕ
-word cs i offset size value cycle = valueOn (after cs) i offset size value cycle
+abbrev pub valueWritten : List Call → ℕ → ℕ → ℕ → ℕ → ℕ → ℕ
+valueWritten cs i offset size value cycle = valueOn (after cs) i offset size value cycle
 
 -- a write with the timer's clock on, with events due or not: the machine's, of what is seen
 abbrev pub StepLateWrites : Type 0
@@ -150,8 +150,8 @@ StepLateWrites =
     → clockOn (after cs) (timer cs i) ≡ true → wrote cs i offset size value cycle places .number ≡ 0
     → Within (left cs i offset size value cycle places)
     → Delivered (deliver f cycle (divider cs i) (left cs i offset size value cycle places)) cycle
-    → M.write (rules cs i) (register offset) (word cs i offset size value cycle) (seenAfter cs i cycle)
-    ≡ cond (acts (register offset) (word cs i offset size value cycle) (seenAfter cs i cycle))
+    → M.write (rules cs i) (register offset) (valueWritten cs i offset size value cycle) (seenAfter cs i cycle)
+    ≡ cond (acts (register offset) (valueWritten cs i offset size value cycle) (seenAfter cs i cycle))
     (seen (deliver f cycle (divider cs i) (left cs i offset size value cycle places)) (divider cs i) cycle)
     (seen (left cs i offset size value cycle places) (divider cs i) cycle)
 
@@ -210,8 +210,8 @@ StepWritesManual =
     → clockOn (after cs) (timer cs i) ≡ true → wrote cs i offset size value cycle places .number ≡ 0
     → Within (left cs i offset size value cycle places)
     → Delivered (deliver f cycle (divider cs i) (left cs i offset size value cycle places)) cycle
-    → OutsideWrite (rules cs i) (register offset) (word cs i offset size value cycle) (seenAfter cs i cycle)
-    → M.write manual (register offset) (word cs i offset size value cycle) (seenAfter cs i cycle)
+    → OutsideWrite (rules cs i) (register offset) (valueWritten cs i offset size value cycle) (seenAfter cs i cycle)
+    → M.write manual (register offset) (valueWritten cs i offset size value cycle) (seenAfter cs i cycle)
     ≡ seen (deliver f cycle (divider cs i) (left cs i offset size value cycle places)) (divider cs i) cycle
 
 pub record Boards : Type 0 where
