@@ -16,7 +16,7 @@ use borrow.Author.Tests.{eqb-true, eqb-false}
 use Rattle.book.specs.Book.{Entry, Lent, places}
 use Rattle.shift.specs.declared.Track.{Track}
 use Rattle.shift.specs.declared.Summary.{Summary}
-use Rattle.shift.specs.Shift.{Shift, levelOf, levelBefore, isEdge, edges, highPins, outOfOrder, numberOf, entriesFrom, entriesIn, Figures, figures, figuresAt, Reports}
+use Rattle.shift.specs.Shift.{Shift, levelBit, levelBefore, isEdge, edges, highPins, outOfOrder, numberOf, entriesFrom, entriesIn, Figures, figures, figuresAt, Reports}
 use Rattle.shift.specs.Kept.{trackAt, freshTrack, Fresh, putTrack, numberIn, entered, fed, figuresOf, putFigures, Written, highTracks, numberGiven, Ended, Told, Stands}
 use Rattle.shift.proofs.Standing.{put-length, put-same, put-apart, byTests, stands-fed}
 
@@ -66,14 +66,14 @@ module _ (s : Shift) (es : List Entry) (w : List ℕ) (h : Stands s es w) where
 -- ---- the loops
 
 -- begin: one pin more
-pub fresh-more : (words : List ℕ) (from to n : ℕ) (w w₁ : List ℕ) (t : Track) → n < 128 → Fresh words from to n w → t ≡ freshTrack from to (levelOf words n)
+pub fresh-more : (words : List ℕ) (from to n : ℕ) (w w₁ : List ℕ) (t : Track) → n < 128 → Fresh words from to n w → t ≡ freshTrack from to (levelBit words n)
     → w₁ ≡ putTrack w n t → Fresh words from to (n + 1) w₁
 fresh-more words from to n w w₁ t lt f e k =
     record { long = ap length k ∙ put-length w n t ∙ f .long; each = λ pin h. rw k (go pin (eqb n pin) refl h) }
   where
-    go : (pin : ℕ) (b : Bool) → eqb n pin ≡ b → pin < n + 1 → trackAt (putTrack w n t) pin ≡ freshTrack from to (levelOf words pin)
+    go : (pin : ℕ) (b : Bool) → eqb n pin ≡ b → pin < n + 1 → trackAt (putTrack w n t) pin ≡ freshTrack from to (levelBit words pin)
     go pin true x h =
-        subst (λ (p : ℕ). trackAt (putTrack w n t) p ≡ freshTrack from to (levelOf words p)) (eqb-true n pin x)
+        subst (λ (p : ℕ). trackAt (putTrack w n t) p ≡ freshTrack from to (levelBit words p)) (eqb-true n pin x)
         (put-same w n t (omega (arith, f .long)) ∙ e)
     go pin false x h =
         let d = eqb-false n pin x in

@@ -13,7 +13,7 @@ use borrow.Author.Tests.{eqb-true, eqb-false, ltb-true, ltb-false}
 use Rattle.book.specs.Book.{Entry}
 use Rattle.book.specs.Level.{levelAt, highs}
 use Rattle.shift.specs.declared.Track.{Track}
-use Rattle.shift.specs.Shift.{Shift, levelOf, levelBefore, edges, cycleBefore, misplaced, outOfOrder, numberOf}
+use Rattle.shift.specs.Shift.{Shift, levelBit, levelBefore, edges, cycleBefore, misplaced, outOfOrder, numberOf}
 use Rattle.shift.specs.Kept.{counts, turned, passed, took, trackAt, putTrack, freshTrack, Fresh, fromOf, toOf, numberIn, strays, entered, fed, latest, Told, Stands}
 use Rattle.shift.proofs.Laws.{order-more, told-other, repeats, too-late, turns}
 
@@ -240,8 +240,8 @@ highs-still l a (suc W) = go (eqb l 1) (highs-still l a W)
     go true h = omega arith
     go false h = omega arith
 
-level-bit : (words : List ℕ) (pin : ℕ) → levelOf words pin ≤ 1
-unfolding levelOf
+level-bit : (words : List ℕ) (pin : ℕ) → levelBit words pin ≤ 1
+unfolding levelBit
 level-bit words pin = omega (arith, mod-lt (getD words (pin / 32) 0 / 2 ^ (pin % 32)) {m = 2} (omega arith))
 
 told-fresh : (s : Shift) (pin : ℕ) → Told s [] pin (freshTrack (s .from) (s .to) (levelBefore s pin))

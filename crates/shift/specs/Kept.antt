@@ -9,7 +9,7 @@ use Rattle.book.specs.Book.{Entry, Lent}
 use Rattle.book.specs.Level.{levelAt}
 use Rattle.shift.specs.declared.Track.{Track}
 use Rattle.shift.specs.declared.Summary.{Summary}
-use Rattle.shift.specs.Shift.{Shift, levelOf, levelBefore, levelIn, highIn, edges, lastCycle, cycleBefore, numberOf, Figures, figuresAt}
+use Rattle.shift.specs.Shift.{Shift, levelBit, levelBefore, levelIn, highIn, edges, lastCycle, cycleBefore, numberOf, Figures, figuresAt}
 
 -- ---- a pin's track: the cycle of its last entry, its level at the end of the shift and its high cycles if no entry follows, its edges
 
@@ -57,7 +57,7 @@ freshTrack from to l = track 0 l (cond (eqb l 1) (to - from) 0) 0
 -- the first n pins of a shift that begins
 pub record Fresh (words : List ℕ) (from to n : ℕ) (w : List ℕ) : Type 0 where
   pub long : length w ≡ 515
-  pub each : (pin : ℕ) → pin < n → trackAt w pin ≡ freshTrack from to (levelOf words pin)
+  pub each : (pin : ℕ) → pin < n → trackAt w pin ≡ freshTrack from to (levelBit words pin)
 
 abbrev pub fromOf : List ℕ → ℕ
 fromOf w = getD w 512 0

@@ -18,11 +18,11 @@ abbrev pub shift : List ℕ → ℕ → ℕ → Shift
 shift words from to = record { words = words; from = from; to = to }
 
 -- "pin i at bit i mod 32 of word i div 32"
-unfoldable pub levelOf : List ℕ → ℕ → ℕ
-levelOf words pin = getD words (pin / 32) 0 / 2 ^ (pin % 32) % 2
+unfoldable pub levelBit : List ℕ → ℕ → ℕ
+levelBit words pin = getD words (pin / 32) 0 / 2 ^ (pin % 32) % 2
 
 abbrev pub levelBefore : Shift → ℕ → ℕ
-levelBefore s pin = levelOf (s .words) pin
+levelBefore s pin = levelBit (s .words) pin
 
 -- ---- "Given the joined book": its entries, as many as its shortest slice has places
 
