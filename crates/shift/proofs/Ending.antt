@@ -17,7 +17,7 @@ use Rattle.book.specs.Book.{Entry, Lent, places}
 use Rattle.shift.specs.declared.Track.{Track}
 use Rattle.shift.specs.declared.Summary.{Summary}
 use Rattle.shift.specs.Shift.{Shift, levelBit, levelBefore, isEdge, edges, highPins, outOfOrder, numberOf, entriesFrom, entriesIn, Figures, figures, figuresAt, Reports}
-use Rattle.shift.specs.Kept.{trackAt, freshTrack, Fresh, putTrack, numberIn, entered, fed, figuresOf, putFigures, Written, highTracks, numberGiven, Ended, Told, Stands}
+use Rattle.shift.specs.Kept.{trackAt, freshTrack, Fresh, putTrack, numberKept, entered, fed, figuresOf, putFigures, Written, highTracks, numberGiven, Ended, Told, Stands}
 use Rattle.shift.proofs.Standing.{put-length, put-same, put-apart, byTests, stands-fed}
 
 -- ---- edges fit a word
@@ -219,19 +219,19 @@ unfolding highTracks
 high-none w = refl
 
 -- what `shift_end` promises
-module _ (w : List ℕ) (n : ℕ) (f : List ℕ) (e : n ≡ numberGiven (numberIn w)) where
+module _ (w : List ℕ) (n : ℕ) (f : List ℕ) (e : n ≡ numberGiven (numberKept w)) where
   pub ended-refused : (n ≡ 0 → ⊥) → Ended w (record { number = n; high = 0 }) f f
   ended-refused ne = record {
     answered = e;
     refused = λ z. (refl, refl);
-    pins = λ z. absurd (ne (e ∙ given-number (numberIn w) z));
-    each = λ z. absurd (ne (e ∙ given-number (numberIn w) z));
+    pins = λ z. absurd (ne (e ∙ given-number (numberKept w) z));
+    each = λ z. absurd (ne (e ∙ given-number (numberKept w) z));
   }
 
   pub ended-served : (h : ℕ) (f₁ : List ℕ) → n ≡ 0 → Written w 128 f₁ → h ≡ highTracks w 128 → Ended w (record { number = 0; high = h }) f f₁
   ended-served h f₁ z k j = record {
     answered = sym z ∙ e;
-    refused = λ ne. absurd (ne (number-given (numberIn w) (sym e ∙ z)));
+    refused = λ ne. absurd (ne (number-given (numberKept w) (sym e ∙ z)));
     pins = λ x. j;
     each = λ x. k .1;
   }

@@ -14,7 +14,7 @@ use Rattle.book.specs.Book.{Entry}
 use Rattle.book.specs.Level.{levelAt, highs}
 use Rattle.shift.specs.declared.Track.{Track}
 use Rattle.shift.specs.Shift.{Shift, levelBit, levelBefore, edges, cycleBefore, misplaced, outOfOrder, numberOf}
-use Rattle.shift.specs.Kept.{counts, turned, passed, took, trackAt, putTrack, freshTrack, Fresh, fromOf, toOf, numberIn, strays, entered, fed, latest, Told, Stands}
+use Rattle.shift.specs.Kept.{counts, turned, passed, took, trackAt, putTrack, freshTrack, Fresh, fromOf, toOf, numberKept, strays, entered, fed, latest, Told, Stands}
 use Rattle.shift.proofs.Laws.{order-more, told-other, repeats, too-late, turns}
 
 -- ---- the words
@@ -196,18 +196,18 @@ module _ (s : Shift) (es : List Entry) (e : Entry) where
 
     pub stands-entered : Grows (entered w e)
     unfolding entered
-    stands-entered = go (eqb (numberIn w) 0) refl
+    stands-entered = go (eqb (numberKept w) 0) refl
       where
         served : numberOf s es ≡ 0 → (b : Bool) → strays w e ≡ b
             → Grows (cond b (set w 514 10) (putTrack w (e .pin) (took (fromOf w) (toOf w) (trackAt w (e .pin)) (e .level) (e .cycle))))
         served z true x = turned-away z (sym (same-stray z) ∙ x)
         served z false x = taken z (sym (same-stray z) ∙ x)
 
-        go : (b : Bool) → eqb (numberIn w) 0 ≡ b
+        go : (b : Bool) → eqb (numberKept w) 0 ≡ b
             → Grows (cond b (cond (strays w e) (set w 514 10) (putTrack w (e .pin) (took (fromOf w) (toOf w) (trackAt w (e .pin)) (e .level) (e .cycle)))) w)
-        go true x = served (sym (h .number) ∙ eqb-true (numberIn w) 0 x) (strays w e) refl
+        go true x = served (sym (h .number) ∙ eqb-true (numberKept w) 0 x) (strays w e) refl
         go false x =
-            let n : numberOf s es ≡ 0 → ⊥ = λ k. eqb-false (numberIn w) 0 x (h .number ∙ k) in
+            let n : numberOf s es ≡ 0 → ⊥ = λ k. eqb-false (numberKept w) 0 x (h .number ∙ k) in
             record {
               long = h .long;
               fits = h .fits;

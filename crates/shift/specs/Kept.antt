@@ -65,8 +65,8 @@ fromOf w = getD w 512 0
 abbrev pub toOf : List ℕ → ℕ
 toOf w = getD w 513 0
 
-abbrev pub numberIn : List ℕ → ℕ
-numberIn w = getD w 514 0
+abbrev pub numberKept : List ℕ → ℕ
+numberKept w = getD w 514 0
 
 -- ---- any words, fed any entries
 
@@ -76,7 +76,7 @@ strays w e = ltb 127 (e .pin) || (ltb 1 (e .level) || ltb (e .cycle) (trackAt w 
 -- one entry: nothing once there is a number
 unfoldable pub entered : List ℕ → Entry → List ℕ
 entered w e =
-    cond (eqb (numberIn w) 0)
+    cond (eqb (numberKept w) 0)
     (cond (strays w e) (set w 514 10) (putTrack w (e .pin) (took (fromOf w) (toOf w) (trackAt w (e .pin)) (e .level) (e .cycle)))) w
 
 unfoldable pub fed : List ℕ → List Entry → List ℕ
@@ -104,10 +104,10 @@ unfoldable pub numberGiven : ℕ → ℕ
 numberGiven n = cond (eqb n 0) 0 (cond (eqb n 9) 9 10)
 
 pub record Ended (w : List ℕ) (r : Summary) (lent left : List ℕ) : Type 0 where
-  pub answered : r .number ≡ numberGiven (numberIn w)
-  pub refused : (numberIn w ≡ 0 → ⊥) → (r .high ≡ 0) × (left ≡ lent)
-  pub pins : numberIn w ≡ 0 → r .high ≡ highTracks w 128
-  pub each : numberIn w ≡ 0 → (pin : ℕ) → pin < 128 → figuresAt left pin ≡ figuresOf w (trackAt w pin)
+  pub answered : r .number ≡ numberGiven (numberKept w)
+  pub refused : (numberKept w ≡ 0 → ⊥) → (r .high ≡ 0) × (left ≡ lent)
+  pub pins : numberKept w ≡ 0 → r .high ≡ highTracks w 128
+  pub each : numberKept w ≡ 0 → (pin : ℕ) → pin < 128 → figuresAt left pin ≡ figuresOf w (trackAt w pin)
 
 -- ---- the words stand for a shift and the entries so far
 
@@ -131,5 +131,5 @@ pub record Stands (s : Shift) (es : List Entry) (w : List ℕ) : Type 0 where
   pub fits : s .to < 18446744073709551616
   pub from : fromOf w ≡ s .from
   pub to : toOf w ≡ s .to
-  pub number : numberIn w ≡ numberOf s es
+  pub number : numberKept w ≡ numberOf s es
   pub tracks : numberOf s es ≡ 0 → (pin : ℕ) → pin < 128 → Told s es pin (trackAt w pin)
