@@ -12,7 +12,7 @@ use Rattle.book.specs.Book.{Entry}
 use Rattle.book.specs.Level.{levelAt, highs}
 use Rattle.shift.specs.declared.Track.{Track}
 use Rattle.shift.specs.Shift.{Shift, levelBefore, levelIn, highIn, isEdge, edges, lastCycle, cycleBefore, misplaced, outOfOrder}
-use Rattle.shift.specs.Kept.{counts, rest, turned, passed, latest, Told}
+use Rattle.shift.specs.Kept.{counts, rest, turnedTrack, passed, latest, Told}
 
 -- ---- one entry more in each definition
 
@@ -241,11 +241,11 @@ module _ (s : Shift) (es : List Entry) (e : Entry) where
 
     -- an entry that changes the level
     pub turns : (e .level ≡ t .level → ⊥) → counts (s .from) (s .to) (e .cycle) ≡ true → s .from ≤ s .to → s .to < 18446744073709551616
-        → Told s grown (e .pin) (turned (s .from) (s .to) t (e .level) (e .cycle))
+        → Told s grown (e .pin) (turnedTrack (s .from) (s .to) t (e .level) (e .cycle))
     turns n h fwd fits =
         let k : e .cycle ≤ lastCycle s = within s (e .cycle) h in
         let l : t .level ≡ level₀ = at-end k in
-        built (turned (s .from) (s .to) t (e .level) (e .cycle)) refl (sym (since (lastCycle s) k)) (heights (eqb (e .level) 1) refl l)
+        built (turnedTrack (s .from) (s .to) t (e .level) (e .cycle)) refl (sym (since (lastCycle s) k)) (heights (eqb (e .level) 1) refl l)
         (edge (ltb (s .from) (e .cycle)) refl (ltb (e .cycle) (s .to)) refl l h)
       where
         heights : (b : Bool) → eqb (e .level) 1 ≡ b → t .level ≡ level₀

@@ -33,14 +33,14 @@ abbrev pub moreEdges : ℕ → ℕ → ℕ → ℕ
 moreEdges edges from c = cond (ltb from c) ((edges + 1) % 18446744073709551616) edges
 
 -- an entry that changes the level, and any other
-abbrev pub turned : ℕ → ℕ → Track → ℕ → ℕ → Track
-turned from to t l c = track c l (turnedHigh (t .high) (rest from to c) l) (moreEdges (t .edges) from c)
+abbrev pub turnedTrack : ℕ → ℕ → Track → ℕ → ℕ → Track
+turnedTrack from to t l c = track c l (turnedHigh (t .high) (rest from to c) l) (moreEdges (t .edges) from c)
 
 abbrev pub passed : Track → ℕ → Track
 passed t c = track c (t .level) (t .high) (t .edges)
 
 unfoldable pub took : ℕ → ℕ → Track → ℕ → ℕ → Track
-took from to t l c = cond (eqb l (t .level)) (passed t c) (cond (counts from to c) (turned from to t l c) (passed t c))
+took from to t l c = cond (eqb l (t .level)) (passed t c) (cond (counts from to c) (turnedTrack from to t l c) (passed t c))
 
 -- ---- the words
 
