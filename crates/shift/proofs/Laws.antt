@@ -12,7 +12,7 @@ use Rattle.book.specs.Book.{Entry}
 use Rattle.book.specs.Level.{levelAt, highs}
 use Rattle.shift.specs.declared.Track.{Track}
 use Rattle.shift.specs.Shift.{Shift, levelBefore, levelIn, highIn, isEdge, edges, lastCycle, cycleBefore, misplaced, outOfOrder}
-use Rattle.shift.specs.Kept.{counts, rest, turnedTrack, passed, latest, Told}
+use Rattle.shift.specs.Kept.{counts, rest, turnedTrack, passedTrack, latest, Told}
 
 -- ---- one entry more in each definition
 
@@ -203,13 +203,13 @@ module _ (s : Shift) (es : List Entry) (e : Entry) where
         go x false h = subst (λ (n : ℕ). n ≤ 1) (sym (before x (leb-false (e .cycle) x h))) (told .small x)
 
     -- an entry that changes nothing before the end of the shift
-    quiet : ((c : ℕ) → c ≤ lastCycle s → is c ≡ was c) → isEdge s level₀ e ≡ false → Told s grown (e .pin) (passed t (e .cycle))
-    quiet same none = built (passed t (e .cycle)) refl (told .level ∙ sym (same (lastCycle s) (omega arith)))
+    quiet : ((c : ℕ) → c ≤ lastCycle s → is c ≡ was c) → isEdge s level₀ e ≡ false → Told s grown (e .pin) (passedTrack t (e .cycle))
+    quiet same none = built (passedTrack t (e .cycle)) refl (told .level ∙ sym (same (lastCycle s) (omega arith)))
         (told .high ∙ highs-same was is (s .from) (s .to - s .from) (λ c lo hi. sym (same c (window s c lo hi))))
         (told .edges ∙ ap (λ (x : ℕ). x % 18446744073709551616) (rw none (omega arith)))
 
     -- "An entry that repeats its pin's level is no edge."
-    pub repeats : e .level ≡ t .level → Told s grown (e .pin) (passed t (e .cycle))
+    pub repeats : e .level ≡ t .level → Told s grown (e .pin) (passedTrack t (e .cycle))
     repeats v = quiet (λ c h. same c (leb (e .cycle) c) refl h) (edge (ltb (s .from) (e .cycle)) (ltb (e .cycle) (s .to)) refl)
       where
         same : (c : ℕ) (b : Bool) → leb (e .cycle) c ≡ b → c ≤ lastCycle s → is c ≡ was c
@@ -224,7 +224,7 @@ module _ (s : Shift) (es : List Entry) (e : Entry) where
         edge true true h = rw (eq-eqb (e .level) level₀ (v ∙ at-end (within s (e .cycle) (rw h)))) refl
 
     -- an entry at to or later
-    pub too-late : counts (s .from) (s .to) (e .cycle) ≡ false → Told s grown (e .pin) (passed t (e .cycle))
+    pub too-late : counts (s .from) (s .to) (e .cycle) ≡ false → Told s grown (e .pin) (passedTrack t (e .cycle))
     too-late h =
         let o = beyond s (e .cycle) h in
         quiet (λ c le. before c (omega (arith, o .2))) (rw (le-ltb (e .cycle) (s .to) (o .0)) (no (ltb (s .from) (e .cycle))))

@@ -14,7 +14,7 @@ use Rattle.book.specs.Book.{Entry}
 use Rattle.book.specs.Level.{levelAt, highs}
 use Rattle.shift.specs.declared.Track.{Track}
 use Rattle.shift.specs.Shift.{Shift, levelBit, levelBefore, edges, cycleBefore, misplaced, outOfOrder, numberOf}
-use Rattle.shift.specs.Kept.{counts, turnedTrack, passed, took, trackAt, putTrack, freshTrack, Fresh, fromOf, toOf, numberKept, strays, entered, fed, latest, Told, Stands}
+use Rattle.shift.specs.Kept.{counts, turnedTrack, passedTrack, took, trackAt, putTrack, freshTrack, Fresh, fromOf, toOf, numberKept, strays, entered, fed, latest, Told, Stands}
 use Rattle.shift.proofs.Laws.{order-more, told-other, repeats, too-late, turns}
 
 -- ---- the words
@@ -102,7 +102,7 @@ module _ (s : Shift) (es : List Entry) (e : Entry) where
   told-own t told order bit fwd fits = go (eqb (e .level) (t .level)) refl (counts (s .from) (s .to) (e .cycle)) refl
     where
       go : (a : Bool) → eqb (e .level) (t .level) ≡ a → (b : Bool) → counts (s .from) (s .to) (e .cycle) ≡ b
-          → Told s grown (e .pin) (cond a (passed t (e .cycle)) (cond b (turnedTrack (s .from) (s .to) t (e .level) (e .cycle)) (passed t (e .cycle))))
+          → Told s grown (e .pin) (cond a (passedTrack t (e .cycle)) (cond b (turnedTrack (s .from) (s .to) t (e .level) (e .cycle)) (passedTrack t (e .cycle))))
       go true x b y = repeats s es e t told order bit (eqb-true (e .level) (t .level) x)
       go false x true y = turns s es e t told order bit (eqb-false (e .level) (t .level) x) y fwd fits
       go false x false y = too-late s es e t told order bit y

@@ -36,11 +36,11 @@ moreEdges edges from c = cond (ltb from c) ((edges + 1) % 18446744073709551616) 
 abbrev pub turnedTrack : ℕ → ℕ → Track → ℕ → ℕ → Track
 turnedTrack from to t l c = track c l (turnedHigh (t .high) (rest from to c) l) (moreEdges (t .edges) from c)
 
-abbrev pub passed : Track → ℕ → Track
-passed t c = track c (t .level) (t .high) (t .edges)
+abbrev pub passedTrack : Track → ℕ → Track
+passedTrack t c = track c (t .level) (t .high) (t .edges)
 
 unfoldable pub took : ℕ → ℕ → Track → ℕ → ℕ → Track
-took from to t l c = cond (eqb l (t .level)) (passed t c) (cond (counts from to c) (turnedTrack from to t l c) (passed t c))
+took from to t l c = cond (eqb l (t .level)) (passedTrack t c) (cond (counts from to c) (turnedTrack from to t l c) (passedTrack t c))
 
 -- ---- the words
 
