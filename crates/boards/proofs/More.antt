@@ -52,7 +52,7 @@ use Rattle.boards.proofs.Fitting.{fits}
 
 one-event : (now div : ℕ) (t : Timer) (p : Pads) (r : Run) (es : List Entry) (q l : Bool) → dueBy (nextEvent t) now ≡ q
     → r .timer ≡ S.deliver (r .events) now div (S.applied t div (nextEvent t))
-    → cond q (cond l (stop t p 8) (D.after es r)) (stop t p 0) .timer ≡ S.deliver (cond q (cond l (stop t p 8) (D.after es r)) (stop t p 0) .events) now div t
+    → cond q (cond l (stop t p 8) (D.afterTurn es r)) (stop t p 0) .timer ≡ S.deliver (cond q (cond l (stop t p 8) (D.afterTurn es r)) (stop t p 0) .events) now div t
 unfolding S.deliver
 one-event now div t p r es false l a ih = refl
 one-event now div t p r es true true a ih = refl

@@ -55,9 +55,9 @@ Handled f now div t r = (r .timer ≡ S.deliver f now div t) × (S.dueBy (nextEv
 
 one-run : (f now div : ℕ) (t : Timer) (p : Pads) (r : Run) (es : List Entry) (q l : Bool) → dueBy (nextEvent t) now ≡ q
     → (r .number ≡ 0 → Handled f now div (S.applied t div (nextEvent t)) r)
-    → cond q (cond l (stop t p 8) (D.after es r)) (stop t p 0) .number ≡ 0
-    → (cond q (cond l (stop t p 8) (D.after es r)) (stop t p 0) .timer ≡ cond (S.dueBy (nextEvent t) now) (S.deliver f now div (S.applied t div (nextEvent t))) t)
-    × (S.dueBy (nextEvent (cond q (cond l (stop t p 8) (D.after es r)) (stop t p 0) .timer)) now ≡ false)
+    → cond q (cond l (stop t p 8) (D.afterTurn es r)) (stop t p 0) .number ≡ 0
+    → (cond q (cond l (stop t p 8) (D.afterTurn es r)) (stop t p 0) .timer ≡ cond (S.dueBy (nextEvent t) now) (S.deliver f now div (S.applied t div (nextEvent t))) t)
+    × (S.dueBy (nextEvent (cond q (cond l (stop t p 8) (D.afterTurn es r)) (stop t p 0) .timer)) now ≡ false)
 one-run f now div t p r es false l a ih z =
     let d : S.dueBy (nextEvent t) now ≡ false = sym (due-same (nextEvent t) now) ∙ a in (sym (ap (λ (c : Bool). cond c (S.deliver f now div (S.applied t div (nextEvent t))) t) d), d)
 one-run f now div t p r es true true a ih z = absurd (never 7 z)

@@ -77,8 +77,8 @@ abbrev pub stop : Timer → Pads → ℕ → Run
 stop t p n = record { timer = t; pads = p; entries = []; events = 0; number = n }
 
 -- an event's entries before what follows
-abbrev pub after : List Entry → Run → Run
-after es r = record { timer = r .timer; pads = r .pads; entries = es ++ r .entries; events = r .events + 1; number = r .number }
+abbrev pub afterTurn : List Entry → Run → Run
+afterTurn es r = record { timer = r .timer; pads = r .pads; entries = es ++ r .entries; events = r .events + 1; number = r .number }
 
 -- the next event is due by now; a stopped timer has none
 abbrev pub dueBy : Due → ℕ → Bool
@@ -97,7 +97,7 @@ handled (suc events) now div left t p =
     cond (dueBy (nextEvent t) now)
     (cond (ltb left 4) (stop t p 8)
     (let s = turnOf t p (nextEvent t) div in
-    after (s .entries) (handled events now div (left - length (s .entries)) (s .timer) (s .pads))))
+    afterTurn (s .entries) (handled events now div (left - length (s .entries)) (s .timer) (s .pads))))
     (stop t p 0)
 
 abbrev pub mostEvents : ℕ

@@ -275,7 +275,7 @@ module _ (t₀ : Timer) (div a ch pin : ℕ) (call : Call t₀ div a) (quiet : D
   -- what one event and the rest of a run leave
   abbrev pub rest : ℕ → ℕ → ℕ → Timer → Pads → Due → Run
   rest f now left t p d =
-      D.after (turnOf t p d div .entries) (run f now div (left - length (turnOf t p d div .entries)) (turnOf t p d div .timer) (turnOf t p d div .pads))
+      D.afterTurn (turnOf t p d div .entries) (run f now div (left - length (turnOf t p d div .entries)) (turnOf t p d div .timer) (turnOf t p d div .pads))
 
   next-told : (f now left k : ℕ) (t : Timer) (p : Pads) (es : List Entry) (x : ℕ) → Told k t p es x → t .count .running ≡ true
       → ((left′ k′ : ℕ) (t′ : Timer) (p′ : Pads) (es′ : List Entry) (x′ : ℕ) → Told k′ t′ p′ es′ x′ → Record now es′ (run f now div left′ t′ p′))
