@@ -159,8 +159,8 @@ ClampDown =
     (t : Timer) (c : ℕ) → t .count .running ≡ true → down t ≡ true → t .count .«arr_act» < t .count .cnt0
     → (cntAt t c ≡ after (tickDown (t .count .«arr_act»)) (ticksAt t c) (t .count .«arr_act»)) × (updateSteps t ≡ t .count .cnt0 + 1)
 
-abbrev pub Ends : Type 0
-Ends = (t : Timer) (x div : ℕ) → Within (updated t x div)
+abbrev pub UpdateWithin : Type 0
+UpdateWithin = (t : Timer) (x div : ℕ) → Within (updated t x div)
 
 -- ---- the cases
 
@@ -199,7 +199,7 @@ pub record Follows : Type 0 where
   pub goes : Goes
   pub above-reload : AboveReload
   pub clamp-down : ClampDown
-  pub ends : Ends
+  pub ends : UpdateWithin
   -- "with its exact cases"
   pub clocks-agree : ClocksAgree
   pub writes-agree : WritesAgree
