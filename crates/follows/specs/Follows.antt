@@ -81,8 +81,8 @@ Stays =
     → cond (down t) (t .count .cnt0 - suc j) (t .count .cnt0 + suc j) ≡ ccrAct t ch → ⊥)
     → Delivered t now → level (seen t div now) ch ≡ output t ch (t .count .cnt0)
 
-abbrev pub Resets : Type 0
-Resets = (t : Timer) (div div′ now now′ : ℕ) → reset (seen t div now) ≡ seen (resetState (t .inst) div′) div′ now′
+abbrev pub TimerResets : Type 0
+TimerResets = (t : Timer) (div div′ now now′ : ℕ) → reset (seen t div now) ≡ seen (resetState (t .inst) div′) div′ now′
 
 -- another divider: the cycles of a step that have passed are kept, and count as kernel clocks of the new length. With a new step that is not
 -- shorter than them (else clock-change-jump)
@@ -194,7 +194,7 @@ pub record Follows : Type 0 where
   pub reads : Reads
   pub outputs : Outputs
   pub stays : Stays
-  pub resets : Resets
+  pub resets : TimerResets
   pub retimes : Retimes
   pub goes : Goes
   pub above-reload : AboveReload
