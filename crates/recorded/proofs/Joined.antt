@@ -13,10 +13,10 @@ use Rattle.machine.proofs.Numbers.{entries-fit}
 use Rattle.state.specs.View.{view}
 use Rattle.answer.specs.declared.Answer.{Answer}
 use Rattle.answer.specs.Promise.{Answers}
-use Rattle.book.specs.Level.{levelAt, highs}
+use Rattle.book.specs.Level.{entriesFrom, levelAt, highs}
 use Rattle.accuracy.specs.Claim.{Pilot, Steady, Window, WithinBound, board₀, board₁, joined, periodOf, highOf}
 use Rattle.accuracy.proofs.Accurate.{accurate}
-use Rattle.recorded.specs.Recorded.{Made, found, leaves, Kept, Chain, entriesFrom, entriesLeft, callsMade, MadeOf, levelLeft, BookClaim}
+use Rattle.recorded.specs.Recorded.{Made, found, leaves, Kept, Chain, entriesLeft, callsMade, MadeOf, levelLeft, BookClaim}
 
 -- ---- what a book holds is what was put into it
 

@@ -2,15 +2,14 @@
 -- whatever book it was lent. The claim (crates/accuracy/specs/Claim.antt) with the entries read off those books.
 use mathlib.Core.Path.{_≡_}
 use mathlib.Core.List.{List, [], _∷_, _++_}
-use Prim.Native.Nat.{ℕ, zero, suc}
+use Prim.Native.Nat.{ℕ}
 use lib.Ieee.{Float}
-use lib.ListN.{getD}
 use Rattle.book.specs.Book.{Entry, Lent, Holds}
 use Rattle.machine.specs.Board.{Board, gpioAt, firstBoard}
 use Rattle.machine.specs.Call.{Call, write}
 use Rattle.machine.specs.Step.{run, boardAfter}
 use Rattle.state.specs.View.{view}
-use Rattle.book.specs.Level.{levelAt, highs}
+use Rattle.book.specs.Level.{entriesFrom, levelAt, highs}
 use Rattle.accuracy.specs.Claim.{Pilot, Steady, Window, WithinBound, board₁, joined, periodOf, highOf}
 
 -- one run of an exported function: the calls that it performed (one; `run_calls` some), what its arrays and its book held when it came and
@@ -40,12 +39,6 @@ pub record Kept (m : Made) : Type 0 where
 unfoldable pub Chain : List ℕ → List Float → List Made → Type 0
 Chain w x [] = Unit {0}
 Chain w x (m ∷ ms) = (m .words ≡ w) × (m .reals ≡ x) × Kept m × Chain (m .words₁) (m .reals₁) ms
-
--- n entries of a book, from place i on
-unfoldable pub entriesFrom : ℕ → ℕ → Lent → List Entry
-entriesFrom i zero u = []
-entriesFrom i (suc n) u =
-    record { pin = getD (u .pins) i 0; level = getD (u .levels) i 0; cycle = getD (u .cycles) i 0 } ∷ entriesFrom (suc i) n u
 
 -- "joined in order (each call's first count places as it left them)"
 unfoldable pub entriesLeft : List Made → List Entry

@@ -14,9 +14,10 @@ use lib.Pow.{pow-mono}
 use lib.Seq.{getD-set-same, getD-set-other}
 use borrow.Author.Tests.{eqb-true, eqb-false}
 use Rattle.book.specs.Book.{Entry, Lent, places}
+use Rattle.book.specs.Level.{entriesFrom}
 use Rattle.shift.specs.declared.Track.{Track}
 use Rattle.shift.specs.declared.Summary.{Summary}
-use Rattle.shift.specs.Shift.{Shift, levelBit, levelBefore, isEdge, edges, highPins, outOfOrder, numberOf, entriesFrom, entriesIn, Figures, figures, figuresAt, Reports}
+use Rattle.shift.specs.Shift.{Shift, levelBit, levelBefore, isEdge, edges, highPins, outOfOrder, numberOf, entriesIn, Figures, figures, figuresAt, Reports}
 use Rattle.shift.specs.Kept.{trackAt, freshTrack, Fresh, putTrack, numberKept, entered, fed, figuresOf, putFigures, Written, highTracks, numberGiven, Ended, Told, Stands}
 use Rattle.shift.proofs.Standing.{put-length, put-same, put-apart, byTests, stands-fed}
 

@@ -6,7 +6,7 @@ use Prim.Native.Nat.{ℕ, zero, suc, _+_, _-_, _*_, _/_, _%_, _^_, _<_}
 use lib.Dec.{eqb, ltb}
 use lib.ListN.{getD}
 use Rattle.book.specs.Book.{Entry, Lent, places}
-use Rattle.book.specs.Level.{levelAt, highs}
+use Rattle.book.specs.Level.{entriesFrom, levelAt, highs}
 
 -- "every pin's level before the first entry (four 32-bit words ..) and cycles from and to"
 pub record Shift : Type 0 where
@@ -25,12 +25,6 @@ abbrev pub levelBefore : Shift → ℕ → ℕ
 levelBefore s pin = levelBit (s .words) pin
 
 -- ---- "Given the joined book": its entries, as many as its shortest slice has places
-
--- n entries from place i on
-unfoldable pub entriesFrom : ℕ → ℕ → Lent → List Entry
-entriesFrom i zero u = []
-entriesFrom i (suc n) u =
-    record { pin = getD (u .pins) i 0; level = getD (u .levels) i 0; cycle = getD (u .cycles) i 0 } ∷ entriesFrom (suc i) n u
 
 abbrev pub entriesIn : Lent → List Entry
 entriesIn u = entriesFrom 0 (places u) u
