@@ -45,7 +45,7 @@ use Rattle.machine.proofs.Routing.{either, by-test}
 use Rattle.machine.proofs.Reach.{run-good, sound-step, sound-after}
 use Rattle.boards.specs.Boards.{divOf, after, valueOn, Boards, Delivery, deliveries, before, last, treed, StepEvents, StepSeries, StepSeriesDue, StepReads, StepLate, StepLateWrites, StepResets, StepGated, StepRetimes, StepDeliversManual, StepWritesManual}
 use Rattle.boards.proofs.Kept.{at-place, elsewhere, not-astray, kept-after}
-use Rattle.boards.proofs.Stepped.{never, due-same, turn-same, run-same, Passed, peel, delivered-timer, followed-timer, delivers-so, handled, writes-so, written-is, delivers, writes}
+use Rattle.boards.proofs.Stepped.{never, turn-same, run-same, Passed, peel, delivered-timer, followed-timer, delivers-so, handled, writes-so, written-is, delivers, writes}
 use Rattle.boards.proofs.Fitting.{fits}
 
 -- ---- a delivery is as many events as its value says
@@ -57,8 +57,7 @@ unfolding S.deliver
 one-event now div t p r es false l a ih = refl
 one-event now div t p r es true true a ih = refl
 one-event now div t p r es true false a ih =
-    let d : S.dueBy (nextEvent t) now ≡ true = sym (due-same (nextEvent t) now) ∙ a in
-    ih ∙ sym (ap (λ (n : ℕ). S.deliver n now div t) (add-one (r .events)) ∙ ap (λ (c : Bool). cond c (S.deliver (r .events) now div (S.applied t div (nextEvent t))) t) d)
+    ih ∙ sym (ap (λ (n : ℕ). S.deliver n now div t) (add-one (r .events)) ∙ ap (λ (c : Bool). cond c (S.deliver (r .events) now div (S.applied t div (nextEvent t))) t) a)
 
 run-events : (f now div left : ℕ) (t : Timer) (p : Pads) → run f now div left t p .timer ≡ S.deliver (run f now div left t p .events) now div t
 unfolding run S.deliver

@@ -39,10 +39,6 @@ never n e = omega arith
 
 -- ---- a delivery's timer is follows'
 
-pub due-same : (d : Due) (c : ℕ) → dueBy d c ≡ S.dueBy d c
-due-same (At x e) c = refl
-due-same Stopped c = refl
-
 pub turn-same : (t : Timer) (p : Pads) (d : Due) (div : ℕ) → turnOf t p d div .timer ≡ S.applied t div d
 unfolding turn
 turn-same t p (At x Update) div = refl
@@ -51,19 +47,18 @@ turn-same t p Stopped div = refl
 
 -- answered 0: all events due are handled
 abbrev Handled : ℕ → ℕ → ℕ → Timer → Run → Type 0
-Handled f now div t r = (r .timer ≡ S.deliver f now div t) × (S.dueBy (nextEvent (r .timer)) now ≡ false)
+Handled f now div t r = (r .timer ≡ S.deliver f now div t) × (dueBy (nextEvent (r .timer)) now ≡ false)
 
 one-run : (f now div : ℕ) (t : Timer) (p : Pads) (r : Run) (es : List Entry) (q l : Bool) → dueBy (nextEvent t) now ≡ q
     → (r .number ≡ 0 → Handled f now div (S.applied t div (nextEvent t)) r)
     → cond q (cond l (stop t p 8) (D.afterTurn es r)) (stop t p 0) .number ≡ 0
-    → (cond q (cond l (stop t p 8) (D.afterTurn es r)) (stop t p 0) .timer ≡ cond (S.dueBy (nextEvent t) now) (S.deliver f now div (S.applied t div (nextEvent t))) t)
-    × (S.dueBy (nextEvent (cond q (cond l (stop t p 8) (D.afterTurn es r)) (stop t p 0) .timer)) now ≡ false)
+    → (cond q (cond l (stop t p 8) (D.afterTurn es r)) (stop t p 0) .timer ≡ cond (dueBy (nextEvent t) now) (S.deliver f now div (S.applied t div (nextEvent t))) t)
+    × (dueBy (nextEvent (cond q (cond l (stop t p 8) (D.afterTurn es r)) (stop t p 0) .timer)) now ≡ false)
 one-run f now div t p r es false l a ih z =
-    let d : S.dueBy (nextEvent t) now ≡ false = sym (due-same (nextEvent t) now) ∙ a in (sym (ap (λ (c : Bool). cond c (S.deliver f now div (S.applied t div (nextEvent t))) t) d), d)
+    (sym (ap (λ (c : Bool). cond c (S.deliver f now div (S.applied t div (nextEvent t))) t) a), a)
 one-run f now div t p r es true true a ih z = absurd (never 7 z)
 one-run f now div t p r es true false a ih z =
-    let d : S.dueBy (nextEvent t) now ≡ true = sym (due-same (nextEvent t) now) ∙ a in
-    (ih z .0 ∙ sym (ap (λ (c : Bool). cond c (S.deliver f now div (S.applied t div (nextEvent t))) t) d), ih z .1)
+    (ih z .0 ∙ sym (ap (λ (c : Bool). cond c (S.deliver f now div (S.applied t div (nextEvent t))) t) a), ih z .1)
 
 nothing-left : (q : Bool) → _≡_ {A = ℕ} (cond q 8 0) 0 → q ≡ false
 nothing-left true z = absurd (never 7 z)
@@ -71,7 +66,7 @@ nothing-left false z = refl
 
 pub run-same : (f now div left : ℕ) (t : Timer) (p : Pads) → run f now div left t p .number ≡ 0 → Handled f now div t (run f now div left t p)
 unfolding run S.deliver
-run-same zero now div left t p z = (refl, sym (due-same (nextEvent t) now) ∙ nothing-left (dueBy (nextEvent t) now) z)
+run-same zero now div left t p z = (refl, nothing-left (dueBy (nextEvent t) now) z)
 run-same (suc f) now div left t p z =
     let u = turnOf t p (nextEvent t) div in
     one-run f now div t p (run f now div (left - length (u .entries)) (u .timer) (u .pads)) (u .entries) (dueBy (nextEvent t) now) (ltb left 4) refl

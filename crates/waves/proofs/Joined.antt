@@ -35,7 +35,7 @@ use Rattle.boards.specs.Boards.{divOf, after, Delivery, deliveries, last}
 use Rattle.boards.proofs.Stepped.{delivered-timer}
 use Rattle.boards.proofs.More.{by-call, delivered-keeps, inst-delivered}
 use Rattle.waves.specs.Waves.{shown, DrivenPin, entriesMade, StepWaves}
-use Rattle.waves.proofs.Waved.{due, Told, all-told, s, q, fs, told, applied-same, due-same, nothing-left, rest, wave, begins}
+use Rattle.waves.proofs.Waved.{due, Told, all-told, s, q, fs, told, applied-same, nothing-left, rest, wave, begins}
 
 module _ (t₀ : Timer) (div a ch pin : ℕ) (call : Call t₀ div a) (quiet : Delivered t₀ a) (four : ch < 4) (l₀ : ℕ) where
   abbrev Has : ℕ → Timer → Pads → List Entry → ℕ → Type 0
@@ -85,11 +85,11 @@ module _ (t₀ : Timer) (div a ch pin : ℕ) (call : Call t₀ div a) (quiet : D
   unfolding run
   run-ran zero now left k t p es x o le =
       ended now k t p es x (cond (dueBy (nextEvent t) now) 8 0) o le
-      (λ z. sym (due-same t₀ div a ch pin call quiet four l₀ (nextEvent t) now) ∙ nothing-left t₀ div a ch pin call quiet four l₀ (dueBy (nextEvent t) now) z)
+      (λ z. nothing-left t₀ div a ch pin call quiet four l₀ (dueBy (nextEvent t) now) z)
   run-ran (suc f) now left k t p es x o le =
       by-test (Ran now es) (dueBy (nextEvent t) now)
       (λ e. by-test (Ran now es) (ltb left 4) (λ l. ended now k t p es x 8 o le (λ z. absurd (omega arith))) (λ l. step-ran f now left k t p es x o e (run-ran f now)))
-      (λ e. ended now k t p es x 0 o le (λ z. sym (due-same t₀ div a ch pin call quiet four l₀ (nextEvent t) now) ∙ e))
+      (λ e. ended now k t p es x 0 o le (λ z. e))
 
   -- ---- of `step`
 
