@@ -41,9 +41,10 @@ use Rattle.machine.specs.Call as C
 use Rattle.machine.specs.Call.{Outcome, served, refused}
 use Rattle.machine.specs.Step.{refuseIf, absent, oddSize, cycleAstray, bookFull, clockOn, register, present, written, followed, counterAstray, timerReset, deliveredTo, timerRetimed, allRetimed, treeSet, step, boardAfter}
 use Rattle.machine.specs.Sound.{Sound}
+use Rattle.machine.specs.Demand1.{reached}
 use Rattle.machine.proofs.Routing.{either, by-test}
 use Rattle.machine.proofs.Reach.{run-good, sound-step, sound-after}
-use Rattle.boards.specs.Boards.{divOf, after, valueOn, Boards, Delivery, deliveries, before, last, treed, StepEvents, StepSeries, StepSeriesDue, StepReads, StepLate, StepLateWrites, StepResets, StepGated, StepRetimes, StepDeliversManual, StepWritesManual}
+use Rattle.boards.specs.Boards.{divOf, valueOn, Boards, Delivery, deliveries, before, last, treed, StepEvents, StepSeries, StepSeriesDue, StepReads, StepLate, StepLateWrites, StepResets, StepGated, StepRetimes, StepDeliversManual, StepWritesManual}
 use Rattle.boards.proofs.Kept.{at-place, elsewhere, not-astray, kept-after}
 use Rattle.boards.proofs.Stepped.{never, turn-same, run-same, Passed, peel, delivered-timer, followed-timer, delivers-so, handled, writes-so, written-is, delivers, writes}
 use Rattle.boards.proofs.Fitting.{fits}
@@ -102,7 +103,7 @@ events-at b s i cycle places l =
     (λ le. delivered-timer b s i cycle l places ∙ delivered-events b i cycle places)
 
 events : StepEvents
-events cs i cycle places l = events-at (after cs) (sound-after cs) i cycle places l
+events cs i cycle places l = events-at (reached cs) (sound-after cs) i cycle places l
 
 -- ---- deliveries one after the other
 
@@ -167,7 +168,7 @@ module _ (i cycle places : ℕ) where
 
 series : StepSeries
 series cs i a ds cycle places l h from le d z =
-    let b = after cs in
+    let b = reached cs in
     let t = timerAt b i in
     let r = reach i cycle places ds b (sound-after cs) l z .0 in
     let left : Delivered (S.deliver (r .number) cycle (divOf b i) t) cycle = subst (λ (u : Timer). Delivered u cycle) (r .is) (r .quiet) in (
@@ -178,7 +179,7 @@ series cs i a ds cycle places l h from le d z =
 
 series-due : StepSeriesDue
 series-due cs i ds cycle places l h z =
-    let b = after cs in
+    let b = reached cs in
     let t = timerAt b i in
     let p = reach i cycle places ds b (sound-after cs) l z in
     let r = p .0 in
@@ -192,7 +193,7 @@ series-due cs i ds cycle places l h z =
 reads : StepReads
 unfolding step
 reads cs i offset size cycle z =
-    let b = after cs in
+    let b = reached cs in
     let t = timerAt b i in
     let o = served (cond (clockOn b t) (laneRead (R.regRead t (register offset) cycle) offset size) 0) b in
     let p1 = peel (absent i (b .counts .timers)) 2 b (refuseIf (oddSize size) 3 b (refuseIf (cycleAstray b cycle) 5 b o)) (λ e. omega arith) z in
@@ -201,16 +202,16 @@ reads cs i offset size cycle z =
     ap (λ (x : Outcome). x .value) (p1 .is ∙ p2 .is ∙ p3 .is)
     ∙ ap (λ (x : ℕ). cond (clockOn b t) (laneRead x offset size) 0) (sym (follows .reads t (divOf b i) (register offset) cycle))
 
-module _ (cs : List C.Call) (i cycle : ℕ) (l : i < after cs .counts .timers) (h : Within (timerAt (after cs) i)) (le : after cs .counts .last ≤ cycle) where
-  call : Call (timerAt (after cs) i) (divOf (after cs) i) cycle
+module _ (cs : List C.Call) (i cycle : ℕ) (l : i < reached cs .counts .timers) (h : Within (timerAt (reached cs) i)) (le : reached cs .counts .last ≤ cycle) where
+  call : Call (timerAt (reached cs) i) (divOf (reached cs) i) cycle
   call = let o = kept-after cs i l in record { timed = o .timed; within = h; came = le-trans (o .based) le }
 
 late : StepLate
-late cs i cycle l h le = follows .late (timerAt (after cs) i) (divOf (after cs) i) cycle (call cs i cycle l h le)
+late cs i cycle l h le = follows .late (timerAt (reached cs) i) (divOf (reached cs) i) cycle (call cs i cycle l h le)
 
 late-writes : StepLateWrites
 late-writes cs f i offset size value cycle places l h on z within left =
-    let b = after cs in
+    let b = reached cs in
     let s = sound-after cs in
     let t = timerAt b i in
     let div = divOf b i in
@@ -234,7 +235,7 @@ reset-timer b s i cycle l = at-place b i (T.resetState (timerAt b i .inst) (divO
 resets : StepResets
 unfolding step
 resets cs i cycle places l z =
-    let b = after cs in
+    let b = reached cs in
     let o = timerReset b i cycle in
     let p1 = peel (absent i (b .counts .timers)) 2 b (refuseIf (cycleAstray b cycle) 5 b (refuseIf (bookFull 4 places) 6 b o)) (λ e. omega arith) z in
     let p2 = peel (cycleAstray b cycle) 5 b (refuseIf (bookFull 4 places) 6 b o) (λ e. omega arith) (p1 .number) in
@@ -245,7 +246,7 @@ resets cs i cycle places l z =
 gated : StepGated
 unfolding step
 gated cs i =
-    let b = after cs in
+    let b = reached cs in
     let P : Outcome → Type 0 = λ o. timerAt (o .board) i ≡ timerAt b i in (
       λ offset size value cycle places off.
           either P (absent i (b .counts .timers)) refl
@@ -341,7 +342,7 @@ inst-retimed t now div = either-sync t now (λ (z : Timer). z .inst ≡ t .inst)
 retimes : StepRetimes
 unfolding step
 retimes cs i tree cycle l z differs near =
-    let b = after cs in
+    let b = reached cs in
     let t = timerAt b i in
     let div = divOf b i in
     let o = served 0 (withLast (treeSet b tree cycle) cycle) in
@@ -364,7 +365,7 @@ retimes cs i tree cycle l z differs near =
 
 delivers-manual : StepDeliversManual
 delivers-manual cs i a ds cycle places l h from le d z clear =
-    let b = after cs in
+    let b = reached cs in
     let t = timerAt b i in
     let f = fits cs i a in
     sym (clocks-same (rulesOf t) (seen t (divOf b i) a) (between t (divOf b i) a cycle) (λ m _. follows .fits-stay (rulesOf t) (seen t (divOf b i) a) m (f .0) (f .1)) clear)
@@ -372,7 +373,7 @@ delivers-manual cs i a ds cycle places l h from le d z clear =
 
 writes-manual : StepWritesManual
 writes-manual cs f i offset size value cycle places l h d on z within left o =
-    let b = after cs in
+    let b = reached cs in
     let t = timerAt b i in
     sym (write-same (rulesOf t) (register offset) (valueOn b i offset size value cycle) (seen t (divOf b i) cycle) o)
     ∙ writes cs f i offset size value cycle places l h d on z within left

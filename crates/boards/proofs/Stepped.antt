@@ -29,9 +29,10 @@ use Rattle.machine.specs.Call as C
 use Rattle.machine.specs.Call.{Outcome, served}
 use Rattle.machine.specs.Step.{refuseIf, absent, oddSize, cycleAstray, bookFull, clockOn, register, present, written, counterAstray, followed, deliveredTo, step, boardAfter}
 use Rattle.machine.specs.Sound.{Sound}
+use Rattle.machine.specs.Demand1.{reached}
 use Rattle.machine.proofs.Routing.{either}
 use Rattle.machine.proofs.Reach.{sound-after}
-use Rattle.boards.specs.Boards.{divOf, after, valueOn, StepDelivers, StepWrites}
+use Rattle.boards.specs.Boards.{divOf, valueOn, StepDelivers, StepWrites}
 use Rattle.boards.proofs.Kept.{at-place, not-astray, kept-after}
 
 pub never : (n : ℕ) → suc n ≡ 0 → ⊥
@@ -141,7 +142,7 @@ module _ (b : Board) (s : Sound b) (i cycle : ℕ) (l : i < b .counts .timers) w
 
 pub delivers : StepDelivers
 delivers cs i a cycle places l h from le d z =
-    let b = after cs in
+    let b = reached cs in
     let s = sound-after cs in
     let p = delivers-so b s i cycle l places z in
     let q = handled b s i cycle l places (p .1) in
@@ -155,7 +156,7 @@ delivers cs i a cycle places l h from le d z =
 
 pub writes : StepWrites
 writes cs f i offset size value cycle places l h d on z within left =
-    let b = after cs in
+    let b = reached cs in
     let s = sound-after cs in
     let p = writes-so b s i cycle l offset size value places on z in
     let o = kept-after cs i l in

@@ -15,13 +15,14 @@ use Rattle.book.specs.Level.{levelAt}
 use Rattle.machine.specs.Board.{Board, Pads, timerAt}
 use Rattle.machine.specs.Call as C
 use Rattle.machine.specs.Deliver.{handled}
+use Rattle.machine.specs.Demand1.{reached}
 use Rattle.machine.proofs.Reach.{sound-after}
 use Rattle.accuracy.proofs.Computed.{computed}
 use Rattle.accuracy.proofs.Bench.{usual}
 use Rattle.follows.specs.Seen.{seen, rulesOf}
 use Rattle.follows.specs.Follows.{Call, Delivered, between}
 use Rattle.follows.proofs.Theorem.{follows}
-use Rattle.boards.specs.Boards.{divOf, after}
+use Rattle.boards.specs.Boards.{divOf}
 use Rattle.boards.proofs.Kept.{kept-after}
 use Rattle.waves.specs.Waves.{shown, DrivenPin}
 use Rattle.waves.proofs.Waved.{waves}
@@ -31,7 +32,7 @@ abbrev cs : List C.Call
 cs = usual ++ (C.write 0 0x00 4 1 100 4 ∷ [])
 
 abbrev b : Board
-b = after cs
+b = reached cs
 
 abbrev t : Timer
 t = timerAt b 0

@@ -26,12 +26,13 @@ use Rattle.machine.specs.Call.{Outcome}
 use Rattle.machine.specs.Step.{deliveredTo, step, boardAfter}
 use Rattle.machine.specs.Step as Step
 use Rattle.machine.specs.Sound.{Sound}
+use Rattle.machine.specs.Demand1.{reached}
 use Rattle.machine.proofs.Routing.{by-test}
 use Rattle.machine.proofs.Reach.{sound-step, sound-after}
 use Rattle.accuracy.specs.Claim.{joined}
 use Rattle.follows.specs.Seen as S
 use Rattle.follows.specs.Follows.{Call, Delivered}
-use Rattle.boards.specs.Boards.{divOf, after, Delivery, deliveries, last}
+use Rattle.boards.specs.Boards.{divOf, Delivery, deliveries, last}
 use Rattle.boards.proofs.Stepped.{delivered-timer}
 use Rattle.boards.proofs.More.{by-call, delivered-keeps, inst-delivered}
 use Rattle.waves.specs.Waves.{shown, DrivenPin, entriesMade, StepWaves}
@@ -183,6 +184,6 @@ module _ (t₀ : Timer) (div a ch pin : ℕ) (call : Call t₀ div a) (quiet : D
 
 pub step-waves : StepWaves
 step-waves cs i a ch pin ds cycle places l from o z c lo hi =
-    let b = after cs in
+    let b = reached cs in
     all-shown (timerAt b i) (divOf b i) a ch pin (o .call) (o .quiet) (o .channel) (shown (b .pads) pin) i cycle places ds b (sound-after cs) l []
     (record { count = 0; at = a; has = begins (timerAt b i) (divOf b i) a ch pin (b .pads) o; by-last = from; div-is = refl }) z c lo hi

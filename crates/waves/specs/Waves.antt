@@ -18,12 +18,13 @@ use Rattle.machine.specs.Sound.{SoundPads}
 use Rattle.machine.specs.Deliver.{handled}
 use Rattle.machine.specs.Call.{Call as AnyCall}
 use Rattle.machine.specs.Step.{run}
+use Rattle.machine.specs.Demand1.{reached}
 use Rattle.book.specs.Book.{Entry}
 use Rattle.book.specs.Level.{levelAt}
 use Rattle.accuracy.specs.Claim.{joined}
 use Rattle.follows.specs.Seen.{clocksAt, per, seen, rulesOf}
 use Rattle.follows.specs.Follows.{Call, Delivered, between}
-use Rattle.boards.specs.Boards.{divOf, after, Delivery, deliveries, last}
+use Rattle.boards.specs.Boards.{divOf, Delivery, deliveries, last}
 
 -- the count k steps after the reference, before the turn
 abbrev pub onward : Timer → ℕ → ℕ
@@ -64,14 +65,14 @@ Waves =
 
 -- the entries of deliveries to timer i one after the other, joined
 abbrev pub entriesMade : List AnyCall → ℕ → List Delivery → ℕ → ℕ → List Entry
-entriesMade cs i ds cycle places = joined (run (after cs) (deliveries i ds)) ++ last cs i ds cycle places .entries
+entriesMade cs i ds cycle places = joined (run (reached cs) (deliveries i ds)) ++ last cs i ds cycle places .entries
 
 -- deliveries of which the last is answered 0, the others as may be (8 too), from a board that calls lead to: at every cycle from a to the last one's
 -- the record has the machine's level
 abbrev pub StepWaves : Type 0
 StepWaves =
-    (cs : List AnyCall) (i a ch pin : ℕ) (ds : List Delivery) (cycle places : ℕ) → i < after cs .counts .timers → a ≤ after cs .counts .last
-    → DrivenPin (timerAt (after cs) i) (divOf (after cs) i) a ch pin (after cs .pads) → last cs i ds cycle places .number ≡ 0
+    (cs : List AnyCall) (i a ch pin : ℕ) (ds : List Delivery) (cycle places : ℕ) → i < reached cs .counts .timers → a ≤ reached cs .counts .last
+    → DrivenPin (timerAt (reached cs) i) (divOf (reached cs) i) a ch pin (reached cs .pads) → last cs i ds cycle places .number ≡ 0
     → (c : ℕ) → a ≤ c → c ≤ cycle
-    → levelAt pin (entriesMade cs i ds cycle places) (shown (after cs .pads) pin) c
-    ≡ bit (level (clocks (rulesOf (timerAt (after cs) i)) (between (timerAt (after cs) i) (divOf (after cs) i) a c) (seen (timerAt (after cs) i) (divOf (after cs) i) a)) ch)
+    → levelAt pin (entriesMade cs i ds cycle places) (shown (reached cs .pads) pin) c
+    ≡ bit (level (clocks (rulesOf (timerAt (reached cs) i)) (between (timerAt (reached cs) i) (divOf (reached cs) i) a c) (seen (timerAt (reached cs) i) (divOf (reached cs) i) a)) ch)
