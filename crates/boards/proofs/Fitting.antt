@@ -20,7 +20,6 @@ use Rattle.follows.specs.Seen.{seen}
 use Rattle.follows.proofs.Standing.{either-sync}
 use Rattle.machine.specs.Board.{timerAt, noTimer}
 use Rattle.machine.specs.Call.{Call}
-use Rattle.machine.specs.Demand1.{reached}
 use Rattle.machine.proofs.Routing.{either}
 use Rattle.boards.specs.Boards.{divOf, StepFits}
 use Rattle.boards.proofs.Everywhere.{everywhere}
