@@ -133,12 +133,12 @@ impl Shrinker<'_> {
     fn shift_cycles(&mut self) {
         let mut i = 0;
         while i < self.calls.len() {
-            let earlier = self.calls[..i].iter_mut().filter_map(cycle_of).map(|c| *c).max().unwrap_or(0);
-            let least = self.calls[i..].iter_mut().filter_map(cycle_of).map(|c| *c).min().unwrap_or(0);
+            let earlier = self.calls[..i].iter_mut().filter_map(Call::cycle_mut).map(|c| *c).max().unwrap_or(0);
+            let least = self.calls[i..].iter_mut().filter_map(Call::cycle_mut).map(|c| *c).min().unwrap_or(0);
             let mut by = least.saturating_sub(earlier);
             while by > 0 {
                 let mut calls = self.calls.clone();
-                for c in calls[i..].iter_mut().filter_map(cycle_of) {
+                for c in calls[i..].iter_mut().filter_map(Call::cycle_mut) {
                     *c -= by;
                 }
                 by = if self.attempt(calls) { 0 } else { by / 2 };
@@ -302,21 +302,5 @@ fn fields(call: &mut Call) -> Vec<Field<'_>> {
         Call::Level { pin } | Call::Volts { pin } => vec![S(pin)],
         Call::Line { irq } | Call::Clear { irq } => vec![S(irq)],
         Call::Time { cycle } => vec![W(cycle)],
-    }
-}
-
-fn cycle_of(call: &mut Call) -> Option<&mut u64> {
-    match call {
-        Call::Clock { cycle, .. }
-        | Call::Pin { cycle, .. }
-        | Call::Drive { cycle, .. }
-        | Call::ResetPins { cycle, .. }
-        | Call::Read { cycle, .. }
-        | Call::Write { cycle, .. }
-        | Call::Peek { cycle, .. }
-        | Call::Reset { cycle, .. }
-        | Call::Deliver { cycle, .. }
-        | Call::Time { cycle } => Some(cycle),
-        _ => None,
     }
 }

@@ -54,6 +54,25 @@ pub enum Call {
     Clear { irq: u32 },
 }
 
+impl Call {
+    /// Where the call keeps its cycle.
+    pub fn cycle_mut(&mut self) -> Option<&mut u64> {
+        match self {
+            Call::Clock { cycle, .. }
+            | Call::Pin { cycle, .. }
+            | Call::Drive { cycle, .. }
+            | Call::ResetPins { cycle, .. }
+            | Call::Read { cycle, .. }
+            | Call::Write { cycle, .. }
+            | Call::Peek { cycle, .. }
+            | Call::Reset { cycle, .. }
+            | Call::Deliver { cycle, .. }
+            | Call::Time { cycle } => Some(cycle),
+            _ => None,
+        }
+    }
+}
+
 /// One entry of the book.
 #[derive(Clone, Copy, Debug, PartialEq, Eq)]
 pub struct Entry {

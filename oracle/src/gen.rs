@@ -116,7 +116,7 @@ impl Gen {
 
     fn choose(&mut self) -> Call {
         if let Some(mut call) = self.plan.pop_front() {
-            if let Some(cycle) = cycle_of(&mut call) {
+            if let Some(cycle) = call.cycle_mut() {
                 *cycle = self.soon();
             }
             return call;
@@ -963,22 +963,5 @@ impl Gen {
             1 => Call::Peek { timer, offset, cycle: self.odd_time() },
             _ => Call::Write { timer, offset, size, value: self.value(), cycle: self.when(), book },
         }
-    }
-}
-
-/// Where a call keeps its cycle.
-fn cycle_of(call: &mut Call) -> Option<&mut u64> {
-    match call {
-        Call::Clock { cycle, .. }
-        | Call::Pin { cycle, .. }
-        | Call::Drive { cycle, .. }
-        | Call::ResetPins { cycle, .. }
-        | Call::Read { cycle, .. }
-        | Call::Write { cycle, .. }
-        | Call::Peek { cycle, .. }
-        | Call::Reset { cycle, .. }
-        | Call::Deliver { cycle, .. }
-        | Call::Time { cycle } => Some(cycle),
-        _ => None,
     }
 }

@@ -1,6 +1,8 @@
 //! What the random lists reach, and that nothing in them makes the Rust panic.
 //! `cargo test --release --test reach -- --nocapture` prints the tables.
 
+mod common;
+use common::NUMBERS;
 use std::collections::BTreeMap;
 
 use oracle::gen::Gen;
@@ -23,28 +25,6 @@ const REGISTERS: [(&str, u32); 16] = [
     ("CCR2", 0x38),
     ("CCR3", 0x3c),
     ("CCR4", 0x40),
-];
-
-/// The numbers that each call can give, all of which must have been given.
-const NUMBERS: [(&str, &[u8]); 18] = [
-    ("setup", &[0, 1, 4]),
-    ("clock", &[0, 4, 5]),
-    ("enable", &[0, 2]),
-    ("pin", &[0, 2, 5, 6, 11]),
-    ("drive", &[0, 2, 5, 6]),
-    ("reset-pins", &[0, 5, 6]),
-    ("read", &[0, 2, 3, 5]),
-    ("write", &[0, 2, 3, 5, 6, 7]),
-    ("peek", &[0, 2, 5]),
-    ("reset", &[0, 2, 5, 6]),
-    ("deliver", &[0, 2, 5, 6, 8]),
-    ("booked", &[0, 2]),
-    ("next", &[0]),
-    ("level", &[0, 2]),
-    ("volts", &[0, 2]),
-    ("line", &[0]),
-    ("time", &[0, 5]),
-    ("clear", &[0]),
 ];
 
 /// Single cases that must occur.

@@ -1,32 +1,10 @@
 //! /samples: every list gets its answers, alone and joined, and together they show every number of every call.
 
 mod common;
-use common::play;
+use common::{play, NUMBERS};
 use std::collections::BTreeSet;
 use std::fs;
 use std::path::{Path, PathBuf};
-
-/// The numbers that each call can give.
-const NUMBERS: [(&str, &[u8]); 18] = [
-    ("setup", &[0, 1, 4]),
-    ("clock", &[0, 4, 5]),
-    ("enable", &[0, 2]),
-    ("pin", &[0, 2, 5, 6, 11]),
-    ("drive", &[0, 2, 5, 6]),
-    ("reset-pins", &[0, 5, 6]),
-    ("read", &[0, 2, 3, 5]),
-    ("write", &[0, 2, 3, 5, 6, 7]),
-    ("peek", &[0, 2, 5]),
-    ("reset", &[0, 2, 5, 6]),
-    ("deliver", &[0, 2, 5, 6, 8]),
-    ("booked", &[0, 2]),
-    ("next", &[0]),
-    ("level", &[0, 2]),
-    ("volts", &[0, 2]),
-    ("line", &[0]),
-    ("time", &[0, 5]),
-    ("clear", &[0]),
-];
 
 /// The lists in order, with their answers.
 fn samples() -> Vec<(String, String)> {

@@ -220,13 +220,37 @@ pub enum OutputMode {
 #[derive(Clone, Copy, Debug, Default, PartialEq, Eq)]
 pub struct Cr1(u32);
 
+/// The methods of every value: none of its bits, a value as it is, the value to write.
+macro_rules! value {
+    ($name:ident, $clear:literal, $from:literal, $to:literal) => {
+        #[doc = concat!($clear, "\n\n```\n# use board::", stringify!($name), ";\nassert_eq!(", stringify!($name), "::new().bits(), 0);\n```")]
+        pub const fn new() -> Self {
+            Self(0)
+        }
+
+        #[doc = concat!("A register's value as it is.\n\n```\n# use board::*;\n", $from, "\n```")]
+        pub const fn from_bits(bits: u32) -> Self {
+            Self(bits)
+        }
+
+        #[doc = concat!("The value to write.\n\n```\n# use board::*;\n", $to, "\n```")]
+        pub const fn bits(self) -> u32 {
+            self.0
+        }
+
+        const fn put(self, bit: u32, on: bool) -> Self {
+            Self(if on { self.0 | bit } else { self.0 & !bit })
+        }
+    };
+}
+
 /// The methods of a bit: one that sets or clears it, one that asks.
 macro_rules! bits {
     ($($bit:expr, $set:ident, $is:ident, $what:literal, $example:literal;)*) => {
         $(
             #[doc = concat!($what, "\n\n```\n# use board::Cr1;\nassert_eq!(Cr1::new().", stringify!($set), "(true).bits(), ", $example, ");\n```")]
             pub const fn $set(self, on: bool) -> Self {
-                Self(if on { self.0 | $bit } else { self.0 & !$bit })
+                self.put($bit, on)
             }
 
             #[doc = concat!("Whether it is set: ", $what, "\n\n```\n# use board::Cr1;\nassert!(Cr1::from_bits(", $example, ").", stringify!($is), "());\n```")]
@@ -238,34 +262,10 @@ macro_rules! bits {
 }
 
 impl Cr1 {
-    /// All bits clear.
-    ///
-    /// ```
-    /// # use board::Cr1;
-    /// assert_eq!(Cr1::new().bits(), 0);
-    /// ```
-    pub const fn new() -> Self {
-        Self(0)
-    }
-
-    /// A register's value as it is.
-    ///
-    /// ```
-    /// # use board::Cr1;
-    /// assert!(Cr1::from_bits(0x81).is_arpe());
-    /// ```
-    pub const fn from_bits(bits: u32) -> Self {
-        Self(bits)
-    }
-
-    /// The value to write.
-    ///
-    /// ```
-    /// # use board::Cr1;
-    /// assert_eq!(Cr1::new().cen(true).dir(true).bits(), 0x11);
-    /// ```
-    pub const fn bits(self) -> u32 {
-        self.0
+    value! {
+        Cr1, "All bits clear.",
+        "assert!(Cr1::from_bits(0x81).is_arpe());",
+        "assert_eq!(Cr1::new().cen(true).dir(true).bits(), 0x11);"
     }
 
     bits! {
@@ -293,34 +293,10 @@ impl Cr1 {
 pub struct Ccmr(u32);
 
 impl Ccmr {
-    /// All bits clear: outputs, frozen, without preload.
-    ///
-    /// ```
-    /// # use board::Ccmr;
-    /// assert_eq!(Ccmr::new().bits(), 0);
-    /// ```
-    pub const fn new() -> Self {
-        Self(0)
-    }
-
-    /// A register's value as it is.
-    ///
-    /// ```
-    /// # use board::{Ccmr, Channel};
-    /// assert_eq!(Ccmr::from_bits(0x6868).preload(Channel::Ch1, false).bits(), 0x6860);
-    /// ```
-    pub const fn from_bits(bits: u32) -> Self {
-        Self(bits)
-    }
-
-    /// The value to write.
-    ///
-    /// ```
-    /// # use board::Ccmr;
-    /// assert_eq!(Ccmr::from_bits(0x60).bits(), 0x60);
-    /// ```
-    pub const fn bits(self) -> u32 {
-        self.0
+    value! {
+        Ccmr, "All bits clear: outputs, frozen, without preload.",
+        "assert_eq!(Ccmr::from_bits(0x6868).preload(Channel::Ch1, false).bits(), 0x6860);",
+        "assert_eq!(Ccmr::from_bits(0x60).bits(), 0x60);"
     }
 
     /// Makes the channel an output (CCxS 0) of a mode (OCxM, its fourth bit clear).
@@ -341,8 +317,7 @@ impl Ccmr {
     /// assert_eq!(Ccmr::new().preload(Channel::Ch1, true).bits(), 0x08);
     /// ```
     pub const fn preload(self, channel: Channel, on: bool) -> Self {
-        let bit = 0x08 << Self::at(channel);
-        Self(if on { self.0 | bit } else { self.0 & !bit })
+        self.put(0x08 << Self::at(channel), on)
     }
 
     /// The lowest bit of the channel's byte.
@@ -366,34 +341,10 @@ impl Ccmr {
 pub struct Ccer(u32);
 
 impl Ccer {
-    /// Every channel off.
-    ///
-    /// ```
-    /// # use board::Ccer;
-    /// assert_eq!(Ccer::new().bits(), 0);
-    /// ```
-    pub const fn new() -> Self {
-        Self(0)
-    }
-
-    /// A register's value as it is.
-    ///
-    /// ```
-    /// # use board::{Ccer, Channel};
-    /// assert_eq!(Ccer::from_bits(0x11).on(Channel::Ch1, false).bits(), 0x10);
-    /// ```
-    pub const fn from_bits(bits: u32) -> Self {
-        Self(bits)
-    }
-
-    /// The value to write.
-    ///
-    /// ```
-    /// # use board::Ccer;
-    /// assert_eq!(Ccer::from_bits(0x1).bits(), 1);
-    /// ```
-    pub const fn bits(self) -> u32 {
-        self.0
+    value! {
+        Ccer, "Every channel off.",
+        "assert_eq!(Ccer::from_bits(0x11).on(Channel::Ch1, false).bits(), 0x10);",
+        "assert_eq!(Ccer::from_bits(0x1).bits(), 1);"
     }
 
     /// CCxE: the channel drives its signal; off, the signal is low.
@@ -434,10 +385,6 @@ impl Ccer {
     /// ```
     pub const fn is_inverted(self, channel: Channel) -> bool {
         self.0 & 0x2 << Self::at(channel) != 0
-    }
-
-    const fn put(self, bit: u32, on: bool) -> Self {
-        Self(if on { self.0 | bit } else { self.0 & !bit })
     }
 
     const fn at(channel: Channel) -> u32 {

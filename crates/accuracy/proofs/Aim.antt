@@ -2,6 +2,7 @@
 use Prim.Native.Nat.{ℕ, _+_, _-_, _*_, _≤_, _<_, min}
 use mathlib.Core.Path.{_≡_}
 use mathlib.Core.Bool.{true, false}
+use mathlib.Core.List.{[]}
 use lib.Dec.{ltb}
 use lib.ListN.{getD}
 use Rattle.rm0440.specs.Bits.{OPM}
@@ -35,8 +36,17 @@ high a = a .tick * min (a .compare) (a .reload + 1)
 abbrev pub signalOf : Aim → ℕ
 signalOf a = timSignal (a .n) (a .ch)
 
+-- a timer without what events and quiet writes change: flags, levels, channels done, and how far it has come
+abbrev pub frame : Timer → Timer
+frame t = record {
+  inst = t .inst;
+  regs = record { cr1 = t .regs .cr1; cr2 = 0; smcr = 0; dier = 0; sr = 0; ccer = t .regs .ccer; psc = t .regs .psc; arr = t .regs .arr };
+  chan = record { ccmr = t .chan .ccmr; ccr = t .chan .ccr; «ccr_act» = t .chan .«ccr_act»; oc = []; «cc_done» = [] };
+  count = record { «psc_act» = t .count .«psc_act»; «arr_act» = t .count .«arr_act»; cnt0 = 0; base = 0; tick = t .count .tick; running = t .count .running };
+}
+
 -- a timer that is set so, and runs upward
-pub record Fixed (a : Aim) (t : Timer) : Type 0 where
+pub record Programmed (a : Aim) (t : Timer) : Type 0 where
   pub number : t .inst .n ≡ a .n
   pub bus : t .inst .apb ≡ a .apb
   pub channel : a .ch < t .inst .channels
@@ -56,6 +66,10 @@ pub record Fixed (a : Aim) (t : Timer) : Type 0 where
   pub enabled : Out.CCxE (a .ch) (t .regs .ccer) ≡ true
   pub polarity : Out.CCxP (a .ch) (t .regs .ccer) ≡ false
   pub mode : ocMode t (a .ch) ≡ Out.pwmMode1
+
+-- of the frame, so that what leaves it leaves this, by computation
+abbrev pub Fixed : Aim → Timer → Type 0
+Fixed a t = Programmed a (frame t)
 
 -- the next event's cycle
 abbrev pub due : Timer → ℕ

@@ -9,7 +9,7 @@ use borrow.Author.Tests.{le-leb}
 use lib.ListN.{getD, replicate, set, drop}
 use Rattle.machine.specs.Call.{Call, write}
 use Rattle.machine.specs.Step.{step}
-use Rattle.accuracy.specs.Claim.{Within, steady, board₁}
+use Rattle.accuracy.specs.Claim.{WithinBound, steady, board₁}
 use Rattle.accuracy.proofs.Computed.{computed}
 use Rattle.accuracy.proofs.Tests.{never}
 use Rattle.accuracy.proofs.Quick.{suffice}
@@ -91,6 +91,6 @@ pub cases-fail : map (λ (c : Case). keeps (c .H) (c .W) 10 3) cases ≡ replica
 unfolding cases
 cases-fail = refl
 
-pub apart-by : (H W P D : ℕ) → keeps H W P D ≡ false → Within H W P D → ⊥
+pub apart-by : (H W P D : ℕ) → keeps H W P D ≡ false → WithinBound H W P D → ⊥
 apart-by H W P D e w =
     never (sym e ∙ rw (le-leb (H * P) (W * D + D * (P - D)) (w .above), le-leb (W * D) (H * P + D * (P - D)) (w .below)))

@@ -152,27 +152,7 @@ by-udis P false p q = p
 module _ (a : Aim) (t : Timer) (f : Fixed a t) where
   fixed-compared : (j : ℕ) → Fixed a (C.compared t j)
   unfolding C.compared C.matched
-  fixed-compared j = record {
-    number = f .number;
-    bus = f .bus;
-    channel = f .channel;
-    four = f .four;
-    running = f .running;
-    upward = f .upward;
-    one-pulse = f .one-pulse;
-    psc-is = f .psc-is;
-    psc-act = f .psc-act;
-    arr-is = f .arr-is;
-    arr-act = f .arr-act;
-    ccr-is = f .ccr-is;
-    ccr-act = f .ccr-act;
-    tick-is = f .tick-is;
-    step-is = f .step-is;
-    output = f .output;
-    enabled = f .enabled;
-    polarity = f .polarity;
-    mode = f .mode;
-  }
+  fixed-compared j = f
 
   fixed-reloaded : Fixed a (C.reloaded t)
   unfolding C.reloaded

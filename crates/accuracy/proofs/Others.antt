@@ -66,27 +66,7 @@ calm-is t u c =
 
 module _ (a : Aim) (t : Timer) (w x y z : ℕ) where
   fixed-quiet : Fixed a t → Fixed a (quieted t w x y z)
-  fixed-quiet f = record {
-    number = f .number;
-    bus = f .bus;
-    channel = f .channel;
-    four = f .four;
-    running = f .running;
-    upward = f .upward;
-    one-pulse = f .one-pulse;
-    psc-is = f .psc-is;
-    psc-act = f .psc-act;
-    arr-is = f .arr-is;
-    arr-act = f .arr-act;
-    ccr-is = f .ccr-is;
-    ccr-act = f .ccr-act;
-    tick-is = f .tick-is;
-    step-is = f .step-is;
-    output = f .output;
-    enabled = f .enabled;
-    polarity = f .polarity;
-    mode = f .mode;
-  }
+  fixed-quiet f = f
 
   steps-quiet : nextSteps (quieted t w x y z) ≡ nextSteps t
   unfolding nextSteps consider compares

@@ -12,7 +12,7 @@ use Rattle.tim.specs.declared.Timer.{Timer}
 use Rattle.tim.specs.Next.{nextEvent}
 use Rattle.book.specs.Book.{Entry}
 use Rattle.machine.specs.Board.{Board, Pads, timerAt, withLast}
-use Rattle.machine.specs.Deliver.{dividerOf, Run, stop, after, dueBy, turnOf, delivered, afterDelivery}
+use Rattle.machine.specs.Deliver.{dividerOf, Run, stop, afterTurn, dueBy, turnOf, delivered, afterDelivery}
 use Rattle.machine.specs.Deliver as D
 use Rattle.machine.specs.Call.{Call, deliver, Outcome, isRefusal}
 use Rattle.machine.specs.Step.{absent, cycleAstray, deliveredTo, step, run, boardAfter}
@@ -34,10 +34,10 @@ fuel (suc n) k now div left t p e =
     rw suc-add
     (go (s .entries) (dueBy (nextEvent t) now) (ltb left 4) (D.handled (n + k) now div left₁ (s .timer) (s .pads)) (D.handled n now div left₁ (s .timer) (s .pads)) (fuel n k now div left₁ (s .timer) (s .pads)) e)
   where
-    go : (es : List Entry) (d l : Bool) (x y : Run) → (y .number ≡ 0 → x ≡ y) → cond d (cond l (stop t p 8) (after es y)) (stop t p 0) .number ≡ 0
-        → cond d (cond l (stop t p 8) (after es x)) (stop t p 0) ≡ cond d (cond l (stop t p 8) (after es y)) (stop t p 0)
+    go : (es : List Entry) (d l : Bool) (x y : Run) → (y .number ≡ 0 → x ≡ y) → cond d (cond l (stop t p 8) (afterTurn es y)) (stop t p 0) .number ≡ 0
+        → cond d (cond l (stop t p 8) (afterTurn es x)) (stop t p 0) ≡ cond d (cond l (stop t p 8) (afterTurn es y)) (stop t p 0)
     go es true true x y ih z = refl
-    go es true false x y ih z = ap (after es) (ih z)
+    go es true false x y ih z = ap (afterTurn es) (ih z)
     go es false l x y ih z = refl
 
 -- ---- a delivery to timer 0, with 100 places

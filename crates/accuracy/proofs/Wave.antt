@@ -10,7 +10,7 @@ use lib.Dec.{ltb, eqb}
 use borrow.Author.Tests.{ltb-true, ltb-false, lt-ltb, le-ltb}
 use Rattle.gpio.specs.Gpio.{bit}
 use Rattle.book.specs.Level.{highs}
-use Rattle.accuracy.specs.Claim.{Within}
+use Rattle.accuracy.specs.Claim.{WithinBound}
 
 -- high for the first D of every P cycles from U on
 unfoldable pub wave : ℕ → ℕ → ℕ → ℕ → ℕ
@@ -93,7 +93,7 @@ module _ (P D U : ℕ) (pos : 0 < P) (le : D ≤ P) where
       let k : U ≤ a + W = omega arith in
       rw (add-suc, wave-bit (a + W)) (omega (arith, highs-exact a h W, wave-step (a + W) k))
 
-  duty-bound : (a : ℕ) → U ≤ a → (W : ℕ) → Within (highs (wave P D U) a W) W P D
+  duty-bound : (a : ℕ) → U ≤ a → (W : ℕ) → WithinBound (highs (wave P D U) a W) W P D
   duty-bound a h W = record {
     above = omega (arith, highs-exact a h W, phi-bound P D le ((a - U) % P), phi-bound P D le ((a + W - U) % P));
     below = omega (arith, highs-exact a h W, phi-bound P D le ((a - U) % P), phi-bound P D le ((a + W - U) % P));
@@ -107,7 +107,7 @@ highs-ext f g a (suc W) h =
 
 -- levels that are the wave's from U on keep the duty; a period of no cycles has none to keep
 pub duty : (f : ℕ → ℕ) (P D U a W : ℕ) → D ≤ P → U ≤ a → ((c : ℕ) → a ≤ c → c < a + W → f c ≡ wave P D U c)
-    → Within (highs f a W) W P D
+    → WithinBound (highs f a W) W P D
 duty f zero D U a W le ua same = record { above = omega (arith, ap (λ (d : ℕ). W * d) z); below = omega (arith, ap (λ (d : ℕ). W * d) z) }
   where
     z : D ≡ 0

@@ -104,7 +104,7 @@ joined (o ∷ os) = o .entries ++ joined os
 
 -- ---- the bound: "H × P and W × D at most D × (P − D) apart"
 
-pub record Within (H W P D : ℕ) : Type 0 where
+pub record WithinBound (H W P D : ℕ) : Type 0 where
   pub above : H * P ≤ W * D + D * (P - D)
   pub below : W * D ≤ H * P + D * (P - D)
 
@@ -158,4 +158,4 @@ pub record Window (π : Pilot) (a W : ℕ) : Type 0 where
 abbrev pub Claim : Type 0
 Claim =
     (π : Pilot) → Steady π → (a W : ℕ) → Window π a W
-    → Within (highs (recorded π) a W) W (periodOf (board₁ π) (π .timer)) (highOf (board₁ π) (π .timer) (π .ch))
+    → WithinBound (highs (recorded π) a W) W (periodOf (board₁ π) (π .timer)) (highOf (board₁ π) (π .timer) (π .ch))

@@ -12,7 +12,7 @@ use lib.Seq.{getD-drop, paste, paste-suc, length-paste}
 use lib.Ieee.{Float, nan}
 use Rattle.real.specs.Real.{zeroFloat}
 use Rattle.clk.specs.Clk.{flatTree}
-use Rattle.pins.specs.Clock.{started}
+use Rattle.pins.specs.Clock.{newClock}
 use Rattle.nvic.specs.Nvic.{lineOf, idle}
 use Rattle.scheduler.specs.Booking.{never}
 use Rattle.sig.specs.Signal.{isUart, idleLevel}
@@ -144,7 +144,7 @@ blankBoard hz vcc = record {
   booking = repeated 8 never;
   nvic = record { nirq = 0; lines = repeated 256 idle };
   pads = record { gpio = repeated 128 blankGpio; af = repeated 2048 0; route = repeated 256 128; sigLevel = listed idleLevel 0 256; vcc = vcc };
-  clocks = record { tree = flatTree hz; clock = started hz; enr = repeated 9 0 };
+  clocks = record { tree = flatTree hz; clock = newClock hz; enr = repeated 9 0 };
   counts = record { timers = 0; pins = 0; last = 0 };
 }
 
@@ -158,7 +158,7 @@ module _ (w : List ℕ) (x₀ x : List Float) (hz vcc : Float) (size : length x�
       all-one zeroFloat nan 256 (getD (parts nan realSizes x) 0 []) (length-part nan realSizes 0 x)
       (λ i h. part-at nan realSizes 0 i x h ∙ ap (λ (l : List Float). getD l (0 + i) nan) e ∙ listed-at (λ k. zeroFloat) 0 264 (0 + i) nan (omega arith))
 
-  pub fresh : withClock (withTree (withVcc (view w x) vcc) (flatTree hz)) (started hz) ≡ blankBoard hz vcc
+  pub fresh : withClock (withTree (withVcc (view w x) vcc) (flatTree hz)) (newClock hz) ≡ blankBoard hz vcc
   unfolding view blankBoard
   fresh =
       let zero : (i : ℕ) → getD (zeros 4) i 0 ≡ 0 = repeated-at 0 4 in

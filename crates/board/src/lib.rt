@@ -59,12 +59,7 @@ pub extern "C" fn board_set_up(
 ) -> Answer
     ensures { λ r. ⌜ Answers (step (view (now (words .entry)) (now (reals .entry))) (C.setUp (setupOf hz vcc pins lines 0 (now (timers .entry)) (now (table .entry))))) r (now (words .entry)) (now (words .exit)) (now (reals .entry)) (now (reals .exit)) ⌝ }
 {
-    let number = setup::set_up(words, reals, hz, vcc, pins, lines, 0, timers, table);
-    Answer {
-        value: 0,
-        number: number as u32,
-        count: 0,
-    }
+    setup::set_up(words, reals, hz, vcc, pins, lines, 0, timers, table)
 }
 
 // Set up with timers in manual mode: timer i where bit i of `manual` is 1; a bit of no timer says nothing.
@@ -82,12 +77,7 @@ pub extern "C" fn board_set_up_manual(
 ) -> Answer
     ensures { λ r. ⌜ Answers (step (view (now (words .entry)) (now (reals .entry))) (C.setUp (setupOf hz vcc pins lines manual (now (timers .entry)) (now (table .entry))))) r (now (words .entry)) (now (words .exit)) (now (reals .entry)) (now (reals .exit)) ⌝ }
 {
-    let number = setup::set_up(words, reals, hz, vcc, pins, lines, manual, timers, table);
-    Answer {
-        value: 0,
-        number: number as u32,
-        count: 0,
-    }
+    setup::set_up(words, reals, hz, vcc, pins, lines, manual, timers, table)
 }
 
 // Change the clock tree.

@@ -21,7 +21,7 @@ use Rattle.follows.proofs.Standing.{either-sync}
 use Rattle.machine.specs.Board.{timerAt, noTimer}
 use Rattle.machine.specs.Call.{Call}
 use Rattle.machine.proofs.Routing.{either}
-use Rattle.boards.specs.Boards.{divOf, after, StepFits}
+use Rattle.boards.specs.Boards.{divOf, StepFits}
 use Rattle.boards.proofs.Everywhere.{everywhere}
 
 abbrev Fit : Timer → Type 0

@@ -37,9 +37,10 @@ use Rattle.machine.specs.Board.{Board, Pads, timerAt, noTimer, withTimer, withP
 use Rattle.machine.specs.Sys as Sys
 use Rattle.machine.specs.Deliver.{Run, dividerOf, lineSettled, rebooked, turn, turnOf, dueBy, mostEvents, delivered, afterDelivery}
 use Rattle.machine.specs.Deliver as D
-use Rattle.machine.specs.Call.{Setup, Call, setUp, clockTree, enable, setPin, drivePin, resetPins, read, write, peek, resetTimer, deliver, queryBooked, queryNext, queryLevel, queryVolts, queryLine, queryTime, clearPending, Outcome, Question, reading, peeking, booked, next, level, volts, line, time, BookCall, pinSetting, outsideDrive, pinReset, writing, resetting, delivery, ask, lend}
+use Rattle.machine.specs.Call.{Setup, Call, setUp, clockTree, enable, setPin, drivePin, resetPins, write, resetTimer, deliver, clearPending, Outcome, Question, BookCall, pinSetting, outsideDrive, pinReset, writing, resetting, delivery, ask, lend}
 use Rattle.machine.specs.Step.{absent, oddSize, cycleAstray, bookFull, socketTaken, withinLimits, clockOn, register, present, written, counterAstray, followed, timerReset, deliveredTo, timerRetimed, allRetimed, treeSet, step, boardAfter}
 use Rattle.machine.specs.Sound.{Sound, SoundPads}
+use Rattle.machine.proofs.NumberLaws.{asked-board}
 use Rattle.machine.proofs.Routing.{either, by-test}
 use Rattle.machine.proofs.Reach.{inst-written, run-good, sound-step, sound-first}
 use Rattle.boards.specs.Boards.{Timers}
@@ -320,6 +321,10 @@ module _ (b : Board) (s : Sound b) (h : Timers b) where
   unfolding step
   kept-enable word value = either Good (absent word 9) h h
 
+  kept-clear : (irq : ℕ) → Good (step b (clearPending irq))
+  unfolding step
+  kept-clear irq = h
+
   kept-setPin : (pin mode od out pu pd f cycle places : ℕ) → Good (step b (setPin pin mode od out pu pd f cycle places))
   unfolding step
   kept-setPin pin mode od out pu pd f cycle places =
@@ -336,14 +341,6 @@ module _ (b : Board) (s : Sound b) (h : Timers b) where
   unfolding step
   kept-resetPins cycle places = by-test Good (cycleAstray b cycle) (λ _. h) (λ e. either Good (ltb places (b .counts .pins)) h (moves-on cycle e))
 
-  kept-read : (i offset size cycle : ℕ) → Good (step b (read i offset size cycle))
-  unfolding step
-  kept-read i offset size cycle = either Good (absent i (b .counts .timers)) h (either Good (oddSize size) h (either Good (cycleAstray b cycle) h h))
-
-  kept-peek : (i offset cycle : ℕ) → Good (step b (peek i offset cycle))
-  unfolding step
-  kept-peek i offset cycle = either Good (absent i (b .counts .timers)) h (either Good (cycleAstray b cycle) h h)
-
   kept-resetTimer : (i cycle places : ℕ) → Good (step b (resetTimer i cycle places))
   unfolding step
   kept-resetTimer i cycle places =
@@ -356,27 +353,8 @@ module _ (b : Board) (s : Sound b) (h : Timers b) where
       by-test Good (absent i (b .counts .timers)) (λ _. h)
       (λ a. by-test Good (cycleAstray b cycle) (λ _. h) (λ e. either Good (bookFull 4 places) h (kept-deliver b s h i cycle places (present-timer b i a) (not-astray b cycle e))))
 
-  kept-query : (i : ℕ) → Good (step b (queryBooked i))
-  unfolding step
-  kept-query i = either Good (absent i (b .counts .timers)) h h
-
-  kept-pin : (i : ℕ) → Good (step b (queryLevel i)) × Good (step b (queryVolts i))
-  unfolding step
-  kept-pin i = (either Good (absent i (b .counts .pins)) h h, either Good (absent i (b .counts .pins)) h h)
-
-  kept-rest : (x : ℕ) → Good (step b queryNext) × Good (step b (queryLine x)) × Good (step b (queryTime x)) × Good (step b (clearPending x))
-  unfolding step
-  kept-rest x = (h, h, either Good (cycleAstray b x) h h, h)
-
   kept-asked : (q : Question) → Timers (step b (ask q) .board)
-  kept-asked (reading timer offset size cycle) = kept-read timer offset size cycle
-  kept-asked (peeking timer offset cycle) = kept-peek timer offset cycle
-  kept-asked (booked timer) = kept-query timer
-  kept-asked next = kept-rest 0 .0
-  kept-asked (level pin) = kept-pin pin .0
-  kept-asked (volts pin) = kept-pin pin .1
-  kept-asked (line irq) = kept-rest irq .1
-  kept-asked (time cycle) = kept-rest cycle .2
+  kept-asked q = subst Timers (sym (asked-board b q)) h
 
   kept-lent : (k : BookCall) (cycle places : ℕ) → Timers (step b (lend k cycle places) .board)
   kept-lent (pinSetting pin mode od out pu pd f) cycle places = kept-setPin pin mode od out pu pd f cycle places
@@ -390,7 +368,7 @@ module _ (b : Board) (s : Sound b) (h : Timers b) where
   kept-step (setUp u) = kept-setUp u
   kept-step (clockTree t cycle) = kept-clockTree t cycle
   kept-step (enable word value) = kept-enable word value
-  kept-step (clearPending irq) = kept-rest irq .3
+  kept-step (clearPending irq) = kept-clear irq
   kept-step (ask q) = kept-asked q
   kept-step (lend k cycle places) = kept-lent k cycle places
 

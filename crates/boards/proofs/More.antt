@@ -41,24 +41,24 @@ use Rattle.machine.specs.Call as C
 use Rattle.machine.specs.Call.{Outcome, served, refused}
 use Rattle.machine.specs.Step.{refuseIf, absent, oddSize, cycleAstray, bookFull, clockOn, register, present, written, followed, counterAstray, timerReset, deliveredTo, timerRetimed, allRetimed, treeSet, step, boardAfter}
 use Rattle.machine.specs.Sound.{Sound}
+use Rattle.machine.specs.Demand1.{reached}
 use Rattle.machine.proofs.Routing.{either, by-test}
 use Rattle.machine.proofs.Reach.{run-good, sound-step, sound-after}
-use Rattle.boards.specs.Boards.{divOf, after, merged, Boards, Lent, deliveries, before, last, treed, StepEvents, StepSeries, StepSeriesDue, StepReads, StepLate, StepLateWrites, StepResets, StepGated, StepRetimes, StepDeliversManual, StepWritesManual}
+use Rattle.boards.specs.Boards.{divOf, valueOn, Boards, Delivery, deliveries, before, last, treed, StepEvents, StepSeries, StepSeriesDue, StepReads, StepLate, StepLateWrites, StepResets, StepGated, StepRetimes, StepDeliversManual, StepWritesManual}
 use Rattle.boards.proofs.Kept.{at-place, elsewhere, not-astray, kept-after}
-use Rattle.boards.proofs.Stepped.{never, due-same, turn-same, run-same, Passed, peel, delivered-timer, followed-timer, delivers-so, handled, writes-so, written-is, delivers, writes}
+use Rattle.boards.proofs.Stepped.{never, turn-same, run-same, Passed, peel, delivered-timer, followed-timer, delivers-so, handled, writes-so, written-is, delivers, writes}
 use Rattle.boards.proofs.Fitting.{fits}
 
 -- ---- a delivery is as many events as its value says
 
 one-event : (now div : ℕ) (t : Timer) (p : Pads) (r : Run) (es : List Entry) (q l : Bool) → dueBy (nextEvent t) now ≡ q
     → r .timer ≡ S.deliver (r .events) now div (S.applied t div (nextEvent t))
-    → cond q (cond l (stop t p 8) (D.after es r)) (stop t p 0) .timer ≡ S.deliver (cond q (cond l (stop t p 8) (D.after es r)) (stop t p 0) .events) now div t
+    → cond q (cond l (stop t p 8) (D.afterTurn es r)) (stop t p 0) .timer ≡ S.deliver (cond q (cond l (stop t p 8) (D.afterTurn es r)) (stop t p 0) .events) now div t
 unfolding S.deliver
 one-event now div t p r es false l a ih = refl
 one-event now div t p r es true true a ih = refl
 one-event now div t p r es true false a ih =
-    let d : S.dueBy (nextEvent t) now ≡ true = sym (due-same (nextEvent t) now) ∙ a in
-    ih ∙ sym (ap (λ (n : ℕ). S.deliver n now div t) (add-one (r .events)) ∙ ap (λ (c : Bool). cond c (S.deliver (r .events) now div (S.applied t div (nextEvent t))) t) d)
+    ih ∙ sym (ap (λ (n : ℕ). S.deliver n now div t) (add-one (r .events)) ∙ ap (λ (c : Bool). cond c (S.deliver (r .events) now div (S.applied t div (nextEvent t))) t) a)
 
 run-events : (f now div left : ℕ) (t : Timer) (p : Pads) → run f now div left t p .timer ≡ S.deliver (run f now div left t p .events) now div t
 unfolding run S.deliver
@@ -103,7 +103,7 @@ events-at b s i cycle places l =
     (λ le. delivered-timer b s i cycle l places ∙ delivered-events b i cycle places)
 
 events : StepEvents
-events cs i cycle places l = events-at (after cs) (sound-after cs) i cycle places l
+events cs i cycle places l = events-at (reached cs) (sound-after cs) i cycle places l
 
 -- ---- deliveries one after the other
 
@@ -114,10 +114,10 @@ pub record Reaches (t : Timer) (div cycle : ℕ) (u : Timer) : Type 0 where
   pub quiet : Delivered u cycle
 
 module _ (i cycle places : ℕ) where
-  abbrev end : Board → List Lent → Outcome
+  abbrev end : Board → List Delivery → Outcome
   end b ds = step (boardAfter b (deliveries i ds)) (C.deliver i cycle places)
 
-  abbrev Ends : Board → Board → List Lent → Type 0
+  abbrev Ends : Board → Board → List Delivery → Type 0
   Ends b c ds = end c ds .number ≡ 0 → Reaches (timerAt b i) (divOf b i) cycle (timerAt (end c ds .board) i) × (b .counts .last ≤ cycle)
 
   last-one : (b : Board) → Sound b → i < b .counts .timers → Ends b b []
@@ -133,7 +133,7 @@ module _ (i cycle places : ℕ) where
         early,
       )
 
-  reach : (ds : List Lent) (b : Board) → Sound b → i < b .counts .timers → Ends b b ds
+  reach : (ds : List Delivery) (b : Board) → Sound b → i < b .counts .timers → Ends b b ds
   unfolding boardAfter
   reach [] b s l = last-one b s l
   reach (d ∷ ds) b s l =
@@ -168,7 +168,7 @@ module _ (i cycle places : ℕ) where
 
 series : StepSeries
 series cs i a ds cycle places l h from le d z =
-    let b = after cs in
+    let b = reached cs in
     let t = timerAt b i in
     let r = reach i cycle places ds b (sound-after cs) l z .0 in
     let left : Delivered (S.deliver (r .number) cycle (divOf b i) t) cycle = subst (λ (u : Timer). Delivered u cycle) (r .is) (r .quiet) in (
@@ -179,7 +179,7 @@ series cs i a ds cycle places l h from le d z =
 
 series-due : StepSeriesDue
 series-due cs i ds cycle places l h z =
-    let b = after cs in
+    let b = reached cs in
     let t = timerAt b i in
     let p = reach i cycle places ds b (sound-after cs) l z in
     let r = p .0 in
@@ -193,7 +193,7 @@ series-due cs i ds cycle places l h z =
 reads : StepReads
 unfolding step
 reads cs i offset size cycle z =
-    let b = after cs in
+    let b = reached cs in
     let t = timerAt b i in
     let o = served (cond (clockOn b t) (laneRead (R.regRead t (register offset) cycle) offset size) 0) b in
     let p1 = peel (absent i (b .counts .timers)) 2 b (refuseIf (oddSize size) 3 b (refuseIf (cycleAstray b cycle) 5 b o)) (λ e. omega arith) z in
@@ -202,23 +202,23 @@ reads cs i offset size cycle z =
     ap (λ (x : Outcome). x .value) (p1 .is ∙ p2 .is ∙ p3 .is)
     ∙ ap (λ (x : ℕ). cond (clockOn b t) (laneRead x offset size) 0) (sym (follows .reads t (divOf b i) (register offset) cycle))
 
-module _ (cs : List C.Call) (i cycle : ℕ) (l : i < after cs .counts .timers) (h : Within (timerAt (after cs) i)) (le : after cs .counts .last ≤ cycle) where
-  call : Call (timerAt (after cs) i) (divOf (after cs) i) cycle
+module _ (cs : List C.Call) (i cycle : ℕ) (l : i < reached cs .counts .timers) (h : Within (timerAt (reached cs) i)) (le : reached cs .counts .last ≤ cycle) where
+  call : Call (timerAt (reached cs) i) (divOf (reached cs) i) cycle
   call = let o = kept-after cs i l in record { timed = o .timed; within = h; came = le-trans (o .based) le }
 
 late : StepLate
-late cs i cycle l h le = follows .late (timerAt (after cs) i) (divOf (after cs) i) cycle (call cs i cycle l h le)
+late cs i cycle l h le = follows .late (timerAt (reached cs) i) (divOf (reached cs) i) cycle (call cs i cycle l h le)
 
 late-writes : StepLateWrites
 late-writes cs f i offset size value cycle places l h on z within left =
-    let b = after cs in
+    let b = reached cs in
     let s = sound-after cs in
     let t = timerAt b i in
     let div = divOf b i in
     let p = writes-so b s i cycle l offset size value places on z in
     let k = call cs i cycle l h (not-astray b cycle (p .1)) in
     let off = register offset in
-    let v = merged b i offset size value cycle in
+    let v = valueOn b i offset size value cycle in
     let u : Timer = S.written t off v cycle div in
     let same : timerAt (step b (C.write i offset size value cycle places) .board) i ≡ u =
     ap (λ (x : Outcome). timerAt (x .board) i) (p .0) ∙ followed-timer b s i cycle l (written b t offset size value cycle) ∙ written-is b s i cycle l offset size value in
@@ -235,7 +235,7 @@ reset-timer b s i cycle l = at-place b i (T.resetState (timerAt b i .inst) (divO
 resets : StepResets
 unfolding step
 resets cs i cycle places l z =
-    let b = after cs in
+    let b = reached cs in
     let o = timerReset b i cycle in
     let p1 = peel (absent i (b .counts .timers)) 2 b (refuseIf (cycleAstray b cycle) 5 b (refuseIf (bookFull 4 places) 6 b o)) (λ e. omega arith) z in
     let p2 = peel (cycleAstray b cycle) 5 b (refuseIf (bookFull 4 places) 6 b o) (λ e. omega arith) (p1 .number) in
@@ -246,7 +246,7 @@ resets cs i cycle places l z =
 gated : StepGated
 unfolding step
 gated cs i =
-    let b = after cs in
+    let b = reached cs in
     let P : Outcome → Type 0 = λ o. timerAt (o .board) i ≡ timerAt b i in (
       λ offset size value cycle places off.
           either P (absent i (b .counts .timers)) refl
@@ -342,7 +342,7 @@ inst-retimed t now div = either-sync t now (λ (z : Timer). z .inst ≡ t .inst)
 retimes : StepRetimes
 unfolding step
 retimes cs i tree cycle l z differs near =
-    let b = after cs in
+    let b = reached cs in
     let t = timerAt b i in
     let div = divOf b i in
     let o = served 0 (withLast (treeSet b tree cycle) cycle) in
@@ -365,7 +365,7 @@ retimes cs i tree cycle l z differs near =
 
 delivers-manual : StepDeliversManual
 delivers-manual cs i a ds cycle places l h from le d z clear =
-    let b = after cs in
+    let b = reached cs in
     let t = timerAt b i in
     let f = fits cs i a in
     sym (clocks-same (rulesOf t) (seen t (divOf b i) a) (between t (divOf b i) a cycle) (λ m _. follows .fits-stay (rulesOf t) (seen t (divOf b i) a) m (f .0) (f .1)) clear)
@@ -373,9 +373,9 @@ delivers-manual cs i a ds cycle places l h from le d z clear =
 
 writes-manual : StepWritesManual
 writes-manual cs f i offset size value cycle places l h d on z within left o =
-    let b = after cs in
+    let b = reached cs in
     let t = timerAt b i in
-    sym (write-same (rulesOf t) (register offset) (merged b i offset size value cycle) (seen t (divOf b i) cycle) o)
+    sym (write-same (rulesOf t) (register offset) (valueOn b i offset size value cycle) (seen t (divOf b i) cycle) o)
     ∙ writes cs f i offset size value cycle places l h d on z within left
 
 pub boards : Boards

@@ -29,19 +29,16 @@ use Rattle.machine.specs.Call as C
 use Rattle.machine.specs.Call.{Outcome, served}
 use Rattle.machine.specs.Step.{refuseIf, absent, oddSize, cycleAstray, bookFull, clockOn, register, present, written, counterAstray, followed, deliveredTo, step, boardAfter}
 use Rattle.machine.specs.Sound.{Sound}
+use Rattle.machine.specs.Demand1.{reached}
 use Rattle.machine.proofs.Routing.{either}
 use Rattle.machine.proofs.Reach.{sound-after}
-use Rattle.boards.specs.Boards.{divOf, after, merged, StepDelivers, StepWrites}
+use Rattle.boards.specs.Boards.{divOf, valueOn, StepDelivers, StepWrites}
 use Rattle.boards.proofs.Kept.{at-place, not-astray, kept-after}
 
 pub never : (n : ℕ) → suc n ≡ 0 → ⊥
 never n e = omega arith
 
 -- ---- a delivery's timer is follows'
-
-pub due-same : (d : Due) (c : ℕ) → dueBy d c ≡ S.dueBy d c
-due-same (At x e) c = refl
-due-same Stopped c = refl
 
 pub turn-same : (t : Timer) (p : Pads) (d : Due) (div : ℕ) → turnOf t p d div .timer ≡ S.applied t div d
 unfolding turn
@@ -51,19 +48,18 @@ turn-same t p Stopped div = refl
 
 -- answered 0: all events due are handled
 abbrev Handled : ℕ → ℕ → ℕ → Timer → Run → Type 0
-Handled f now div t r = (r .timer ≡ S.deliver f now div t) × (S.dueBy (nextEvent (r .timer)) now ≡ false)
+Handled f now div t r = (r .timer ≡ S.deliver f now div t) × (dueBy (nextEvent (r .timer)) now ≡ false)
 
 one-run : (f now div : ℕ) (t : Timer) (p : Pads) (r : Run) (es : List Entry) (q l : Bool) → dueBy (nextEvent t) now ≡ q
     → (r .number ≡ 0 → Handled f now div (S.applied t div (nextEvent t)) r)
-    → cond q (cond l (stop t p 8) (D.after es r)) (stop t p 0) .number ≡ 0
-    → (cond q (cond l (stop t p 8) (D.after es r)) (stop t p 0) .timer ≡ cond (S.dueBy (nextEvent t) now) (S.deliver f now div (S.applied t div (nextEvent t))) t)
-    × (S.dueBy (nextEvent (cond q (cond l (stop t p 8) (D.after es r)) (stop t p 0) .timer)) now ≡ false)
+    → cond q (cond l (stop t p 8) (D.afterTurn es r)) (stop t p 0) .number ≡ 0
+    → (cond q (cond l (stop t p 8) (D.afterTurn es r)) (stop t p 0) .timer ≡ cond (dueBy (nextEvent t) now) (S.deliver f now div (S.applied t div (nextEvent t))) t)
+    × (dueBy (nextEvent (cond q (cond l (stop t p 8) (D.afterTurn es r)) (stop t p 0) .timer)) now ≡ false)
 one-run f now div t p r es false l a ih z =
-    let d : S.dueBy (nextEvent t) now ≡ false = sym (due-same (nextEvent t) now) ∙ a in (sym (ap (λ (c : Bool). cond c (S.deliver f now div (S.applied t div (nextEvent t))) t) d), d)
+    (sym (ap (λ (c : Bool). cond c (S.deliver f now div (S.applied t div (nextEvent t))) t) a), a)
 one-run f now div t p r es true true a ih z = absurd (never 7 z)
 one-run f now div t p r es true false a ih z =
-    let d : S.dueBy (nextEvent t) now ≡ true = sym (due-same (nextEvent t) now) ∙ a in
-    (ih z .0 ∙ sym (ap (λ (c : Bool). cond c (S.deliver f now div (S.applied t div (nextEvent t))) t) d), ih z .1)
+    (ih z .0 ∙ sym (ap (λ (c : Bool). cond c (S.deliver f now div (S.applied t div (nextEvent t))) t) a), ih z .1)
 
 nothing-left : (q : Bool) → _≡_ {A = ℕ} (cond q 8 0) 0 → q ≡ false
 nothing-left true z = absurd (never 7 z)
@@ -71,7 +67,7 @@ nothing-left false z = refl
 
 pub run-same : (f now div left : ℕ) (t : Timer) (p : Pads) → run f now div left t p .number ≡ 0 → Handled f now div t (run f now div left t p)
 unfolding run S.deliver
-run-same zero now div left t p z = (refl, sym (due-same (nextEvent t) now) ∙ nothing-left (dueBy (nextEvent t) now) z)
+run-same zero now div left t p z = (refl, nothing-left (dueBy (nextEvent t) now) z)
 run-same (suc f) now div left t p z =
     let u = turnOf t p (nextEvent t) div in
     one-run f now div t p (run f now div (left - length (u .entries)) (u .timer) (u .pads)) (u .entries) (dueBy (nextEvent t) now) (ltb left 4) refl
@@ -138,7 +134,7 @@ module _ (b : Board) (s : Sound b) (i cycle : ℕ) (l : i < b .counts .timers) w
       let p5 = peel (counterAstray (register offset) (w offset size value .timer)) 7 b (followed b i cycle (w offset size value)) (λ e. omega arith) (ap (λ (o : Outcome). o .number) (sym on4) ∙ p4 .number) in
       (p1 .is ∙ p2 .is ∙ p3 .is ∙ p4 .is ∙ on4 ∙ p5 .is, p3 .test)
 
-  pub written-is : (offset size value : ℕ) → w offset size value .timer ≡ R.regWritten (timerAt b i) (register offset) (merged b i offset size value cycle) cycle (divOf b i) .timer
+  pub written-is : (offset size value : ℕ) → w offset size value .timer ≡ R.regWritten (timerAt b i) (register offset) (valueOn b i offset size value cycle) cycle (divOf b i) .timer
   unfolding written
   written-is offset size value = refl
 
@@ -146,7 +142,7 @@ module _ (b : Board) (s : Sound b) (i cycle : ℕ) (l : i < b .counts .timers) w
 
 pub delivers : StepDelivers
 delivers cs i a cycle places l h from le d z =
-    let b = after cs in
+    let b = reached cs in
     let s = sound-after cs in
     let p = delivers-so b s i cycle l places z in
     let q = handled b s i cycle l places (p .1) in
@@ -160,15 +156,15 @@ delivers cs i a cycle places l h from le d z =
 
 pub writes : StepWrites
 writes cs f i offset size value cycle places l h d on z within left =
-    let b = after cs in
+    let b = reached cs in
     let s = sound-after cs in
     let p = writes-so b s i cycle l offset size value places on z in
     let o = kept-after cs i l in
-    let u : Timer = R.regWritten (timerAt b i) (register offset) (merged b i offset size value cycle) cycle (divOf b i) .timer in
+    let u : Timer = R.regWritten (timerAt b i) (register offset) (valueOn b i offset size value cycle) cycle (divOf b i) .timer in
     let same : timerAt (step b (C.write i offset size value cycle places) .board) i ≡ u =
     ap (λ (x : Outcome). timerAt (x .board) i) (p .0) ∙ followed-timer b s i cycle l (written b (timerAt b i) offset size value cycle) ∙ written-is b s i cycle l offset size value in
     let early : b .counts .last ≤ cycle = not-astray b cycle (p .1) in
     let came : timerAt b i .count .base ≤ cycle = omega (arith, o .based) in
-    follows .writes f (timerAt b i) (divOf b i) (register offset) (merged b i offset size value cycle) cycle
+    follows .writes f (timerAt b i) (divOf b i) (register offset) (valueOn b i offset size value cycle) cycle
     (record { timed = o .timed; within = follows .upward (timerAt b i) cycle came d h; came = came }) d (subst Within same within) (subst (λ (t : Timer). Delivered (S.deliver f cycle (divOf b i) t) cycle) same left) tt
     ∙ ap (λ (t : Timer). seen (S.deliver f cycle (divOf b i) t) (divOf b i) cycle) (sym same)

@@ -19,11 +19,12 @@ use Rattle.clk.specs.Clk.{differing}
 use Rattle.periph.specs.Lane.{laneRead, laneWrite}
 use Rattle.follows.specs.Seen.{clocksAt, per, seen, rulesOf, Within, Left, deliver}
 use Rattle.follows.specs.Follows.{Delivered, between, acts, WithinDown, Fits}
-use Rattle.machine.specs.Board.{Board, timerAt, firstBoard}
+use Rattle.machine.specs.Board.{Board, timerAt}
 use Rattle.machine.specs.Deliver.{dividerOf}
 use Rattle.machine.specs.Call as C
 use Rattle.machine.specs.Call.{Call}
 use Rattle.machine.specs.Step.{clockOn, register, present, step, boardAfter}
+use Rattle.machine.specs.Demand1.{reached}
 
 -- the divider that timer i of board b steps by
 abbrev pub divOf : Board → ℕ → ℕ
@@ -33,152 +34,148 @@ divOf b i = dividerOf b (timerAt b i)
 abbrev pub Timers : Board → Type 0
 Timers b = (i : ℕ) → i < b .counts .timers → Left (divOf b i) (b .counts .last) (timerAt b i)
 
--- a board that calls lead to
-abbrev pub after : List Call → Board
-after cs = boardAfter firstBoard cs
-
 -- a delivery answered 0, from a cycle a at which nothing was due: so many kernel clocks of the machine, and nothing is due
 abbrev pub StepDelivers : Type 0
 StepDelivers =
-    (cs : List Call) (i a cycle places : ℕ) → i < after cs .counts .timers → WithinDown (timerAt (after cs) i) → timerAt (after cs) i .count .base ≤ a → a ≤ cycle
-    → Delivered (timerAt (after cs) i) a → step (after cs) (C.deliver i cycle places) .number ≡ 0
-    → (clocks (rulesOf (timerAt (after cs) i)) (between (timerAt (after cs) i) (divOf (after cs) i) a cycle) (seen (timerAt (after cs) i) (divOf (after cs) i) a)
-    ≡ seen (timerAt (step (after cs) (C.deliver i cycle places) .board) i) (divOf (after cs) i) cycle)
-    × Delivered (timerAt (step (after cs) (C.deliver i cycle places) .board) i) cycle
+    (cs : List Call) (i a cycle places : ℕ) → i < reached cs .counts .timers → WithinDown (timerAt (reached cs) i) → timerAt (reached cs) i .count .base ≤ a → a ≤ cycle
+    → Delivered (timerAt (reached cs) i) a → step (reached cs) (C.deliver i cycle places) .number ≡ 0
+    → (clocks (rulesOf (timerAt (reached cs) i)) (between (timerAt (reached cs) i) (divOf (reached cs) i) a cycle) (seen (timerAt (reached cs) i) (divOf (reached cs) i) a)
+    ≡ seen (timerAt (step (reached cs) (C.deliver i cycle places) .board) i) (divOf (reached cs) i) cycle)
+    × Delivered (timerAt (step (reached cs) (C.deliver i cycle places) .board) i) cycle
 
 -- the value that a write of some bytes gives its register
-abbrev pub merged : Board → ℕ → ℕ → ℕ → ℕ → ℕ → ℕ
-merged b i offset size value cycle = laneWrite (present (timerAt b i) (register offset) cycle) offset size value
+abbrev pub valueOn : Board → ℕ → ℕ → ℕ → ℕ → ℕ → ℕ
+valueOn b i offset size value cycle = laneWrite (present (timerAt b i) (register offset) cycle) offset size value
 
 -- a write answered 0 with the timer's clock on and nothing due, and what it makes due at once delivered: the machine's write
 abbrev pub StepWrites : Type 0
 StepWrites =
-    (cs : List Call) (f i offset size value cycle places : ℕ) → i < after cs .counts .timers → WithinDown (timerAt (after cs) i) → Delivered (timerAt (after cs) i) cycle
-    → clockOn (after cs) (timerAt (after cs) i) ≡ true → step (after cs) (C.write i offset size value cycle places) .number ≡ 0
-    → Within (timerAt (step (after cs) (C.write i offset size value cycle places) .board) i)
-    → Delivered (deliver f cycle (divOf (after cs) i) (timerAt (step (after cs) (C.write i offset size value cycle places) .board) i)) cycle
-    → M.write (rulesOf (timerAt (after cs) i)) (register offset) (merged (after cs) i offset size value cycle) (seen (timerAt (after cs) i) (divOf (after cs) i) cycle)
-    ≡ seen (deliver f cycle (divOf (after cs) i) (timerAt (step (after cs) (C.write i offset size value cycle places) .board) i)) (divOf (after cs) i) cycle
+    (cs : List Call) (f i offset size value cycle places : ℕ) → i < reached cs .counts .timers → WithinDown (timerAt (reached cs) i) → Delivered (timerAt (reached cs) i) cycle
+    → clockOn (reached cs) (timerAt (reached cs) i) ≡ true → step (reached cs) (C.write i offset size value cycle places) .number ≡ 0
+    → Within (timerAt (step (reached cs) (C.write i offset size value cycle places) .board) i)
+    → Delivered (deliver f cycle (divOf (reached cs) i) (timerAt (step (reached cs) (C.write i offset size value cycle places) .board) i)) cycle
+    → M.write (rulesOf (timerAt (reached cs) i)) (register offset) (valueOn (reached cs) i offset size value cycle) (seen (timerAt (reached cs) i) (divOf (reached cs) i) cycle)
+    ≡ seen (deliver f cycle (divOf (reached cs) i) (timerAt (step (reached cs) (C.write i offset size value cycle places) .board) i)) (divOf (reached cs) i) cycle
 
 -- ---- timer i after calls cs: its divider, its rules, and what is seen of it at a cycle
 
 abbrev pub timer : List Call → ℕ → Timer
-timer cs i = timerAt (after cs) i
+timer cs i = timerAt (reached cs) i
 
 abbrev pub divider : List Call → ℕ → ℕ
-divider cs i = divOf (after cs) i
+divider cs i = divOf (reached cs) i
 
 abbrev pub rules : List Call → ℕ → Rules
 rules cs i = rulesOf (timer cs i)
 
-abbrev pub view : List Call → ℕ → ℕ → State.Timer
-view cs i c = seen (timer cs i) (divider cs i) c
+abbrev pub seenAfter : List Call → ℕ → ℕ → State.Timer
+seenAfter cs i c = seen (timer cs i) (divider cs i) c
 
 -- ---- deliveries one after the other
 
 -- a delivery's cycle and places
-pub record Lent : Type 0 where
+pub record Delivery : Type 0 where
   pub cycle : ℕ
   pub places : ℕ
 
-abbrev pub deliveries : ℕ → List Lent → List Call
-deliveries i ds = map (λ (d : Lent). C.deliver i (d .cycle) (d .places)) ds
+abbrev pub deliveries : ℕ → List Delivery → List Call
+deliveries i ds = map (λ (d : Delivery). C.deliver i (d .cycle) (d .places)) ds
 
 -- a delivery, whatever it answers (0, 8 or a refusal), is as many events as its value says
 abbrev pub StepEvents : Type 0
 StepEvents =
-    (cs : List Call) (i cycle places : ℕ) → i < after cs .counts .timers
-    → timerAt (step (after cs) (C.deliver i cycle places) .board) i ≡ deliver (step (after cs) (C.deliver i cycle places) .value) cycle (divider cs i) (timer cs i)
+    (cs : List Call) (i cycle places : ℕ) → i < reached cs .counts .timers
+    → timerAt (step (reached cs) (C.deliver i cycle places) .board) i ≡ deliver (step (reached cs) (C.deliver i cycle places) .value) cycle (divider cs i) (timer cs i)
 
 -- the board before the last delivery, what that answers, and the timer after it
-abbrev pub before : List Call → ℕ → List Lent → Board
-before cs i ds = boardAfter (after cs) (deliveries i ds)
+abbrev pub before : List Call → ℕ → List Delivery → Board
+before cs i ds = boardAfter (reached cs) (deliveries i ds)
 
-abbrev pub last : List Call → ℕ → List Lent → ℕ → ℕ → C.Outcome
+abbrev pub last : List Call → ℕ → List Delivery → ℕ → ℕ → C.Outcome
 last cs i ds cycle places = step (before cs i ds) (C.deliver i cycle places)
 
-abbrev pub ended : List Call → ℕ → List Lent → ℕ → ℕ → Timer
-ended cs i ds cycle places = timerAt (last cs i ds cycle places .board) i
+abbrev pub lastTimer : List Call → ℕ → List Delivery → ℕ → ℕ → Timer
+lastTimer cs i ds cycle places = timerAt (last cs i ds cycle places .board) i
 
 -- deliveries of which the last is answered 0, the others as may be (8 too), from a cycle a at which nothing was due: so many kernel clocks
 abbrev pub StepSeries : Type 0
 StepSeries =
-    (cs : List Call) (i a : ℕ) (ds : List Lent) (cycle places : ℕ) → i < after cs .counts .timers → WithinDown (timer cs i)
+    (cs : List Call) (i a : ℕ) (ds : List Delivery) (cycle places : ℕ) → i < reached cs .counts .timers → WithinDown (timer cs i)
     → timer cs i .count .base ≤ a → a ≤ cycle → Delivered (timer cs i) a → last cs i ds cycle places .number ≡ 0
-    → (clocks (rules cs i) (between (timer cs i) (divider cs i) a cycle) (view cs i a)
-    ≡ seen (ended cs i ds cycle places) (divider cs i) cycle)
-    × Delivered (ended cs i ds cycle places) cycle
+    → (clocks (rules cs i) (between (timer cs i) (divider cs i) a cycle) (seenAfter cs i a)
+    ≡ seen (lastTimer cs i ds cycle places) (divider cs i) cycle)
+    × Delivered (lastTimer cs i ds cycle places) cycle
 
 -- the same with events due, at the reference itself or since: from the reference, with what matches there
 abbrev pub StepSeriesDue : Type 0
 StepSeriesDue =
-    (cs : List Call) (i : ℕ) (ds : List Lent) (cycle places : ℕ) → i < after cs .counts .timers → Within (timer cs i) → last cs i ds cycle places .number ≡ 0
+    (cs : List Call) (i : ℕ) (ds : List Delivery) (cycle places : ℕ) → i < reached cs .counts .timers → Within (timer cs i) → last cs i ds cycle places .number ≡ 0
     → clocks (rules cs i) (clocksAt (timer cs i) (divider cs i) cycle)
-    (matched (rules cs i) (view cs i (timer cs i .count .base)))
-    ≡ seen (ended cs i ds cycle places) (divider cs i) cycle
+    (matched (rules cs i) (seenAfter cs i (timer cs i .count .base)))
+    ≡ seen (lastTimer cs i ds cycle places) (divider cs i) cycle
 
 -- ---- reads, late calls and writes, reset, gate, clock tree
 
 -- a read: the machine's register, or 0 with the timer's clock off
 abbrev pub StepReads : Type 0
 StepReads =
-    (cs : List Call) (i offset size cycle : ℕ) → step (after cs) (C.read i offset size cycle) .number ≡ 0
-    → step (after cs) (C.read i offset size cycle) .value
-    ≡ cond (clockOn (after cs) (timer cs i)) (laneRead (read (register offset) (view cs i cycle)) offset size) 0
+    (cs : List Call) (i offset size cycle : ℕ) → step (reached cs) (C.read i offset size cycle) .number ≡ 0
+    → step (reached cs) (C.read i offset size cycle) .value
+    ≡ cond (clockOn (reached cs) (timer cs i)) (laneRead (read (register offset) (seenAfter cs i cycle)) offset size) 0
 
 -- at any cycle of a call, with events due or not, the machine is seen of whose clocks the counters alone are seen
 abbrev pub StepLate : Type 0
 StepLate =
-    (cs : List Call) (i cycle : ℕ) → i < after cs .counts .timers → Within (timer cs i) → after cs .counts .last ≤ cycle
-    → passes (rules cs i) (clocksAt (timer cs i) (divider cs i) cycle) (view cs i (timer cs i .count .base))
-    ≡ view cs i cycle
+    (cs : List Call) (i cycle : ℕ) → i < reached cs .counts .timers → Within (timer cs i) → reached cs .counts .last ≤ cycle
+    → passes (rules cs i) (clocksAt (timer cs i) (divider cs i) cycle) (seenAfter cs i (timer cs i .count .base))
+    ≡ seenAfter cs i cycle
 
 -- what a write answers, the timer that it leaves, and the value that it gives its register
 abbrev pub wrote : List Call → ℕ → ℕ → ℕ → ℕ → ℕ → ℕ → C.Outcome
-wrote cs i offset size value cycle places = step (after cs) (C.write i offset size value cycle places)
+wrote cs i offset size value cycle places = step (reached cs) (C.write i offset size value cycle places)
 
 abbrev pub left : List Call → ℕ → ℕ → ℕ → ℕ → ℕ → ℕ → Timer
 left cs i offset size value cycle places = timerAt (wrote cs i offset size value cycle places .board) i
 
-abbrev pub word : List Call → ℕ → ℕ → ℕ → ℕ → ℕ → ℕ
-word cs i offset size value cycle = merged (after cs) i offset size value cycle
+abbrev pub valueWritten : List Call → ℕ → ℕ → ℕ → ℕ → ℕ → ℕ
+valueWritten cs i offset size value cycle = valueOn (reached cs) i offset size value cycle
 
 -- a write with the timer's clock on, with events due or not: the machine's, of what is seen
 abbrev pub StepLateWrites : Type 0
 StepLateWrites =
-    (cs : List Call) (f i offset size value cycle places : ℕ) → i < after cs .counts .timers → Within (timer cs i)
-    → clockOn (after cs) (timer cs i) ≡ true → wrote cs i offset size value cycle places .number ≡ 0
+    (cs : List Call) (f i offset size value cycle places : ℕ) → i < reached cs .counts .timers → Within (timer cs i)
+    → clockOn (reached cs) (timer cs i) ≡ true → wrote cs i offset size value cycle places .number ≡ 0
     → Within (left cs i offset size value cycle places)
     → Delivered (deliver f cycle (divider cs i) (left cs i offset size value cycle places)) cycle
-    → M.write (rules cs i) (register offset) (word cs i offset size value cycle) (view cs i cycle)
-    ≡ cond (acts (register offset) (word cs i offset size value cycle) (view cs i cycle))
+    → M.write (rules cs i) (register offset) (valueWritten cs i offset size value cycle) (seenAfter cs i cycle)
+    ≡ cond (acts (register offset) (valueWritten cs i offset size value cycle) (seenAfter cs i cycle))
     (seen (deliver f cycle (divider cs i) (left cs i offset size value cycle places)) (divider cs i) cycle)
     (seen (left cs i offset size value cycle places) (divider cs i) cycle)
 
 -- a timer's reset
 abbrev pub StepResets : Type 0
 StepResets =
-    (cs : List Call) (i cycle places : ℕ) → i < after cs .counts .timers → step (after cs) (C.resetTimer i cycle places) .number ≡ 0
-    → M.reset (view cs i cycle) ≡ seen (timerAt (step (after cs) (C.resetTimer i cycle places) .board) i) (divider cs i) cycle
+    (cs : List Call) (i cycle places : ℕ) → i < reached cs .counts .timers → step (reached cs) (C.resetTimer i cycle places) .number ≡ 0
+    → M.reset (seenAfter cs i cycle) ≡ seen (timerAt (step (reached cs) (C.resetTimer i cycle places) .board) i) (divider cs i) cycle
 
 -- with its clock off a write leaves the timer; the gate itself stops nothing (docs/DIFFERENCES.md, gated-counts)
 abbrev pub StepGated : Type 0
 StepGated =
     (cs : List Call) (i : ℕ)
-    → ((offset size value cycle places : ℕ) → clockOn (after cs) (timer cs i) ≡ false → left cs i offset size value cycle places ≡ timer cs i)
-    × ((word value : ℕ) → timerAt (step (after cs) (C.enable word value) .board) i ≡ timer cs i)
+    → ((offset size value cycle places : ℕ) → clockOn (reached cs) (timer cs i) ≡ false → left cs i offset size value cycle places ≡ timer cs i)
+    × ((word value : ℕ) → timerAt (step (reached cs) (C.enable word value) .board) i ≡ timer cs i)
 
 -- another clock tree: as `Retimes` of crates/follows, with the divider of the new tree
 abbrev pub treed : List Call → ClockTree → ℕ → Board
-treed cs tree cycle = step (after cs) (C.clockTree tree cycle) .board
+treed cs tree cycle = step (reached cs) (C.clockTree tree cycle) .board
 
 abbrev pub StepRetimes : Type 0
 StepRetimes =
-    (cs : List Call) (i : ℕ) (tree : ClockTree) (cycle : ℕ) → i < after cs .counts .timers → step (after cs) (C.clockTree tree cycle) .number ≡ 0
-    → differing (after cs .clocks .tree) tree ≡ true
+    (cs : List Call) (i : ℕ) (tree : ClockTree) (cycle : ℕ) → i < reached cs .counts .timers → step (reached cs) (C.clockTree tree cycle) .number ≡ 0
+    → differing (reached cs .clocks .tree) tree ≡ true
     → (timerAt (treed cs tree cycle) i .count .running ≡ true → ticksAt (timerAt (treed cs tree cycle) i) cycle ≡ 0)
     → seen (timerAt (treed cs tree cycle) i) (divOf (treed cs tree cycle) i) cycle
-    ≡ State.withCount (view cs i cycle) (synced (timer cs i) cycle .count .running)
+    ≡ State.withCount (seenAfter cs i cycle) (synced (timer cs i) cycle .count .running)
     (cond (synced (timer cs i) cycle .count .running)
     (clocksAt (synced (timer cs i) cycle) (divOf (treed cs tree cycle) i) cycle % per (synced (timer cs i) cycle)) 0)
     (cntAt (timer cs i) cycle)
@@ -189,33 +186,33 @@ StepRetimes =
 abbrev pub StepFits : Type 0
 StepFits =
     (cs : List Call) (i cycle : ℕ)
-    → Fits (view cs i cycle) × (timer cs i .regs .arr ≤ view cs i cycle .max)
+    → Fits (seenAfter cs i cycle) × (timer cs i .regs .arr ≤ seenAfter cs i cycle .max)
 
 -- clocks of which none meets a case that the timer's rules leave to the Rust
 abbrev pub Clear : List Call → ℕ → ℕ → ℕ → Type 0
 Clear cs i a cycle =
     (m : ℕ) → m < between (timer cs i) (divider cs i) a cycle
-    → Outside (rules cs i) (clocks (rules cs i) m (view cs i a))
+    → Outside (rules cs i) (clocks (rules cs i) m (seenAfter cs i a))
 
 abbrev pub StepDeliversManual : Type 0
 StepDeliversManual =
-    (cs : List Call) (i a : ℕ) (ds : List Lent) (cycle places : ℕ) → i < after cs .counts .timers → WithinDown (timer cs i)
+    (cs : List Call) (i a : ℕ) (ds : List Delivery) (cycle places : ℕ) → i < reached cs .counts .timers → WithinDown (timer cs i)
     → timer cs i .count .base ≤ a → a ≤ cycle → Delivered (timer cs i) a → last cs i ds cycle places .number ≡ 0 → Clear cs i a cycle
-    → clocks manual (between (timer cs i) (divider cs i) a cycle) (view cs i a)
-    ≡ seen (ended cs i ds cycle places) (divider cs i) cycle
+    → clocks manual (between (timer cs i) (divider cs i) a cycle) (seenAfter cs i a)
+    ≡ seen (lastTimer cs i ds cycle places) (divider cs i) cycle
 
 abbrev pub StepWritesManual : Type 0
 StepWritesManual =
-    (cs : List Call) (f i offset size value cycle places : ℕ) → i < after cs .counts .timers → WithinDown (timer cs i) → Delivered (timer cs i) cycle
-    → clockOn (after cs) (timer cs i) ≡ true → wrote cs i offset size value cycle places .number ≡ 0
+    (cs : List Call) (f i offset size value cycle places : ℕ) → i < reached cs .counts .timers → WithinDown (timer cs i) → Delivered (timer cs i) cycle
+    → clockOn (reached cs) (timer cs i) ≡ true → wrote cs i offset size value cycle places .number ≡ 0
     → Within (left cs i offset size value cycle places)
     → Delivered (deliver f cycle (divider cs i) (left cs i offset size value cycle places)) cycle
-    → OutsideWrite (rules cs i) (register offset) (word cs i offset size value cycle) (view cs i cycle)
-    → M.write manual (register offset) (word cs i offset size value cycle) (view cs i cycle)
+    → OutsideWrite (rules cs i) (register offset) (valueWritten cs i offset size value cycle) (seenAfter cs i cycle)
+    → M.write manual (register offset) (valueWritten cs i offset size value cycle) (seenAfter cs i cycle)
     ≡ seen (deliver f cycle (divider cs i) (left cs i offset size value cycle places)) (divider cs i) cycle
 
 pub record Boards : Type 0 where
-  pub timers : (cs : List Call) → Timers (after cs)
+  pub timers : (cs : List Call) → Timers (reached cs)
   pub delivers : StepDelivers
   pub writes : StepWrites
   pub events : StepEvents

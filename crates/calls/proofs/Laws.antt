@@ -1,6 +1,6 @@
 -- Calls as words. Assumes nothing.
 use mathlib.Core.Path.{_≡_, refl, sym, subst, _∙_}
-use mathlib.Core.Bool.{Bool, true, false, not}
+use mathlib.Core.Bool.{Bool, true, false}
 use mathlib.Core.List.{List, [], _∷_}
 use Prim.Native.Nat.{ℕ, _+_, _-_, _*_, _≤_}
 use native.Mathlib.Omega.{arith}
@@ -8,19 +8,17 @@ use lib.Dec.{eqb}
 use lib.Ieee.{Float}
 use lib.ListN.{length, take, drop}
 use borrow.Author.Tests.{ne-eqb}
-use Rattle.real.specs.Real.{positive}
 use Rattle.clk.specs.declared.ClockTree.{ClockTree}
 use Rattle.book.specs.Book.{Entry, Holds, slices, Lent}
 use Rattle.machine.specs.Board.{Board}
-use Rattle.machine.specs.Call.{Call, Outcome, Setup, setUp, clockTree, enable, setPin, drivePin, resetPins, read, write, peek, resetTimer, deliver, queryBooked, queryNext, queryLevel, queryVolts, queryLine, queryTime, clearPending, lent}
-use Rattle.machine.specs.Step.{step, withinLimits}
-use Rattle.machine.proofs.NumberLaws.{refusal-nonzero, either}
+use Rattle.machine.specs.Call.{Call, setUp, clockTree, enable, setPin, drivePin, resetPins, read, write, peek, resetTimer, deliver, queryBooked, queryNext, queryLevel, queryVolts, queryLine, queryTime, clearPending, lent}
+use Rattle.machine.specs.Step.{step}
+use Rattle.machine.proofs.NumberLaws.{either}
 use Rattle.machine.proofs.Numbers.{entries-fit}
-use Rattle.state.specs.View.{view}
 use Rattle.pads.specs.Ext.{driveOf}
-use Rattle.setup.specs.Setup.{setupOf, Answered}
+use Rattle.setup.specs.Setup.{setupOf}
 use Rattle.answer.specs.declared.Answer.{Answer}
-use Rattle.answer.specs.Promise.{answer, Answers}
+use Rattle.answer.specs.Promise.{Answers}
 use Rattle.answer.proofs.Given.{unbooked}
 use Rattle.encoding.specs.Encoding.{word, word64, real64, treeAt, hasBook, bookCall, isChange, changeCall, questionCall, callWith, sizeOf}
 
@@ -176,23 +174,3 @@ module _ (ns : List ℕ) where
         pub with-question : i ≡ false → questionCall op ns ≡ callWith ns room
         unfolding callWith
         with-question t = rw (sym e, sym f ∙ o, sym g ∙ t)
-
--- ---- set-up answers with a number alone
-pub record Plain (o : Outcome) : Type 0 where
-  pub value : o .value ≡ 0
-  pub entries : length (o .entries) ≡ 0
-
-plain : (b : Board) (s : Setup) → Plain (step b (setUp s))
-unfolding step
-plain b s =
-    either Plain (not (withinLimits s)) (record { value = refl; entries = refl })
-    (either Plain (not (positive (s .hz))) (record { value = refl; entries = refl }) (record { value = refl; entries = refl }))
-
-pub set-up-answers : (s : Setup) (w w₁ : List ℕ) (x x₁ : List Float) (n : ℕ) → Answered s w x w₁ x₁ n → Answers (step (view w x) (setUp s)) (answer n 0 0) w w₁ x x₁
-set-up-answers s w w₁ x x₁ n h = record {
-  number = h .number;
-  value = sym (plain (view w x) s .value);
-  count = sym (plain (view w x) s .entries);
-  board = h .board;
-  kept = λ p. (h .words (refusal-nonzero n p), h .reals (refusal-nonzero n p));
-}

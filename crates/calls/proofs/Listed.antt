@@ -22,7 +22,7 @@ use Rattle.accuracy.specs.Claim.{joined}
 use Rattle.answer.specs.declared.Answer.{Answer}
 use Rattle.answer.specs.Promise.{Answers}
 use Rattle.encoding.specs.Encoding.{word, word64, hasBook, bookCall, isChange, changeCall, questionCall, callWith, callOf, sizeOf, lenOf, bookOf}
-use Rattle.calls.specs.Taken.{callsFrom, callsOf, noRoom, taken, answerOf, answersOf, Does, Runs}
+use Rattle.calls.specs.Taken.{callsFrom, callsOf, noRoom, taken, answerWords, answersOf, Does, Runs}
 use Rattle.calls.proofs.Laws.{lent-change, lent-question}
 
 -- ---- the places that a call is lent
@@ -213,14 +213,14 @@ finish b cs done a k = record {
 
 -- one call done
 finish-goes : (b : Board) (c : Call) (cs : List Call) (done : ℕ) (a : List ℕ) (k : Book)
-    → finish b (c ∷ cs) done a k ≡ finish (step b c .board) cs (done + 1) (sets a (done * 3) (answerOf (step b c))) (puts k (step b c .entries))
+    → finish b (c ∷ cs) done a k ≡ finish (step b c .board) cs (done + 1) (sets a (done * 3) (answerWords (step b c))) (puts k (step b c .entries))
 unfolding boardAfter run answersOf joined
 finish-goes b c cs done a k =
     let m : done + suc (length cs) ≡ done + 1 + length cs = omega arith in
     let i : suc (suc (suc (done * 3))) ≡ (done + 1) * 3 = omega arith in
-    ap (λ (n : ℕ). record { calls = n; board = boardAfter (step b c .board) cs; answers = sets a (done * 3) (answerOf (step b c) ++ answersOf (run (step b c .board) cs)); book = puts k (step b c .entries ++ joined (run (step b c .board) cs)) }) m
-    ∙ ap (λ (n : ℕ). record { calls = done + 1 + length cs; board = boardAfter (step b c .board) cs; answers = sets (sets a (done * 3) (answerOf (step b c))) n (answersOf (run (step b c .board) cs)); book = puts k (step b c .entries ++ joined (run (step b c .board) cs)) }) i
-    ∙ ap (λ (y : Book). record { calls = done + 1 + length cs; board = boardAfter (step b c .board) cs; answers = sets (sets a (done * 3) (answerOf (step b c))) ((done + 1) * 3) (answersOf (run (step b c .board) cs)); book = y })
+    ap (λ (n : ℕ). record { calls = n; board = boardAfter (step b c .board) cs; answers = sets a (done * 3) (answerWords (step b c) ++ answersOf (run (step b c .board) cs)); book = puts k (step b c .entries ++ joined (run (step b c .board) cs)) }) m
+    ∙ ap (λ (n : ℕ). record { calls = done + 1 + length cs; board = boardAfter (step b c .board) cs; answers = sets (sets a (done * 3) (answerWords (step b c))) n (answersOf (run (step b c .board) cs)); book = puts k (step b c .entries ++ joined (run (step b c .board) cs)) }) i
+    ∙ ap (λ (y : Book). record { calls = done + 1 + length cs; board = boardAfter (step b c .board) cs; answers = sets (sets a (done * 3) (answerWords (step b c))) ((done + 1) * 3) (answersOf (run (step b c .board) cs)); book = y })
     (puts-append k (step b c .entries) (joined (run (step b c .board) cs)))
 
 -- the words from `at` on, as a part of all
@@ -292,10 +292,10 @@ module _ (ns : List ℕ) (room : ℕ) (b₀ b : Board) (a₀ a : List ℕ) (k₀
             ∙ ap (λ (n : ℕ). finish b (taken b (callsFrom n (rest at ns)) (length a₀ - done * 3) (room - k .count)) done a k) u
             ∙ ap (λ (cs : List Call). finish b cs done a k) (taken-goes b (rest at ns) (length ns - (done + 1)) (length a₀ - done * 3) (room - k .count) (sym test ∙ o))
             ∙ finish-goes b c (taken (step b c .board) (callsFrom (length ns - (done + 1)) (drop (lenOf (rest at ns)) (rest at ns))) (length a₀ - done * 3 - 3) (room - k .count - length (step b c .entries))) done a k
-            ∙ ap (λ (l : List ℕ). finish (step b c .board) (taken (step b c .board) (callsFrom (length ns - (done + 1)) l) (length a₀ - done * 3 - 3) (room - k .count - length (step b c .entries))) (done + 1) (sets a (done * 3) (answerOf (step b c))) (puts k (step b c .entries))) m
-            ∙ ap (λ (n : ℕ). finish (step b c .board) (taken (step b c .board) (callsFrom (length ns - (done + 1)) (rest (at + len) ns)) n (room - k .count - length (step b c .entries))) (done + 1) (sets a (done * 3) (answerOf (step b c))) (puts k (step b c .entries))) v
-            ∙ ap (λ (n : ℕ). finish (step b c .board) (taken (step b c .board) (callsFrom (length ns - (done + 1)) (rest (at + len) ns)) (length a₀ - (done + 1) * 3) n) (done + 1) (sets a (done * 3) (answerOf (step b c))) (puts k (step b c .entries))) y
-            ∙ ap (λ (n : Board). finish n (taken n (callsFrom (length ns - (done + 1)) (rest (at + len) ns)) (length a₀ - (done + 1) * 3) (room - k₁ .count)) (done + 1) (sets a (done * 3) (answerOf (step b c))) (puts k (step b c .entries))) (sym (d .board))
+            ∙ ap (λ (l : List ℕ). finish (step b c .board) (taken (step b c .board) (callsFrom (length ns - (done + 1)) l) (length a₀ - done * 3 - 3) (room - k .count - length (step b c .entries))) (done + 1) (sets a (done * 3) (answerWords (step b c))) (puts k (step b c .entries))) m
+            ∙ ap (λ (n : ℕ). finish (step b c .board) (taken (step b c .board) (callsFrom (length ns - (done + 1)) (rest (at + len) ns)) n (room - k .count - length (step b c .entries))) (done + 1) (sets a (done * 3) (answerWords (step b c))) (puts k (step b c .entries))) v
+            ∙ ap (λ (n : ℕ). finish (step b c .board) (taken (step b c .board) (callsFrom (length ns - (done + 1)) (rest (at + len) ns)) (length a₀ - (done + 1) * 3) n) (done + 1) (sets a (done * 3) (answerWords (step b c))) (puts k (step b c .entries))) y
+            ∙ ap (λ (n : Board). finish n (taken n (callsFrom (length ns - (done + 1)) (rest (at + len) ns)) (length a₀ - (done + 1) * 3) (room - k₁ .count)) (done + 1) (sets a (done * 3) (answerWords (step b c))) (puts k (step b c .entries))) (sym (d .board))
             ∙ ap (λ (l : List ℕ). finish b₁ (taken b₁ (callsFrom (length ns - (done + 1)) (rest (at + len) ns)) (length a₀ - (done + 1) * 3) (room - k₁ .count)) (done + 1) l (puts k (step b c .entries))) (sym (d .answer))
             ∙ ap (λ (n : Book). finish b₁ (taken b₁ (callsFrom (length ns - (done + 1)) (rest (at + len) ns)) (length a₀ - (done + 1) * 3) (room - k₁ .count)) (done + 1) a₁ n) (sym (d .entries));
         few = omega (arith, p .some, q .few);

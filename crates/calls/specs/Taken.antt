@@ -36,17 +36,17 @@ taken b (c ∷ cs) words room =
     cond (noRoom words room (lent c)) [] (c ∷ taken (step b c .board) cs (words - 3) (room - length (step b c .entries)))
 
 -- three words an answer: number, value, count
-abbrev pub answerOf : Outcome → List ℕ
-answerOf o = o .number ∷ o .value ∷ length (o .entries) ∷ []
+abbrev pub answerWords : Outcome → List ℕ
+answerWords o = o .number ∷ o .value ∷ length (o .entries) ∷ []
 
 unfoldable pub answersOf : List Outcome → List ℕ
 answersOf [] = []
-answersOf (o ∷ os) = answerOf o ++ answersOf os
+answersOf (o ∷ os) = answerWords o ++ answersOf os
 
 -- what one performed call leaves: the board, its answer in the words from place i on, its entries behind those of a book
 pub record Does (o : Outcome) (b₁ : Board) (i : ℕ) (a a₁ : List ℕ) (k k₁ : Book) : Type 0 where
   pub board : b₁ ≡ o .board
-  pub answer : a₁ ≡ sets a i (answerOf o)
+  pub answer : a₁ ≡ sets a i (answerWords o)
   pub entries : k₁ ≡ puts k (o .entries)
 
 -- what a list of performed calls leaves: the answers and the entries of `run` (joined as demand 3 joins them) from place 0, "later places

@@ -79,12 +79,7 @@ fn set_up(words: &mut [u64; WORDS], reals: &mut [f64; REALS], calls: &[u32]) -> 
     let end = start + len as usize;
     let timers = &calls[10..start];
     let table = &calls[start..end];
-    let number = setup::set_up(words, reals, hz, vcc, pins, lines, manual, timers, table);
-    Answer {
-        value: 0,
-        number: number as u32,
-        count: 0,
-    }
+    setup::set_up(words, reals, hz, vcc, pins, lines, manual, timers, table)
 }
 
 fn clock(words: &mut [u64; WORDS], reals: &mut [f64; REALS], calls: &[u32]) -> Answer

@@ -17,23 +17,23 @@ use Rattle.gpio.specs.declared.Gpio.{Gpio}
 abbrev pub u8At : List ℕ → ℕ → ℕ
 u8At b k = getD b k 0 % 256
 
-abbrev pub levelAt : List ℕ → ℕ → ℕ
-levelAt b k = getD b k 0 % 2
+abbrev pub u1At : List ℕ → ℕ → ℕ
+u1At b k = getD b k 0 % 2
 
 abbrev pub flagAt : List ℕ → ℕ → Bool
 flagAt b k = eqb (getD b k 0 % 2) 1
 
 abbrev pub cfgAt : List ℕ → ℕ → PinCfg
-cfgAt b k = record { mode = u8At b k; «open_drain» = flagAt b (k + 1); odr = levelAt b (k + 2); pullup = flagAt b (k + 3); pulldown = flagAt b (k + 4) }
+cfgAt b k = record { mode = u8At b k; «open_drain» = flagAt b (k + 1); odr = u1At b (k + 2); pullup = flagAt b (k + 3); pulldown = flagAt b (k + 4) }
 
 abbrev pub mcuAt : List ℕ → ℕ → Mcu
 mcuAt b k = record {
   dir = u8At b k;
-  out = levelAt b (k + 1);
+  out = u1At b (k + 1);
   pullup = u8At b (k + 2);
   pulldown = u8At b (k + 3);
   «ov_enable» = u8At b (k + 4);
-  «ov_value» = levelAt b (k + 5);
+  «ov_value» = u1At b (k + 5);
   ddoe = u8At b (k + 6);
   ddov = u8At b (k + 7);
 }
@@ -58,6 +58,6 @@ extVolts (ext.Analog x) = x
 unfoldable pub decodeGpio : List ℕ → Float → Float → Gpio
 decodeGpio b volts x = record {
   cfg = cfgAt b 0;
-  pin = record { mcu = mcuAt b 5; ext = extOf (getD b 13 0 % 4) x; level = levelAt b 14; volts = volts };
+  pin = record { mcu = mcuAt b 5; ext = extOf (getD b 13 0 % 4) x; level = u1At b 14; volts = volts };
   sig = u8At b 15;
 }

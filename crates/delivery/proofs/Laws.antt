@@ -28,7 +28,7 @@ use Rattle.state.proofs.InRange.{bounded}
 use Rattle.state.specs.Board.{bookingSet, withInst}
 use Rattle.machine.specs.Board.{Board, Pads, noTimer, timerAt, withPads, withTimer}
 use Rattle.machine.specs.Sys.{driveOutputs}
-use Rattle.machine.specs.Deliver.{applied, countAt, Turn, turn, turnOf, dueBy, Run, stop, after, handled as run, mostEvents, dividerOf, bookingOf, lineSettled, rebooked, delivered, afterDelivery}
+use Rattle.machine.specs.Deliver.{applied, countAt, Turn, turn, turnOf, dueBy, Run, stop, afterTurn, handled as run, mostEvents, dividerOf, bookingOf, lineSettled, rebooked, delivered, afterDelivery}
 use Rattle.outputs.specs.Outputs.{Driven}
 use Rattle.delivery.specs.declared.Ran.{Ran}
 use Rattle.delivery.specs.Delivery.{OfFour, verdictOf, Ends, Delivers}
@@ -122,7 +122,7 @@ module _ (cycle div left : ℕ) (t : Timer) (p : Pads) where
         go false b x y = ap (stop t p) (sym y)
 
     run-turn : (f : ℕ) → at ≤ cycle → 4 ≤ left → (s : Turn) → s ≡ turn t p e at div
-        → run (suc f) cycle div left t p ≡ after (s .entries) (run f cycle div (left - length (s .entries)) (s .timer) (s .pads))
+        → run (suc f) cycle div left t p ≡ afterTurn (s .entries) (run f cycle div (left - length (s .entries)) (s .timer) (s .pads))
     unfolding run
     run-turn f x y s h = rw (h, d, le-leb at cycle x, le-ltb left 4 y)
 
@@ -166,7 +166,7 @@ pub record Final : Type 0 where
 abbrev pub settle : Book → ℕ → Run → Final
 settle k n o = record { timer = o .timer; pads = o .pads; book = puts k (o .entries); events = n + o .events; number = o .number }
 
-settle-after : (k : Book) (n : ℕ) (es : List Entry) (o : Run) → settle k n (after es o) ≡ settle (puts k es) (n + 1) o
+settle-after : (k : Book) (n : ℕ) (es : List Entry) (o : Run) → settle k n (afterTurn es o) ≡ settle (puts k es) (n + 1) o
 settle-after k n es o =
     let e : n + (o .events + 1) ≡ n + 1 + o .events = omega arith in
     rw (puts-append k es (o .entries), e)

@@ -37,7 +37,7 @@ module _ (y : Timer) (div now : ℕ) where
   newArr v = T.recomputed (R.withArrAct (R.withArr y (bitAnd v (max y))) (bitAnd v (max y)))
 
   abbrev pub newCcr : ℕ → ℕ → Timer
-  newCcr ch v = R.settled (R.withCcrAct (R.withCcr y ch (bitAnd v (max y))) ch (bitAnd v (max y))) ch
+  newCcr ch v = R.settledChannel (R.withCcrAct (R.withCcr y ch (bitAnd v (max y))) ch (bitAnd v (max y))) ch
 
 module _ (p : Bool) (y : Timer) (div now : ℕ) where
   -- ---- CNT

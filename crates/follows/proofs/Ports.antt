@@ -168,7 +168,7 @@ module _ (t : Timer) (div : ℕ) (w : Timed t div) (now : ℕ) where
   unfolding R.ccrWritten
   ccr-port ch v =
       either-sync t now (λ (z : Timer). cond (Out.OCxPE (ccmrByte t ch)) (R.only (R.withCcr z ch (bitAnd v (max t))))
-      (R.driven (R.settled (R.withCcrAct (R.withCcr z ch (bitAnd v (max t))) ch (bitAnd v (max t))) ch) (cntAt (R.withCcrAct (R.withCcr z ch (bitAnd v (max t))) ch (bitAnd v (max t))) now) true) .timer ≡ ccrOf z ch v)
+      (R.driven (R.settledChannel (R.withCcrAct (R.withCcr z ch (bitAnd v (max t))) ch (bitAnd v (max t))) ch) (cntAt (R.withCcrAct (R.withCcr z ch (bitAnd v (max t))) ch (bitAnd v (max t))) now) true) .timer ≡ ccrOf z ch v)
       (λ e. go (Out.OCxPE (ccmrByte t ch)) _ _ _) (λ e. go (Out.OCxPE (ccmrByte t ch)) _ _ _)
     where
       go : (a : Bool) (p q : Timer) (c : ℕ) → cond a (R.only p) (R.driven q c true) .timer ≡ cond a p q

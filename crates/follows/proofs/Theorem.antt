@@ -19,7 +19,7 @@ use Rattle.tim.specs.Change as T
 use Rattle.regs.specs.Regs as R
 use Rattle.regs.proofs.Fixed.{inst-written}
 use Rattle.follows.specs.Seen.{seen, rulesOf, Left, written, deliver}
-use Rattle.follows.specs.Follows.{between, Deliveries, Writes, Late, Reads, Outputs, Stays, Resets, Retimes, Goes, AboveReload, ClampDown, ClocksAgree, WritesAgree, Undisputed, acts, LateWrites, Follows}
+use Rattle.follows.specs.Follows.{between, Deliveries, Writes, Late, Reads, Outputs, Stays, TimerResets, Retimes, Goes, AboveReload, ClampDown, ClocksAgree, WritesAgree, Undisputed, acts, LateWrites, Follows}
 use Rattle.follows.proofs.Delivered as D
 use Rattle.follows.proofs.Standing.{Near}
 use Rattle.follows.proofs.Ports as P

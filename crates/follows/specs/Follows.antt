@@ -81,8 +81,8 @@ Stays =
     → cond (down t) (t .count .cnt0 - suc j) (t .count .cnt0 + suc j) ≡ ccrAct t ch → ⊥)
     → Delivered t now → level (seen t div now) ch ≡ output t ch (t .count .cnt0)
 
-abbrev pub Resets : Type 0
-Resets = (t : Timer) (div div′ now now′ : ℕ) → reset (seen t div now) ≡ seen (resetState (t .inst) div′) div′ now′
+abbrev pub TimerResets : Type 0
+TimerResets = (t : Timer) (div div′ now now′ : ℕ) → reset (seen t div now) ≡ seen (resetState (t .inst) div′) div′ now′
 
 -- another divider: the cycles of a step that have passed are kept, and count as kernel clocks of the new length. With a new step that is not
 -- shorter than them (else clock-change-jump)
@@ -159,8 +159,8 @@ ClampDown =
     (t : Timer) (c : ℕ) → t .count .running ≡ true → down t ≡ true → t .count .«arr_act» < t .count .cnt0
     → (cntAt t c ≡ after (tickDown (t .count .«arr_act»)) (ticksAt t c) (t .count .«arr_act»)) × (updateSteps t ≡ t .count .cnt0 + 1)
 
-abbrev pub Ends : Type 0
-Ends = (t : Timer) (x div : ℕ) → Within (updated t x div)
+abbrev pub UpdateWithin : Type 0
+UpdateWithin = (t : Timer) (x div : ℕ) → Within (updated t x div)
 
 -- ---- the cases
 
@@ -194,12 +194,12 @@ pub record Follows : Type 0 where
   pub reads : Reads
   pub outputs : Outputs
   pub stays : Stays
-  pub resets : Resets
+  pub resets : TimerResets
   pub retimes : Retimes
   pub goes : Goes
   pub above-reload : AboveReload
   pub clamp-down : ClampDown
-  pub ends : Ends
+  pub ends : UpdateWithin
   -- "with its exact cases"
   pub clocks-agree : ClocksAgree
   pub writes-agree : WritesAgree

@@ -1,9 +1,8 @@
 -- The port's timer at a cycle, as a state of RM0440's machine; and the port's delivery, of its timer alone.
 use Prim.Native.Nat.{ℕ, zero, suc, _+_, _*_, _/_, _%_, _≤_, _<_}
 use mathlib.Core.Path.{_≡_}
-use mathlib.Core.Bool.{Bool, true, false, cond}
+use mathlib.Core.Bool.{true, false, cond}
 use mathlib.Core.List.{[], _∷_}
-use lib.Dec.{leb}
 use lib.ListN.{length}
 use Rattle.rm0440.specs.Bits.{CEN}
 use Rattle.rm0440.specs.Counter.{stepCycles, stepsBetween}
@@ -16,6 +15,7 @@ use Rattle.tim.specs.declared.Due.the-variants.{At, Stopped}
 use Rattle.tim.specs.Timer.{max}
 use Rattle.tim.specs.Count.{cntAt}
 use Rattle.tim.specs.Next.{nextEvent}
+pub use Rattle.tim.specs.Next.{dueBy}
 use Rattle.tim.specs.Change as T
 use Rattle.regs.specs.Regs.{regWritten}
 
@@ -79,11 +79,6 @@ pub record Left (div now : ℕ) (t : Timer) : Type 0 where
 
 abbrev pub written : Timer → ℕ → ℕ → ℕ → ℕ → Timer
 written t off v now div = regWritten t off v now div .timer
-
--- the next event is due by cycle c; a stopped timer has none
-abbrev pub dueBy : Due → ℕ → Bool
-dueBy (At x e) c = leb x c
-dueBy Stopped c = false
 
 abbrev pub applied : Timer → ℕ → Due → Timer
 applied t div (At x Update) = T.updated t x div

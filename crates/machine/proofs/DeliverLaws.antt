@@ -17,7 +17,7 @@ use Rattle.gpio.specs.declared.Change.{Change}
 use Rattle.gpio.specs.declared.Change.the-variants.{Same, Level}
 use Rattle.book.specs.Book.{Changes, Entry, entryOf, entriesOf}
 use Rattle.machine.specs.Board.{Pads}
-use Rattle.machine.specs.Deliver.{Turn, turn, turnOf, Run, handled, stop, after, dueBy}
+use Rattle.machine.specs.Deliver.{Turn, turn, turnOf, Run, handled, stop, afterTurn, dueBy}
 use Rattle.machine.specs.Demand1.{Every, StampedAt, StampedBy, afterEvents, AllDue, dueCycle, dueCycles, stamps}
 
 -- ---- entries
@@ -142,7 +142,7 @@ after-law : (most now div left : ℕ) (t : Timer) (p : Pads) (s : Turn) (r : Run
     → length (s .entries) ≤ 4
     → Every (StampedBy now) (s .entries)
     → Delivery most now div (left - length (s .entries)) (s .timer) (s .pads) r
-    → Delivery (suc most) now div left t p (after (s .entries) r)
+    → Delivery (suc most) now div left t p (afterTurn (s .entries) r)
 unfolding afterEvents AllDue
 after-law most now div left t p s r q d l f st h = record {
   state = rw (add-one, ← q, ← h .state) refl;
@@ -164,7 +164,7 @@ run-law (suc most) now div left t p =
     go : (d : Bool) → dueBy (nextEvent t) now ≡ d → (l : Bool) → ltb left 4 ≡ l
         → (let s = turnOf t p (nextEvent t) div in Delivery most now div (left - length (s .entries)) (s .timer) (s .pads) (handled most now div (left - length (s .entries)) (s .timer) (s .pads)))
         → Delivery (suc most) now div left t p
-        (cond d (cond l (stop t p 8) (let s = turnOf t p (nextEvent t) div in after (s .entries) (handled most now div (left - length (s .entries)) (s .timer) (s .pads)))) (stop t p 0))
+        (cond d (cond l (stop t p 8) (let s = turnOf t p (nextEvent t) div in afterTurn (s .entries) (handled most now div (left - length (s .entries)) (s .timer) (s .pads)))) (stop t p 0))
     go false d l e h = stop-law (suc most) now div left t p false d (λ z. let f : _≡_ {A = ℕ} 0 1 = cc in omega arith)
     go true d true e h = stop-law (suc most) now div left t p true d (λ z. omega (arith, ltb-true left 4 e))
     go true d false e h =

@@ -261,6 +261,15 @@ order-refuses = refl
 pub answered : (b : Board) (c : Call) → Verdict (refusals b c) b (performed b c)
 answered b c = verdict order (refusals b c) b (performed b c) order-refuses (in-order b c)
 
+-- a query leaves the board, refused or served
+pub asked-board : (b : Board) (q : Question) → step b (ask q) .board ≡ b
+unfolding performed
+asked-board b q = go (answered b (ask q))
+  where
+    go : Verdict (refusals b (ask q)) b (performed b (ask q)) → step b (ask q) .board ≡ b
+    go (refuses n l u f a g) = ap (λ (o : Outcome). o .board) (step-given b (ask q) ∙ g)
+    go (passes f a g) = ap (λ (o : Outcome). o .board) (step-given b (ask q) ∙ g)
+
 -- none of a list in order applies: what follows is given
 pub passing : (rs : List Refusal) (b : Board) (o : Outcome) → inOrder order rs ≡ true → first rs ≡ 0 → given rs b o ≡ o
 passing rs b o h z = go (verdict order rs b o order-refuses h)

@@ -18,7 +18,7 @@ use Rattle.machine.specs.Call.{Setup, Call, setUp, setPin, drivePin, del
 use Rattle.real.specs.Real.{positive}
 use Rattle.machine.specs.Step.{step, withinLimits, deliveredTo, cfgOf}
 use Rattle.machine.specs.Refusals.{refusals, order, among, applies, first, ending, lastAfter}
-use Rattle.machine.specs.Demand1.{Unchanged, Numbered, Fits, Every, StampedAt, StampedBy, pinLevel, edgeOf, Traced, stamps, Works, reached, Demand1}
+use Rattle.machine.specs.Demand1.{Unchanged, Numbered, EntriesFit, Every, StampedAt, StampedBy, pinLevel, edgeOf, Traced, stamps, Works, reached, Demand1}
 use Rattle.machine.proofs.DeliverLaws.{every-none, turned-cycles}
 use Rattle.machine.proofs.NumberLaws.{Verdict, refuses, passes, no-both, answered, performed, step-given, performed-number, performed-last, performed-few, most-fits, delivered-law}
 use Rattle.machine.proofs.NumberLaws as N
@@ -100,10 +100,10 @@ set-up-number b s = three b _ (not (withinLimits s)) (not (positive (s .hz))) re
 
 -- ---- the entries
 
-pub entries-fit : (b : Board) (c : Call) → Fits b c
+pub entries-fit : (b : Board) (c : Call) → EntriesFit b c
 entries-fit b c = go (answer b c)
   where
-    go : Answer b c → Fits b c
+    go : Answer b c → EntriesFit b c
     go (turned-away u f a k) =
         let z : length (step b c .entries) ≡ 0 = ap (λ (es : List Entry). length es) (k .entries) in record { places = omega arith; most = omega arith }
     go (done a e n) =

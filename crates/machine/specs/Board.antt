@@ -159,7 +159,7 @@ freshBoard hz vcc pins lines insts table = record {
     sigLevel = idleLevels 0 256;
     vcc = vcc;
   };
-  clocks = record { tree = flatTree hz; clock = Clock.started hz; enr = replicate 9 0 };
+  clocks = record { tree = flatTree hz; clock = Clock.newClock hz; enr = replicate 9 0 };
   counts = record { timers = length insts; pins = pins; last = 0 };
 }
 

@@ -1,9 +1,9 @@
 -- Events due (document 01): what an event does, and a delivery with its stops.
-use mathlib.Core.Bool.{Bool, false, cond, not}
+use mathlib.Core.Bool.{Bool, cond, not}
 use mathlib.Core.List.{List, [], _++_}
 use Prim.Native.Nat.{ℕ, zero, suc, _+_, _-_, _%_, max}
 use lib.Bits.{bitAnd}
-use lib.Dec.{eqb, ltb, leb}
+use lib.Dec.{eqb, ltb}
 use lib.ListN.{length}
 use Rattle.tim.specs.declared.Timer.{Timer}
 use Rattle.tim.specs.declared.Next.{Next}
@@ -12,6 +12,7 @@ use Rattle.tim.specs.declared.Due.{Due}
 use Rattle.tim.specs.declared.Due.the-variants.{At, Stopped}
 use Rattle.tim.specs.Timer.{ccrAct}
 use Rattle.tim.specs.Next.{nextEvent}
+pub use Rattle.tim.specs.Next.{dueBy}
 use Rattle.tim.specs.Change as C
 use Rattle.clk.specs.Clk.{timerDiv}
 use Rattle.nvic.specs.Nvic.{setLine}
@@ -39,7 +40,7 @@ bookingOf (At at e) now = max at now
 bookingOf Stopped now = S.never
 
 unfoldable pub rebooked : ℕ → Timer → ℕ → Board → Board
-rebooked i t now b = withBooking b (S.book (b .booking) i (bookingOf (nextEvent t) now))
+rebooked i t now b = withBooking b (S.rebook (b .booking) i (bookingOf (nextEvent t) now))
 
 -- ---- one event
 
@@ -77,13 +78,8 @@ abbrev pub stop : Timer → Pads → ℕ → Run
 stop t p n = record { timer = t; pads = p; entries = []; events = 0; number = n }
 
 -- an event's entries before what follows
-abbrev pub after : List Entry → Run → Run
-after es r = record { timer = r .timer; pads = r .pads; entries = es ++ r .entries; events = r .events + 1; number = r .number }
-
--- the next event is due by now; a stopped timer has none
-abbrev pub dueBy : Due → ℕ → Bool
-dueBy (At at e) now = leb at now
-dueBy Stopped now = false
+abbrev pub afterTurn : List Entry → Run → Run
+afterTurn es r = record { timer = r .timer; pads = r .pads; entries = es ++ r .entries; events = r .events + 1; number = r .number }
 
 abbrev pub turnOf : Timer → Pads → Due → ℕ → Turn
 turnOf t p (At at e) div = turn t p e at div
@@ -97,7 +93,7 @@ handled (suc events) now div left t p =
     cond (dueBy (nextEvent t) now)
     (cond (ltb left 4) (stop t p 8)
     (let s = turnOf t p (nextEvent t) div in
-    after (s .entries) (handled events now div (left - length (s .entries)) (s .timer) (s .pads))))
+    afterTurn (s .entries) (handled events now div (left - length (s .entries)) (s .timer) (s .pads))))
     (stop t p 0)
 
 abbrev pub mostEvents : ℕ

@@ -47,7 +47,7 @@ pub record Numbered (b : Board) (c : Call) : Type 0 where
 -- ---- the entries
 
 -- no more than the places lent; one for a pin, four for a timer, one for each pin of a pin reset
-pub record Fits (b : Board) (c : Call) : Type 0 where
+pub record EntriesFit (b : Board) (c : Call) : Type 0 where
   pub places : length (step b c .entries) ≤ lent c
   pub most : length (step b c .entries) ≤ most b c
 
@@ -143,7 +143,7 @@ pub record Demand1 : Type 0 where
   -- "Set-up can only give 0, 1 or 4."
   pub set-up : (b : Board) (s : Setup)
       → (step b (setUp s) .number ≡ 0) ⊎ ((step b (setUp s) .number ≡ 1) ⊎ (step b (setUp s) .number ≡ 4))
-  pub fits : (b : Board) (c : Call) → Fits b c
+  pub fits : (b : Board) (c : Call) → EntriesFit b c
   -- every entry carries the call's cycle; of a delivery none is later than it
   pub stamped : (b : Board) (c : Call) → isDelivery c ≡ false → Every (StampedAt (bookCycle c)) (step b c .entries)
   pub stamped-by : (b : Board) (i cycle places : ℕ) → Every (StampedBy cycle) (step b (deliver i cycle places) .entries)

@@ -25,8 +25,8 @@ pub data Refusal : Type 0 where
 
 -- ---- numbers low to high, lists, and floats, as the table speaks of them
 
-abbrev pub between : ℕ → ℕ → ℕ → Bool
-between low high n = leb low n && leb n high
+abbrev pub fromTo : ℕ → ℕ → ℕ → Bool
+fromTo low high n = leb low n && leb n high
 
 -- each of a list passes
 unfoldable pub all : {A : Type 0} → (A → Bool) → List A → Bool
@@ -52,12 +52,12 @@ finiteAboveZero f = finite f && Ieee.lt zeroFloat f
 -- 1, wrong board: "set-up outside the sizes above or limits below".
 -- "1 to 8 timers, 1 to 128 pins, .. 0 to 256 lines"
 abbrev pub boardSizes : Setup → Bool
-boardSizes s = between 1 8 (length (s .timers)) && between 1 128 (s .pins) && leb (s .lines) 256
+boardSizes s = fromTo 1 8 (length (s .timers)) && fromTo 1 128 (s .pins) && leb (s .lines) 256
 
 -- "timer numbers 1 to 24 ..; width 16 or 32; 0 to 4 channels; enable word 0 to 8, bit 0 to 31"
 abbrev pub timerLimits : Inst → Bool
 timerLimits i =
-    between 1 24 (i .n) && (eqb (i .width) 16 || eqb (i .width) 32) && leb (i .channels) 4 && leb (i .«en_reg») 8 && leb (i .«en_bit») 31
+    fromTo 1 24 (i .n) && (eqb (i .width) 16 || eqb (i .width) 32) && leb (i .channels) 4 && leb (i .«en_reg») 8 && leb (i .«en_bit») 31
 
 -- ".., all different; ..; supply volts finite and above 0; signal table of exactly pins × 16 entries below 256"
 unfoldable pub limits : Setup → Bool
@@ -86,7 +86,7 @@ madeDividers t = map (λ (bus : ℕ). timerDiv t bus) (1 ∷ 2 ∷ 3 ∷ 4 ∷ [
 
 unfoldable pub goodTree : ClockTree → Bool
 goodTree t =
-    (all (between 1 8192) (treeDividers t) && all (between 1 8192) (madeDividers t)) && (finiteAboveZero (t .«sysclk_hz») && finiteAboveZero (t .«hclk_hz»))
+    (all (fromTo 1 8192) (treeDividers t) && all (fromTo 1 8192) (madeDividers t)) && (finiteAboveZero (t .«sysclk_hz») && finiteAboveZero (t .«hclk_hz»))
 
 abbrev pub badTree : ClockTree → Refusal
 badTree t = 4 when not (goodTree t)

@@ -6,7 +6,7 @@ use Prim.Native.Nat.{ℕ, _+_, _*_, _-_, _/_, _%_, _^_, _≤_, _<_}
 use native.Mathlib.Nat.{mod-eq-of-lt, mod-lt}
 use native.Mathlib.Omega.{arith}
 use lib.Pow.{split, pow-pos, pow-mono, pow-add, shl-lt, shl-exact, high, low, field, mod-mod-pow}
-use Rattle.periph.specs.Lane.{start, laneRead, laneWrite, merged}
+use Rattle.periph.specs.Lane.{laneStart, laneRead, laneWrite, merged}
 
 -- the bits from k up, shifted down and up again
 pub cut : (x k : ℕ) → x < 2 ^ 32 → x / 2 ^ k * 2 ^ k % 2 ^ 64 ≡ x / 2 ^ k * 2 ^ k
@@ -45,8 +45,8 @@ merged-back a w old v h =
 -- a lane of 1 or 2 bytes inside the register reads back what was written to it
 pub write-read : (old o s v : ℕ) → (s ≡ 1) ⊎ (s ≡ 2) → o % 4 + s ≤ 4 → laneRead (laneWrite old o s v) o s ≡ v % 2 ^ (8 * s)
 unfolding laneRead laneWrite
-write-read old o s v (inl e) h = rw e (merged-back (start o) 8 old v (omega arith))
-write-read old o s v (inr e) h = rw e (merged-back (start o) 16 old v (omega arith))
+write-read old o s v (inl e) h = rw e (merged-back (laneStart o) 8 old v (omega arith))
+write-read old o s v (inr e) h = rw e (merged-back (laneStart o) 16 old v (omega arith))
 
 -- document 01's figures of lanes: inputs beside the expected value
 pub data Figure : Type 0 where

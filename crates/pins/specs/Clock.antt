@@ -7,8 +7,8 @@ use Rattle.real.specs.Real.{zeroFloat, nearestTo}
 use Rattle.pins.specs.declared.ClockModel.{ClockModel}
 
 -- a clock at a frequency from cycle 0 and time 0 on
-abbrev pub started : Float → ClockModel
-started f = record { hz = f; «seg_cycle» = 0; «seg_time» = zeroFloat }
+abbrev pub newClock : Float → ClockModel
+newClock f = record { hz = f; «seg_cycle» = 0; «seg_time» = zeroFloat }
 
 -- the time at which the frequency was set, and the cycles since then divided by the frequency
 abbrev pub timeAt : ClockModel → ℕ → Float

@@ -1,7 +1,7 @@
 // A pin's electrical model, and the clock's time.
 ghost use mathlib.Core.Path.{_≡_};
 ghost use Rattle.pins.specs.Pins.{blank, effectiveDir, drivenLevel, supplyAt, clamped, triggered, withLevel, sensedFrom, resolved};
-ghost use Rattle.pins.specs.Clock.{started, timeAt, hzSet};
+ghost use Rattle.pins.specs.Clock.{newClock, timeAt, hzSet};
 
 // What the outside world connects to a pin.
 pub enum ExtDrive {
@@ -168,7 +168,7 @@ pub struct ClockModel {
 
 impl ClockModel {
     pub fn new(hz: f64) -> ClockModel
-        ensures { λ r. ⌜ r ≡ started hz ⌝ }
+        ensures { λ r. ⌜ r ≡ newClock hz ⌝ }
     {
         ClockModel {
             hz,

@@ -13,10 +13,10 @@ use Rattle.machine.proofs.Numbers.{entries-fit}
 use Rattle.state.specs.View.{view}
 use Rattle.answer.specs.declared.Answer.{Answer}
 use Rattle.answer.specs.Promise.{Answers}
-use Rattle.book.specs.Level.{levelAt, highs}
-use Rattle.accuracy.specs.Claim.{Pilot, Steady, Window, Within, board₀, board₁, joined, periodOf, highOf}
+use Rattle.book.specs.Level.{entriesFrom, levelAt, highs}
+use Rattle.accuracy.specs.Claim.{Pilot, Steady, Window, WithinBound, board₀, board₁, joined, periodOf, highOf}
 use Rattle.accuracy.proofs.Accurate.{accurate}
-use Rattle.recorded.specs.Recorded.{Made, found, leaves, Kept, Chain, entriesFrom, entriesLeft, callsOf, MadeOf, levelLeft, BookClaim}
+use Rattle.recorded.specs.Recorded.{Made, found, leaves, Kept, Chain, entriesLeft, callsMade, MadeOf, levelLeft, BookClaim}
 
 -- ---- what a book holds is what was put into it
 
@@ -55,35 +55,35 @@ joined-append b (c ∷ cs) ds =
 -- ---- a chain of runs is one run
 
 -- the books joined are the entries of all calls
-pub chain-entries : (w : List ℕ) (x : List Float) (ms : List Made) → Chain w x ms → entriesLeft ms ≡ joined (run (view w x) (callsOf ms))
-unfolding Chain entriesLeft callsOf run joined
+pub chain-entries : (w : List ℕ) (x : List Float) (ms : List Made) → Chain w x ms → entriesLeft ms ≡ joined (run (view w x) (callsMade ms))
+unfolding Chain entriesLeft callsMade run joined
 chain-entries w x [] h = refl
 chain-entries w x (m ∷ ms) h = go (h .0) (h .1) (h .2) (chain-entries (m .words₁) (m .reals₁) ms (h .3))
   where
-    go : m .words ≡ w → m .reals ≡ x → Kept m → entriesLeft ms ≡ joined (run (leaves m) (callsOf ms))
-        → entriesFrom 0 (m .count) (m .left) ++ entriesLeft ms ≡ joined (run (view w x) (m .calls ++ callsOf ms))
+    go : m .words ≡ w → m .reals ≡ x → Kept m → entriesLeft ms ≡ joined (run (leaves m) (callsMade ms))
+        → entriesFrom 0 (m .count) (m .left) ++ entriesLeft ms ≡ joined (run (view w x) (m .calls ++ callsMade ms))
     go e f k ih =
         ap (λ (es : List Entry). es ++ entriesLeft ms) (entries-held (joined (run (found m) (m .calls))) (m .lent) (m .left) (m .count) (k .book))
-        ∙ ap (λ (es : List Entry). joined (run (found m) (m .calls)) ++ es) (ih ∙ ap (λ (b : Board). joined (run b (callsOf ms))) (k .board))
-        ∙ sym (joined-append (found m) (m .calls) (callsOf ms))
-        ∙ ap (λ (v : List ℕ). joined (run (view v (m .reals)) (m .calls ++ callsOf ms))) e
-        ∙ ap (λ (v : List Float). joined (run (view w v) (m .calls ++ callsOf ms))) f
+        ∙ ap (λ (es : List Entry). joined (run (found m) (m .calls)) ++ es) (ih ∙ ap (λ (b : Board). joined (run b (callsMade ms))) (k .board))
+        ∙ sym (joined-append (found m) (m .calls) (callsMade ms))
+        ∙ ap (λ (v : List ℕ). joined (run (view v (m .reals)) (m .calls ++ callsMade ms))) e
+        ∙ ap (λ (v : List Float). joined (run (view w v) (m .calls ++ callsMade ms))) f
 
 -- a run in the middle finds the board that the calls before it lead to, and the chain goes on from it
 pub chain-middle : (w : List ℕ) (x : List Float) (ms : List Made) (m : Made) (ns : List Made) → Chain w x (ms ++ (m ∷ ns))
-    → (found m ≡ boardAfter (view w x) (callsOf ms)) × Kept m × Chain (m .words₁) (m .reals₁) ns
-unfolding Chain callsOf boardAfter
+    → (found m ≡ boardAfter (view w x) (callsMade ms)) × Kept m × Chain (m .words₁) (m .reals₁) ns
+unfolding Chain callsMade boardAfter
 chain-middle w x [] m ns h = (ap (λ (v : List ℕ). view v (m .reals)) (h .0) ∙ ap (λ (v : List Float). view w v) (h .1), h .2, h .3)
 chain-middle w x (k ∷ ms) m ns h = go (h .0) (h .1) (h .2) (chain-middle (k .words₁) (k .reals₁) ms m ns (h .3))
   where
-    go : k .words ≡ w → k .reals ≡ x → Kept k → (found m ≡ boardAfter (leaves k) (callsOf ms)) × Kept m × Chain (m .words₁) (m .reals₁) ns
-        → (found m ≡ boardAfter (view w x) (k .calls ++ callsOf ms)) × Kept m × Chain (m .words₁) (m .reals₁) ns
+    go : k .words ≡ w → k .reals ≡ x → Kept k → (found m ≡ boardAfter (leaves k) (callsMade ms)) × Kept m × Chain (m .words₁) (m .reals₁) ns
+        → (found m ≡ boardAfter (view w x) (k .calls ++ callsMade ms)) × Kept m × Chain (m .words₁) (m .reals₁) ns
     go e f kept ih = (
       ih .0
-          ∙ ap (λ (b : Board). boardAfter b (callsOf ms)) (kept .board)
-          ∙ sym (board-append (found k) (k .calls) (callsOf ms))
-          ∙ ap (λ (v : List ℕ). boardAfter (view v (k .reals)) (k .calls ++ callsOf ms)) e
-          ∙ ap (λ (v : List Float). boardAfter (view w v) (k .calls ++ callsOf ms)) f,
+          ∙ ap (λ (b : Board). boardAfter b (callsMade ms)) (kept .board)
+          ∙ sym (board-append (found k) (k .calls) (callsMade ms))
+          ∙ ap (λ (v : List ℕ). boardAfter (view v (k .reals)) (k .calls ++ callsMade ms)) e
+          ∙ ap (λ (v : List Float). boardAfter (view w v) (k .calls ++ callsMade ms)) f,
       ih .1,
       ih .2,
     )
@@ -113,7 +113,7 @@ book-accurate π s st a W w =
   where
     Bounded : List Entry → Board → Type 0
     Bounded es b =
-        Within (highs (levelAt (π .pin) es (gpioAt (b .pads) (π .pin) .pin .level)) a W) W (periodOf (board₁ π) (π .timer)) (highOf (board₁ π) (π .timer) (π .ch))
+        WithinBound (highs (levelAt (π .pin) es (gpioAt (b .pads) (π .pin) .pin .level)) a W) W (periodOf (board₁ π) (π .timer)) (highOf (board₁ π) (π .timer) (π .ch))
 
 -- ---- what keeps a run: the contracts of the exported functions
 

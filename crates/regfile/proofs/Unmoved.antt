@@ -14,7 +14,7 @@ use Rattle.tim.specs.Count.{upFrom, cntAt, synced}
 use Rattle.regs.specs.Regs.{keptCr1, turned, cr1Written, astray}
 use Rattle.machine.specs.Board.{Board, timerAt, withTimer}
 use Rattle.fields.proofs.Words.{changed-twice}
-use Rattle.regfile.specs.Steady.{steady}
+use Rattle.regfile.specs.Course.{sameCourse}
 
 both-left : (x y : Bool) → x && y ≡ true → x ≡ true
 both-left true y e = refl
@@ -24,7 +24,7 @@ both-right : (x y : Bool) → x && y ≡ true → y ≡ true
 both-right true y e = e
 both-right false y e = absurd (false≢true e)
 
-module _ (old new : ℕ) (h : steady old new ≡ true) where
+module _ (old new : ℕ) (h : sameCourse old new ≡ true) where
   enabled : CEN new ≡ CEN old
   enabled =
       let e : old % 2 ≡ new % 2 = eqb-true _ _ (both-left (eqb (old % 2) (new % 2)) (eqb (old / 16 % 2) (new / 16 % 2)) h) in
@@ -34,7 +34,7 @@ module _ (old new : ℕ) (h : steady old new ≡ true) where
   direction = eqb-true _ _ (both-right (eqb (old % 2) (new % 2)) (eqb (old / 16 % 2) (new / 16 % 2)) h)
 
 -- then CR1 is all that the write changes, but for the reference
-pub steady-written : (t : Timer) (v now div : ℕ) → steady (t .regs .cr1) (keptCr1 t v) ≡ true → cr1Written t v now div ≡ withCr1 (synced t now) (keptCr1 t v)
+pub steady-written : (t : Timer) (v now div : ℕ) → sameCourse (t .regs .cr1) (keptCr1 t v) ≡ true → cr1Written t v now div ≡ withCr1 (synced t now) (keptCr1 t v)
 unfolding cr1Written turned
 steady-written t v now div h =
     rw (enabled (t .regs .cr1) (keptCr1 t v) h, eq-eqb _ _ (direction (t .regs .cr1) (keptCr1 t v) h)) (same (CEN (t .regs .cr1)) _ _ _)
@@ -67,15 +67,15 @@ synced-fine t now new d = go (t .count .running) refl
 
 -- ---- the write, over any board
 
-module _ (b : Board) (i v cycle : ℕ) (t : Timer) (new : ℕ) (load : t ≡ timerAt b i) (k : new ≡ keptCr1 t v) (h : steady (t .regs .cr1) new ≡ true) where
+module _ (b : Board) (i v cycle : ℕ) (t : Timer) (new : ℕ) (load : t ≡ timerAt b i) (k : new ≡ keptCr1 t v) (h : sameCourse (t .regs .cr1) new ≡ true) where
   abbrev u : Timer
   u = timerAt b i
 
   kept : new ≡ keptCr1 u v
   kept = k ∙ ap (λ (y : Timer). keptCr1 y v) load
 
-  stays : steady (u .regs .cr1) (keptCr1 u v) ≡ true
-  stays = ap (λ (n : ℕ). steady (u .regs .cr1) n) (sym kept) ∙ ap (λ (y : Timer). steady (y .regs .cr1) new) (sym load) ∙ h
+  stays : sameCourse (u .regs .cr1) (keptCr1 u v) ≡ true
+  stays = ap (λ (n : ℕ). sameCourse (u .regs .cr1) n) (sym kept) ∙ ap (λ (y : Timer). sameCourse (y .regs .cr1) new) (sym load) ∙ h
 
   pub steady-fine : (div : ℕ) → astray (cr1Written u v cycle div) ≡ false
   steady-fine div =

@@ -17,7 +17,7 @@ use Rattle.tim.specs.Timer.{Fit, withCount, ccmrByte}
 use Rattle.tim.specs.Count.{atCount, synced}
 use Rattle.tim.specs.Change.{behind, behindOf, withDone}
 use Rattle.tim.proofs.Fit.{either}
-use Rattle.regs.specs.Regs.{keptWidth, withCcr, withCcrAct, settled, ccrWritten}
+use Rattle.regs.specs.Regs.{keptWidth, withCcr, withCcrAct, settledChannel, ccrWritten}
 use Rattle.codec.specs.Codec.{decodeTimer}
 use Rattle.machine.specs.Board.{Board, timerAt, withTimer}
 use Rattle.state.specs.View.{view}
@@ -59,7 +59,7 @@ done-set b b₁ i ch ccr t d load e q =
     q ∙ ap (λ (y : Bool). withTimer b i (withDone (timerAt b i) (set (timerAt b i .chan .«cc_done») ch y))) (e ∙ ap (λ (y : Timer). behindOf y ccr) load)
 
 -- settled, of the compare that was just set
-settled-of : (t : Timer) (ch v : ℕ) → ch < length (t .chan .«ccr_act») → withDone (withCcrAct t ch v) (set (t .chan .«cc_done») ch (behindOf (withCcrAct t ch v) v)) ≡ settled (withCcrAct t ch v) ch
+settled-of : (t : Timer) (ch v : ℕ) → ch < length (t .chan .«ccr_act») → withDone (withCcrAct t ch v) (set (t .chan .«cc_done») ch (behindOf (withCcrAct t ch v) v)) ≡ settledChannel (withCcrAct t ch v) ch
 unfolding behind
 settled-of t ch v h = rw (getD-set-same (t .chan .«ccr_act») ch v 0 h)
 
@@ -114,5 +114,5 @@ module _ (w : List ℕ) (x : List Float) (i ch v cycle : ℕ) (h : i < 8) (g : c
         changed-twice b b₃ b₄ i (λ y. withCcrAct (withCcr (synced y cycle) ch k) ch k) (λ y. withDone y (set (y .chan .«cc_done») ch (behindOf y k))) n
         (changed-twice b b₂ b₃ i (λ y. withCcr (synced y cycle) ch k) (λ y. withCcrAct y ch k) n stored r) s
         ∙ ap (withTimer b i) (settled-of (withCcr (synced u cycle) ch k) ch k long)
-        ∙ ap (λ (k : ℕ). withTimer b i (settled (withCcrAct (withCcr (synced u cycle) ch k) ch k) ch)) kept
+        ∙ ap (λ (k : ℕ). withTimer b i (settledChannel (withCcrAct (withCcr (synced u cycle) ch k) ch k) ch)) kept
         ∙ rw (preload false (ne-eqb _ _ e))

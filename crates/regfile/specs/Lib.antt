@@ -1,1 +1,1 @@
-pub mod Steady
+pub mod Course

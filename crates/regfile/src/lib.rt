@@ -12,7 +12,7 @@ ghost use Rattle.tim.specs.Change.{withDone, behindOf};
 ghost use Rattle.regs.specs.Regs as R;
 ghost use Rattle.state.specs.View.{view};
 ghost use Rattle.machine.specs.Board.{timerAt, withTimer};
-ghost use Rattle.regfile.specs.Steady.{steady};
+ghost use Rattle.regfile.specs.Course.{sameCourse};
 
 // ---- compares
 
@@ -61,7 +61,7 @@ pub fn write_ccr(words: &mut [u64; WORDS], i: usize, ch: usize, v: u32, cycle: u
 
 // Neither CEN nor DIR changes.
 fn stays(old: u32, new: u32) -> bool
-    ensures { λ r. ⌜ r ≡ steady old new ⌝ }
+    ensures { λ r. ⌜ r ≡ sameCourse old new ⌝ }
 {
     if old % 2 == new % 2 {
         return old / 16 % 2 == new / 16 % 2;

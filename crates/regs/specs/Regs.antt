@@ -2,12 +2,13 @@
 use mathlib.Core.Bool.{Bool, true, false, cond, not, _&&_, _||_}
 use mathlib.Core.List.{List, [], _∷_}
 use Prim.Native.Nat.{ℕ, _+_, _-_, _*_, _/_, _<_}
-use lib.Dec.{ltb, leb, eqb}
+use lib.Dec.{ltb, eqb}
 use lib.Bits.{bitAnd, bitOr}
 use lib.ListN.{getD, set}
 use Rattle.rm0440.specs.Bits.{field, isSet, CEN, ARPE}
 use Rattle.rm0440.specs.Output as Out
 use Rattle.rm0440.specs.Registers.{keptMask}
+pub use Rattle.rm0440.specs.Registers.{kept, isCcr, ccrChannel}
 use Rattle.tim.specs.declared.Timer.{Timer}
 use Rattle.tim.specs.declared.Regs.{Regs}
 use Rattle.regs.specs.declared.Written.{Written}
@@ -15,10 +16,6 @@ use Rattle.tim.specs.Timer.{withCount, withChan, withRegs, withCr1, down, max, 
 use Rattle.tim.specs.Count.{cntAt, synced, atCount}
 use Rattle.tim.specs.Change.{behind, withDone, recomputed, started, stopped, matched}
 use Rattle.tim.specs.Change as C
-
--- "Bits kept on a write are a fixed table", by register index, offset / 4
-abbrev pub kept : ℕ → ℕ → ℕ
-kept reg v = bitAnd v (keptMask reg)
 
 -- "CR1 3ff (8f without channels)"
 abbrev pub keptCr1 : Timer → ℕ → ℕ
@@ -124,27 +121,20 @@ arrWritten t v now =
     cond (ARPE (t .regs .cr1)) (only s) (booked (recomputed (withArrAct s (keptWidth t v))))
 
 -- CCRx: "without OCxPE a compare does. An immediate compare write settles its own channel so."
-abbrev pub settled : Timer → ℕ → Timer
-settled t ch = withDone t (set (t .chan .«cc_done») ch (behind t ch))
+abbrev pub settledChannel : Timer → ℕ → Timer
+settledChannel t ch = withDone t (set (t .chan .«cc_done») ch (behind t ch))
 
 unfoldable pub ccrWritten : Timer → ℕ → ℕ → ℕ → Written
 ccrWritten t ch v now =
     let s = withCcr (synced t now) ch (keptWidth t v) in
     let a = withCcrAct s ch (keptWidth t v) in
-    cond (Out.OCxPE (ccmrByte t ch)) (only s) (driven (settled a ch) (cntAt a now) true)
+    cond (Out.OCxPE (ccmrByte t ch)) (only s) (driven (settledChannel a ch) (cntAt a now) true)
 
 unfoldable pub ccmrWritten : Timer → ℕ → ℕ → ℕ → Written
 ccmrWritten t i v now = let s = withCcmr (synced t now) i v in driven s (cntAt s now) true
 
 unfoldable pub ccerWritten : Timer → ℕ → ℕ → Written
 ccerWritten t v now = let s = withCcer t v in driven s (cntAt s now) false
-
--- channel of CCR1 to CCR4's offset
-abbrev pub ccrChannel : ℕ → ℕ
-ccrChannel off = (off - 0x34) / 4
-
-abbrev pub isCcr : ℕ → Bool
-isCcr off = leb 0x34 off && leb off 0x40
 
 -- "CCMR, CCER and CCR need a channel count above 0"; other offsets store nothing
 unfoldable pub channelWritten : Timer → ℕ → ℕ → ℕ → Written

@@ -252,7 +252,7 @@ fn write_arr(timer: Timer, v: u32, now: u64) -> Written
 // An immediate compare settles its own channel.
 fn settle(timer: Timer, ch: usize) -> Timer
     requires { ⌜ ch < 4 ⌝ }
-    ensures { λ r. ⌜ r ≡ R.settled timer ch ⌝ }
+    ensures { λ r. ⌜ r ≡ R.settledChannel timer ch ⌝ }
 {
     let mut done = timer.chan.cc_done;
     let behind = timer.is_behind(ch);

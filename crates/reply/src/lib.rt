@@ -33,7 +33,8 @@ fn room(out: &[u8; OUT], n: usize) -> usize {
     LOST
 }
 
-fn put(out: &mut [u8; OUT], n: usize, b: u8) -> usize {
+// One byte, and a number, at place n: the place behind.
+pub fn put(out: &mut [u8; OUT], n: usize, b: u8) -> usize {
     if n < OUT {
         out[n] = b;
         return n + 1;
@@ -41,7 +42,7 @@ fn put(out: &mut [u8; OUT], n: usize, b: u8) -> usize {
     n
 }
 
-fn number(out: &mut [u8; OUT], n: usize, x: u64) -> usize {
+pub fn number(out: &mut [u8; OUT], n: usize, x: u64) -> usize {
     let w = text::write_number(x, out, n);
     match w {
         Written::To(m) => m,

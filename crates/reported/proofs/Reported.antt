@@ -11,11 +11,11 @@ use Rattle.book.specs.Book.{Entry}
 use Rattle.book.specs.Level.{levelAt, highs}
 use Rattle.machine.specs.Board.{timerAt, gpioAt}
 use Rattle.machine.specs.Step.{boardAfter}
-use Rattle.accuracy.specs.Claim.{Pilot, Steady, Within, board₁, recorded, periodOf, highOf}
+use Rattle.accuracy.specs.Claim.{Pilot, Steady, WithinBound, board₁, recorded, periodOf, highOf}
 use Rattle.accuracy.proofs.Aim.{due}
 use Rattle.accuracy.proofs.Levels.{Upward}
 use Rattle.accuracy.proofs.Accurate.{accurate, in-order, pin-is}
-use Rattle.shift.specs.Shift.{Shift, levelBefore, highIn, cycleBefore, astray, outOfOrder, numberOf, Figures, figures, figuresAt, Reports}
+use Rattle.shift.specs.Shift.{Shift, levelBefore, highIn, cycleBefore, misplaced, outOfOrder, numberOf, Figures, figures, figuresAt, Reports}
 use Rattle.reported.specs.Planned.{entriesAfter, Planned, ReportClaim, OrderClaim, OnlyOf, ServedClaim}
 
 -- the report's high cycles are demand 3's
@@ -26,7 +26,7 @@ pub reported : ReportClaim
 reported π st s p number high lent left r z =
     let f : figuresAt left (π .pin) ≡ figures s (entriesAfter π) (π .pin) = r .each (sym (r .answered) ∙ z) (π .pin) (pin-is π st) in
     let h : getD left (3 * π .pin) 0 ≡ highs (recorded π) (s .from) (s .to - s .from) = ap (λ (x : Figures). x .high) f ∙ same-high π s p in
-    subst (λ (n : ℕ). Within n (s .to - s .from) (periodOf (board₁ π) (π .timer)) (highOf (board₁ π) (π .timer) (π .ch))) (sym h)
+    subst (λ (n : ℕ). WithinBound n (s .to - s .from) (periodOf (board₁ π) (π .timer)) (highOf (board₁ π) (π .timer) (π .ch))) (sym h)
     (accurate π st (s .from) (s .to - s .from) (p .window))
 
 -- ---- the order
@@ -50,7 +50,7 @@ orderly π st before e rest split x =
 
 -- entries of one pin, each in order behind those before it
 only-order : (pin : ℕ) (es : List Entry) → OnlyOf pin es → (all : List Entry)
-    → ((before : List Entry) (e : Entry) (rest : List Entry) → all ≡ before ++ (e ∷ rest) → e .pin ≡ pin → astray before e ≡ false)
+    → ((before : List Entry) (e : Entry) (rest : List Entry) → all ≡ before ++ (e ∷ rest) → e .pin ≡ pin → misplaced before e ≡ false)
     → (before : List Entry) → all ≡ before ++ es → outOfOrder before es ≡ false
 unfolding OnlyOf outOfOrder
 only-order pin [] o all h before k = refl

@@ -8,8 +8,8 @@ use lib.ListN.{getD}
 use Rattle.book.specs.Book.{Entry}
 use Rattle.machine.specs.Board.{gpioAt}
 use Rattle.machine.specs.Step.{run}
-use Rattle.accuracy.specs.Claim.{Pilot, Steady, Window, Within, board₁, joined, periodOf, highOf}
-use Rattle.shift.specs.Shift.{Shift, levelBefore, astray, numberOf, Reports}
+use Rattle.accuracy.specs.Claim.{Pilot, Steady, Window, WithinBound, board₁, joined, periodOf, highOf}
+use Rattle.shift.specs.Shift.{Shift, levelBefore, misplaced, numberOf, Reports}
 
 -- "the entries of all calls after the start, joined in order"
 abbrev pub entriesAfter : Pilot → List Entry
@@ -24,13 +24,13 @@ pub record Planned (π : Pilot) (s : Shift) : Type 0 where
 abbrev pub ReportClaim : Type 0
 ReportClaim =
     (π : Pilot) → Steady π → (s : Shift) → Planned π s → (number high : ℕ) (lent left : List ℕ) → Reports s (entriesAfter π) number high lent left → number ≡ 0
-    → Within (getD left (3 * π .pin) 0) (s .to - s .from) (periodOf (board₁ π) (π .timer)) (highOf (board₁ π) (π .timer) (π .ch))
+    → WithinBound (getD left (3 * π .pin) 0) (s .to - s .from) (periodOf (board₁ π) (π .timer)) (highOf (board₁ π) (π .timer) (π .ch))
 
 -- no entry of the pilot's pin is one that 10 is given for
 abbrev pub OrderClaim : Type 0
 OrderClaim =
     (π : Pilot) → Steady π → (before : List Entry) (e : Entry) (rest : List Entry) → entriesAfter π ≡ before ++ (e ∷ rest) → e .pin ≡ π .pin
-    → astray before e ≡ false
+    → misplaced before e ≡ false
 
 -- every entry is of one pin
 unfoldable pub OnlyOf : ℕ → List Entry → Type 0

@@ -19,10 +19,10 @@ use Rattle.rm0440.specs.Write.{overrun, comes, answered, resettled, turn
 use Rattle.rm0440.specs.Cases.{settled, some}
 use Rattle.rm0440.specs.Cases as C
 use Rattle.rm0440.specs.WriteCases as W
-use Rattle.rm0440.specs.WriteCases.{unlike, differ, Answers, OutsideCr1, OutsideCnt, OutsideArr, OutsideCcmr}
+use Rattle.rm0440.specs.WriteCases.{unlike, differ, OutsideMatch, OutsideCr1, OutsideCnt, OutsideArr, OutsideCcmr}
 use Rattle.rm0440.proofs.SameClock.{no, or-same, centre-same, Parts, parts}
 
-module _ (r : Rules) (old t : Timer) (o : Answers r old t) where
+module _ (r : Rules) (old t : Timer) (o : OutsideMatch r old t) where
   no-overrun : overrun r t ≡ false
   no-overrun = go (r .above-reload) (t .on) (centre r t) (not (down t) && ltb (t .arr) (t .cnt)) (o .above-reload-not)
     where
@@ -72,7 +72,7 @@ cnt-same r v t o = ap (answered r t) same ∙ answered-same r t (leftCnt manual 
 
 -- ---- CCRx: nothing but how it is answered
 
-pub ccr-same : (r : Rules) (ch v : ℕ) (t : Timer) → (Out.OCxPE (byte t ch) ≡ false → Answers r t (leftCcr ch v t)) → writeCcr r ch v t ≡ writeCcr manual ch v t
+pub ccr-same : (r : Rules) (ch v : ℕ) (t : Timer) → (Out.OCxPE (byte t ch) ≡ false → OutsideMatch r t (leftCcr ch v t)) → writeCcr r ch v t ≡ writeCcr manual ch v t
 unfolding writeCcr
 ccr-same r ch v t o = go (Out.OCxPE (byte t ch)) refl
   where

@@ -1,6 +1,9 @@
--- The bits that each register keeps of a write (RM0440, the register descriptions; document 01, "Register and lane").
+-- The bits that each register keeps of a write, and the offsets of CCRx (RM0440, the register descriptions; document 01, "Register and lane").
+use mathlib.Core.Bool.{Bool, _&&_}
 use mathlib.Core.List.{List, [], _∷_, _++_}
-use Prim.Native.Nat.{ℕ, zero, suc, _+_, _^_}
+use Prim.Native.Nat.{ℕ, zero, suc, _+_, _-_, _/_, _^_}
+use lib.Bits.{bitAnd}
+use lib.Dec.{leb}
 use lib.ListN.{getD}
 
 -- n bits from bit k on
@@ -34,3 +37,14 @@ mask (k ∷ ks) = 2 ^ k + mask ks
 
 abbrev pub keptMask : ℕ → ℕ
 keptMask reg = mask (getD keptBits reg [])
+
+-- "Bits kept on a write are a fixed table"
+abbrev pub kept : ℕ → ℕ → ℕ
+kept reg v = bitAnd v (keptMask reg)
+
+-- CCR1 to CCR4, and the channel of each, by offset
+abbrev pub isCcr : ℕ → Bool
+isCcr off = leb 0x34 off && leb off 0x40
+
+abbrev pub ccrChannel : ℕ → ℕ
+ccrChannel off = (off - 0x34) / 4

@@ -8,6 +8,7 @@ use lib.ListN.{getD, set}
 use Rattle.rm0440.specs.Bits.{field, isSet, CEN, UDIS, URS, OPM, ARPE}
 use Rattle.rm0440.specs.Output as Out
 use Rattle.rm0440.specs.Registers.{keptMask}
+pub use Rattle.rm0440.specs.Registers.{kept, isCcr, ccrChannel}
 use Rattle.rm0440.specs.Rules.{Rules}
 use Rattle.rm0440.specs.State.{Timer, reg, each, inTurn, ccrOf, byte, mode, isOutput, down, centre, CMS, withRegs, withChannelRegs, withShadows, withCount, withMatches, withCr1, withSr, withBit, flag, ccFlags}
 use Rattle.rm0440.specs.Clock.{wrapped, loaded, pulseEnded, allAhead, latched, marked, equal, flags, matched, blocked, going}
@@ -172,17 +173,6 @@ writeCcr r ch v t = cond (Out.OCxPE (byte t ch)) (storedCcr ch v t) (answered r 
 -- one that is only stored, by offset / 4
 abbrev pub stored : ℕ → ℕ → Timer → Timer
 stored i v t = withRegs t (t .cr1) (t .sr) (set (t .regs) i v)
-
--- CCR1 to CCR4
-abbrev pub isCcr : ℕ → Bool
-isCcr off = leb 0x34 off && leb off 0x40
-
-abbrev pub ccrChannel : ℕ → ℕ
-ccrChannel off = (off - 0x34) / 4
-
--- the bits that a register keeps of a write, by offset / 4
-abbrev pub kept : ℕ → ℕ → ℕ
-kept i v = bitAnd v (keptMask i)
 
 -- a basic timer has none of these
 unfoldable pub writeChannel : Rules → ℕ → ℕ → Timer → Timer

@@ -25,7 +25,7 @@ differ a b = cond a (not b) b
 abbrev pub unlike : Rules → Timer → Timer → ℕ → Bool
 unlike r old t ch = isOutput t ch && (equal t ch && differ (not (equal old ch)) (going r t && not (getD (t .done) ch false)))
 
-pub record Answers (r : Rules) (old t : Timer) : Type 0 where
+pub record OutsideMatch (r : Rules) (old t : Timer) : Type 0 where
   pub centre-aligned-not : settled (r .centre-aligned) (centre-aligned t)
   pub above-reload-not : settled (r .above-reload) (above-reload t)
   pub done-equality-not : settled (r .done-equality) (some (unlike r old t))
@@ -53,7 +53,7 @@ pub record OutsideCr1 (r : Rules) (v : ℕ) (t : Timer) : Type 0 where
   pub start-delay-not : settled (r .start-delay) (start-delay t (newCr1 manual t v))
   pub stop-phase-not : settled (r .stop-phase) (stop-phase t (newCr1 manual t v))
   pub preload-cleared-not : settled (r .preload-cleared) (arpe-cleared t (newCr1 manual t v))
-  pub answers : Answers r t (leftCr1 manual v t)
+  pub answers : OutsideMatch r t (leftCr1 manual v t)
 
 -- ---- EGR
 
@@ -101,7 +101,7 @@ cnt-write-phase t = not (eqb (t .pre) 0)
 pub record OutsideCnt (r : Rules) (v : ℕ) (t : Timer) : Type 0 where
   pub centre-aligned-not : settled (r .centre-aligned) (centre-aligned t)
   pub cnt-write-phase-not : settled (r .cnt-write-phase) (cnt-write-phase t)
-  pub answers : Answers r t (leftCnt manual v t)
+  pub answers : OutsideMatch r t (leftCnt manual v t)
 
 -- a reload of 0 that acts at once
 abbrev pub reload-zero : ℕ → Timer → Bool
@@ -110,7 +110,7 @@ reload-zero v t = eqb (bitAnd v (t .max)) 0
 pub record OutsideArr (r : Rules) (v : ℕ) (t : Timer) : Type 0 where
   pub centre-aligned-not : settled (r .centre-aligned) (centre-aligned t)
   pub reload-zero-not : settled (r .reload-zero) (reload-zero v t)
-  pub answers : Answers r t (leftArr manual v t)
+  pub answers : OutsideMatch r t (leftArr manual v t)
 
 -- "from a forced or PWM mode to one of modes 0 to 3, with another level latched"
 abbrev pub mode-change-latch : Timer → Timer → ℕ → Bool
@@ -123,7 +123,7 @@ ocpe-cleared t ch = not (Out.OCxPE (byte t ch)) && not (eqb (getD (t .compares) 
 pub record OutsideCcmr (r : Rules) (i v : ℕ) (t : Timer) : Type 0 where
   pub mode-change-latch-not : settled (r .mode-change-latch) (some (mode-change-latch t (storedCcmr i v t)))
   pub preload-cleared-not : settled (r .preload-cleared) (some (ocpe-cleared (storedCcmr i v t)))
-  pub answers : Answers r t (leftCcmr manual i v t)
+  pub answers : OutsideMatch r t (leftCcmr manual i v t)
 
 -- ---- any register: the others, and CCRx and ARR that wait for an update, meet no case
 
@@ -134,4 +134,4 @@ pub record OutsideWrite (r : Rules) (off v : ℕ) (t : Timer) : Type 0 where
   pub arr : eqb off 0x2c ≡ true → ARPE (t .cr1) ≡ false → OutsideArr r (kept 11 v) t
   pub ccmr1 : eqb off 0x18 ≡ true → OutsideCcmr r 0 (kept 6 v) t
   pub ccmr2 : eqb off 0x1c ≡ true → OutsideCcmr r 1 (kept 7 v) t
-  pub ccr : isCcr off ≡ true → Out.OCxPE (byte t (ccrChannel off)) ≡ false → Answers r t (leftCcr (ccrChannel off) (kept (off / 4) v) t)
+  pub ccr : isCcr off ≡ true → Out.OCxPE (byte t (ccrChannel off)) ≡ false → OutsideMatch r t (leftCcr (ccrChannel off) (kept (off / 4) v) t)

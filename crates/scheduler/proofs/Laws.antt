@@ -9,7 +9,7 @@ use lib.Dec.{leb}
 use lib.ListN.{length, getD, drop, length-map, drop-of-length-le}
 use lib.Seq.{drop-cons, getD-set-same, getD-set-other}
 use borrow.Author.Tests.{leb-true, leb-false}
-use Rattle.scheduler.specs.Booking.{never, cycleOf, book, least}
+use Rattle.scheduler.specs.Booking.{never, cycleOf, rebook, least}
 
 -- inside a list its default does not matter
 pub read-at : (m : List ℕ) (i d e : ℕ) → i < length m → getD m i d ≡ getD m i e
@@ -60,8 +60,8 @@ least-none [] h = refl
 least-none (c ∷ m) h = omega (arith, h 0 (omega arith), least-none m (λ owner l. h (suc owner) (omega arith)))
 
 -- booking changes one owner's cycle and no other's
-pub book-same : (m : List ℕ) (owner cycle : ℕ) → owner < length m → cycleOf (book m owner cycle) owner ≡ cycle
+pub book-same : (m : List ℕ) (owner cycle : ℕ) → owner < length m → cycleOf (rebook m owner cycle) owner ≡ cycle
 book-same m owner cycle h = getD-set-same m owner cycle never h
 
-pub book-other : (m : List ℕ) (owner cycle j : ℕ) → j ≢ owner → cycleOf (book m owner cycle) j ≡ cycleOf m j
+pub book-other : (m : List ℕ) (owner cycle j : ℕ) → j ≢ owner → cycleOf (rebook m owner cycle) j ≡ cycleOf m j
 book-other m owner cycle j h = getD-set-other m owner j cycle never h

@@ -22,8 +22,8 @@ abbrev pub cycleOf : List ℕ → ℕ → ℕ
 cycleOf m owner = getD m owner never
 
 -- owner booked at cycle, in place of its earlier booking
-abbrev pub book : List ℕ → ℕ → ℕ → List ℕ
-book m owner cycle = set m owner cycle
+abbrev pub rebook : List ℕ → ℕ → ℕ → List ℕ
+rebook m owner cycle = set m owner cycle
 
 -- owner's booking cancelled
 abbrev pub cancel : List ℕ → ℕ → List ℕ

@@ -3,7 +3,7 @@
 // needs no walk.
 ghost use mathlib.Core.Path.{_≡_};
 ghost use Prim.Native.Nat.{_<_, min};
-ghost use Rattle.scheduler.specs.Booking.{holding, empty, cycleOf, book, cancel, least};
+ghost use Rattle.scheduler.specs.Booking.{holding, empty, cycleOf, rebook, cancel, least};
 
 // The cycle of an owner without a booking.
 pub const NEVER: u64 = 18446744073709551615;
@@ -45,7 +45,7 @@ impl Scheduler {
     // Books or rebooks `owner` at `cycle` (the source's `at`).
     pub fn booked(self, owner: usize, cycle: u64) -> Scheduler
         requires { ⌜ owner < 8 ⌝ }
-        ensures { λ r. ⌜ r ≡ holding (book (self .cycles) owner cycle) ⌝ }
+        ensures { λ r. ⌜ r ≡ holding (rebook (self .cycles) owner cycle) ⌝ }
     {
         let mut cycles = self.cycles;
         cycles[owner] = cycle;
@@ -86,7 +86,7 @@ impl Scheduler {
     // Schedules (or re-schedules) `owner` at `cycle`.
     pub fn at(&mut self, owner: usize, cycle: u64)
         requires { ⌜ owner < 8 ⌝ }
-        ensures { λ _. ⌜ now (self .exit) ≡ holding (book (now (self .entry) .cycles) owner cycle) ⌝ }
+        ensures { λ _. ⌜ now (self .exit) ≡ holding (rebook (now (self .entry) .cycles) owner cycle) ⌝ }
     {
         let s = *self;
         *self = s.booked(owner, cycle);
@@ -121,7 +121,7 @@ impl Scheduler {
 // A table with `owner` booked at `cycle`: the struct is made in a local and lent.
 pub fn rebooked(cycles: [u64; 8], owner: usize, cycle: u64) -> [u64; 8]
     requires { ⌜ owner < 8 ⌝ }
-    ensures { λ r. ⌜ r ≡ book cycles owner cycle ⌝ }
+    ensures { λ r. ⌜ r ≡ rebook cycles owner cycle ⌝ }
 {
     let mut s = Scheduler::of(cycles);
     s.at(owner, cycle);
@@ -141,7 +141,7 @@ pub fn unbooked(cycles: [u64; 8], owner: usize) -> [u64; 8]
 // A table with `owner` booked at `cycle`, or its booking cancelled by NEVER. Every booking of the board goes through here.
 pub fn book(table: [u64; 8], owner: usize, cycle: u64) -> [u64; 8]
     requires { ⌜ owner < 8 ⌝ }
-    ensures { λ r. ⌜ r ≡ book table owner cycle ⌝ }
+    ensures { λ r. ⌜ r ≡ rebook table owner cycle ⌝ }
 {
     if cycle == NEVER {
         return unbooked(table, owner);

@@ -1,3 +1,4 @@
 pub mod Limits
 pub mod Laws
+pub mod Given
 pub mod Figures

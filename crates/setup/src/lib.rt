@@ -1,5 +1,6 @@
 // Set-up over the lent state, from numbers: seven of each timer (number, width, channels, bus, enable word, enable bit, interrupt), the mask of those in
 // manual mode, and the signal table.
+use answer::Answer;
 use state::REALS;
 use state::WORDS;
 use tim::Inst;
@@ -11,8 +12,10 @@ ghost use Prim.Native.Nat.{_-_, _<_, _≤_};
 ghost use lib.Ieee.{Float};
 ghost use lib.ListN.{length};
 ghost use Rattle.machine.specs.Board.{noInst, freshBoard};
+ghost use Rattle.machine.specs.Call.{setUp};
 ghost use Rattle.machine.specs.Step as S;
 ghost use Rattle.state.specs.View.{view};
+ghost use Rattle.answer.specs.Promise.{Answers};
 ghost use Rattle.setup.specs.Setup.{countOf, instGiven, instsFrom, instsOf, setupOf, sizesGood, timersOf, withTimers, withTable, Answered};
 
 // ---- the limits
@@ -199,8 +202,8 @@ fn fill(
     state::set_sizes(words, count, pins as usize, lines);
 }
 
-// Set-up: 1 outside the limits, 4 at a frequency that is not finite and above 0, else 0 and the board is replaced.
-pub fn set_up(
+// 1 outside the limits, 4 at a frequency that is not finite and above 0, else 0 and the board is replaced.
+fn set_up_number(
     words: &mut [u64; WORDS],
     reals: &mut [f64; REALS],
     hz: f64,
@@ -221,4 +224,26 @@ pub fn set_up(
     }
     fill(words, reals, hz, vcc, pins, lines, manual, timers, table);
     0
+}
+
+// Set-up, which answers with a number alone.
+pub fn set_up(
+    words: &mut [u64; WORDS],
+    reals: &mut [f64; REALS],
+    hz: f64,
+    vcc: f64,
+    pins: u32,
+    lines: u32,
+    manual: u32,
+    timers: &[u32],
+    table: &[u32],
+) -> Answer
+    ensures { λ r. ⌜ Answers (S.step (view (now (words .entry)) (now (reals .entry))) (setUp (setupOf hz vcc pins lines manual (now (timers .entry)) (now (table .entry))))) r (now (words .entry)) (now (words .exit)) (now (reals .entry)) (now (reals .exit)) ⌝ }
+{
+    let number = set_up_number(words, reals, hz, vcc, pins, lines, manual, timers, table);
+    Answer {
+        value: 0,
+        number: number as u32,
+        count: 0,
+    }
 }

@@ -14,10 +14,11 @@ use lib.Pow.{pow-mono}
 use lib.Seq.{getD-set-same, getD-set-other}
 use borrow.Author.Tests.{eqb-true, eqb-false}
 use Rattle.book.specs.Book.{Entry, Lent, places}
+use Rattle.book.specs.Level.{entriesFrom}
 use Rattle.shift.specs.declared.Track.{Track}
 use Rattle.shift.specs.declared.Summary.{Summary}
-use Rattle.shift.specs.Shift.{Shift, levelOf, levelBefore, isEdge, edges, highPins, outOfOrder, numberOf, entriesFrom, entriesIn, Figures, figures, figuresAt, Reports}
-use Rattle.shift.specs.Kept.{trackAt, freshTrack, Fresh, putTrack, numberIn, entered, fed, figuresOf, putFigures, Written, highTracks, numberGiven, Ended, Told, Stands}
+use Rattle.shift.specs.Shift.{Shift, levelBit, levelBefore, isEdge, edges, highPins, outOfOrder, numberOf, entriesIn, Figures, figures, figuresAt, Reports}
+use Rattle.shift.specs.Kept.{trackAt, freshTrack, Fresh, putTrack, numberKept, entered, fed, figuresOf, putFigures, Written, highTracks, numberGiven, Ended, Told, Stands}
 use Rattle.shift.proofs.Standing.{put-length, put-same, put-apart, byTests, stands-fed}
 
 -- ---- edges fit a word
@@ -66,14 +67,14 @@ module _ (s : Shift) (es : List Entry) (w : List ℕ) (h : Stands s es w) where
 -- ---- the loops
 
 -- begin: one pin more
-pub fresh-more : (words : List ℕ) (from to n : ℕ) (w w₁ : List ℕ) (t : Track) → n < 128 → Fresh words from to n w → t ≡ freshTrack from to (levelOf words n)
+pub fresh-more : (words : List ℕ) (from to n : ℕ) (w w₁ : List ℕ) (t : Track) → n < 128 → Fresh words from to n w → t ≡ freshTrack from to (levelBit words n)
     → w₁ ≡ putTrack w n t → Fresh words from to (n + 1) w₁
 fresh-more words from to n w w₁ t lt f e k =
     record { long = ap length k ∙ put-length w n t ∙ f .long; each = λ pin h. rw k (go pin (eqb n pin) refl h) }
   where
-    go : (pin : ℕ) (b : Bool) → eqb n pin ≡ b → pin < n + 1 → trackAt (putTrack w n t) pin ≡ freshTrack from to (levelOf words pin)
+    go : (pin : ℕ) (b : Bool) → eqb n pin ≡ b → pin < n + 1 → trackAt (putTrack w n t) pin ≡ freshTrack from to (levelBit words pin)
     go pin true x h =
-        subst (λ (p : ℕ). trackAt (putTrack w n t) p ≡ freshTrack from to (levelOf words p)) (eqb-true n pin x)
+        subst (λ (p : ℕ). trackAt (putTrack w n t) p ≡ freshTrack from to (levelBit words p)) (eqb-true n pin x)
         (put-same w n t (omega (arith, f .long)) ∙ e)
     go pin false x h =
         let d = eqb-false n pin x in
@@ -219,19 +220,19 @@ unfolding highTracks
 high-none w = refl
 
 -- what `shift_end` promises
-module _ (w : List ℕ) (n : ℕ) (f : List ℕ) (e : n ≡ numberGiven (numberIn w)) where
+module _ (w : List ℕ) (n : ℕ) (f : List ℕ) (e : n ≡ numberGiven (numberKept w)) where
   pub ended-refused : (n ≡ 0 → ⊥) → Ended w (record { number = n; high = 0 }) f f
   ended-refused ne = record {
     answered = e;
     refused = λ z. (refl, refl);
-    pins = λ z. absurd (ne (e ∙ given-number (numberIn w) z));
-    each = λ z. absurd (ne (e ∙ given-number (numberIn w) z));
+    pins = λ z. absurd (ne (e ∙ given-number (numberKept w) z));
+    each = λ z. absurd (ne (e ∙ given-number (numberKept w) z));
   }
 
   pub ended-served : (h : ℕ) (f₁ : List ℕ) → n ≡ 0 → Written w 128 f₁ → h ≡ highTracks w 128 → Ended w (record { number = 0; high = h }) f f₁
   ended-served h f₁ z k j = record {
     answered = sym z ∙ e;
-    refused = λ ne. absurd (ne (number-given (numberIn w) (sym e ∙ z)));
+    refused = λ ne. absurd (ne (number-given (numberKept w) (sym e ∙ z)));
     pins = λ x. j;
     each = λ x. k .1;
   }

@@ -11,8 +11,8 @@ use borrow.Author.Tests.{eqb-true, eqb-false, ltb-true, ltb-false, leb-true, leb
 use Rattle.book.specs.Book.{Entry}
 use Rattle.book.specs.Level.{levelAt, highs}
 use Rattle.shift.specs.declared.Track.{Track}
-use Rattle.shift.specs.Shift.{Shift, levelBefore, levelIn, highIn, isEdge, edges, lastCycle, cycleBefore, astray, outOfOrder}
-use Rattle.shift.specs.Kept.{counts, rest, turned, passed, latest, Told}
+use Rattle.shift.specs.Shift.{Shift, levelBefore, levelIn, highIn, isEdge, edges, lastCycle, cycleBefore, misplaced, outOfOrder}
+use Rattle.shift.specs.Kept.{counts, rest, turnedTrack, passedTrack, latest, Told}
 
 -- ---- one entry more in each definition
 
@@ -57,12 +57,12 @@ or-false : (a : Bool) → a || false ≡ a
 or-false true = refl
 or-false false = refl
 
-pub order-more : (es before : List Entry) (e : Entry) → outOfOrder before (es ++ (e ∷ [])) ≡ outOfOrder before es || astray (before ++ es) e
+pub order-more : (es before : List Entry) (e : Entry) → outOfOrder before (es ++ (e ∷ [])) ≡ outOfOrder before es || misplaced (before ++ es) e
 unfolding outOfOrder
-order-more [] before e = or-false (astray before e) ∙ ap (λ (x : List Entry). astray x e) (sym (append-nil before))
+order-more [] before e = or-false (misplaced before e) ∙ ap (λ (x : List Entry). misplaced x e) (sym (append-nil before))
 order-more (x ∷ es) before e =
-    ap (λ (b : Bool). astray before x || b) (order-more es (before ++ (x ∷ [])) e ∙ ap (λ (l : List Entry). outOfOrder (before ++ (x ∷ [])) es || astray l e) (append-assoc before (x ∷ []) es))
-    ∙ or-assoc (astray before x) (outOfOrder (before ++ (x ∷ [])) es) (astray (before ++ (x ∷ es)) e)
+    ap (λ (b : Bool). misplaced before x || b) (order-more es (before ++ (x ∷ [])) e ∙ ap (λ (l : List Entry). outOfOrder (before ++ (x ∷ [])) es || misplaced l e) (append-assoc before (x ∷ []) es))
+    ∙ or-assoc (misplaced before x) (outOfOrder (before ++ (x ∷ [])) es) (misplaced (before ++ (x ∷ es)) e)
 
 -- ---- high cycles
 
@@ -203,13 +203,13 @@ module _ (s : Shift) (es : List Entry) (e : Entry) where
         go x false h = subst (λ (n : ℕ). n ≤ 1) (sym (before x (leb-false (e .cycle) x h))) (told .small x)
 
     -- an entry that changes nothing before the end of the shift
-    quiet : ((c : ℕ) → c ≤ lastCycle s → is c ≡ was c) → isEdge s level₀ e ≡ false → Told s grown (e .pin) (passed t (e .cycle))
-    quiet same none = built (passed t (e .cycle)) refl (told .level ∙ sym (same (lastCycle s) (omega arith)))
+    quiet : ((c : ℕ) → c ≤ lastCycle s → is c ≡ was c) → isEdge s level₀ e ≡ false → Told s grown (e .pin) (passedTrack t (e .cycle))
+    quiet same none = built (passedTrack t (e .cycle)) refl (told .level ∙ sym (same (lastCycle s) (omega arith)))
         (told .high ∙ highs-same was is (s .from) (s .to - s .from) (λ c lo hi. sym (same c (window s c lo hi))))
         (told .edges ∙ ap (λ (x : ℕ). x % 18446744073709551616) (rw none (omega arith)))
 
     -- "An entry that repeats its pin's level is no edge."
-    pub repeats : e .level ≡ t .level → Told s grown (e .pin) (passed t (e .cycle))
+    pub repeats : e .level ≡ t .level → Told s grown (e .pin) (passedTrack t (e .cycle))
     repeats v = quiet (λ c h. same c (leb (e .cycle) c) refl h) (edge (ltb (s .from) (e .cycle)) (ltb (e .cycle) (s .to)) refl)
       where
         same : (c : ℕ) (b : Bool) → leb (e .cycle) c ≡ b → c ≤ lastCycle s → is c ≡ was c
@@ -224,7 +224,7 @@ module _ (s : Shift) (es : List Entry) (e : Entry) where
         edge true true h = rw (eq-eqb (e .level) level₀ (v ∙ at-end (within s (e .cycle) (rw h)))) refl
 
     -- an entry at to or later
-    pub too-late : counts (s .from) (s .to) (e .cycle) ≡ false → Told s grown (e .pin) (passed t (e .cycle))
+    pub too-late : counts (s .from) (s .to) (e .cycle) ≡ false → Told s grown (e .pin) (passedTrack t (e .cycle))
     too-late h =
         let o = beyond s (e .cycle) h in
         quiet (λ c le. before c (omega (arith, o .2))) (rw (le-ltb (e .cycle) (s .to) (o .0)) (no (ltb (s .from) (e .cycle))))
@@ -241,11 +241,11 @@ module _ (s : Shift) (es : List Entry) (e : Entry) where
 
     -- an entry that changes the level
     pub turns : (e .level ≡ t .level → ⊥) → counts (s .from) (s .to) (e .cycle) ≡ true → s .from ≤ s .to → s .to < 18446744073709551616
-        → Told s grown (e .pin) (turned (s .from) (s .to) t (e .level) (e .cycle))
+        → Told s grown (e .pin) (turnedTrack (s .from) (s .to) t (e .level) (e .cycle))
     turns n h fwd fits =
         let k : e .cycle ≤ lastCycle s = within s (e .cycle) h in
         let l : t .level ≡ level₀ = at-end k in
-        built (turned (s .from) (s .to) t (e .level) (e .cycle)) refl (sym (since (lastCycle s) k)) (heights (eqb (e .level) 1) refl l)
+        built (turnedTrack (s .from) (s .to) t (e .level) (e .cycle)) refl (sym (since (lastCycle s) k)) (heights (eqb (e .level) 1) refl l)
         (edge (ltb (s .from) (e .cycle)) refl (ltb (e .cycle) (s .to)) refl l h)
       where
         heights : (b : Bool) → eqb (e .level) 1 ≡ b → t .level ≡ level₀

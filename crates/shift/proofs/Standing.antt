@@ -13,8 +13,8 @@ use borrow.Author.Tests.{eqb-true, eqb-false, ltb-true, ltb-false}
 use Rattle.book.specs.Book.{Entry}
 use Rattle.book.specs.Level.{levelAt, highs}
 use Rattle.shift.specs.declared.Track.{Track}
-use Rattle.shift.specs.Shift.{Shift, levelOf, levelBefore, edges, cycleBefore, astray, outOfOrder, numberOf}
-use Rattle.shift.specs.Kept.{counts, turned, passed, took, trackAt, putTrack, freshTrack, Fresh, fromOf, toOf, numberIn, strays, entered, fed, latest, Told, Stands}
+use Rattle.shift.specs.Shift.{Shift, levelBit, levelBefore, edges, cycleBefore, misplaced, outOfOrder, numberOf}
+use Rattle.shift.specs.Kept.{counts, turnedTrack, passedTrack, took, trackAt, putTrack, freshTrack, Fresh, fromOf, toOf, numberKept, strays, entered, fed, latest, Told, Stands}
 use Rattle.shift.proofs.Laws.{order-more, told-other, repeats, too-late, turns}
 
 -- ---- the words
@@ -102,7 +102,7 @@ module _ (s : Shift) (es : List Entry) (e : Entry) where
   told-own t told order bit fwd fits = go (eqb (e .level) (t .level)) refl (counts (s .from) (s .to) (e .cycle)) refl
     where
       go : (a : Bool) → eqb (e .level) (t .level) ≡ a → (b : Bool) → counts (s .from) (s .to) (e .cycle) ≡ b
-          → Told s grown (e .pin) (cond a (passed t (e .cycle)) (cond b (turned (s .from) (s .to) t (e .level) (e .cycle)) (passed t (e .cycle))))
+          → Told s grown (e .pin) (cond a (passedTrack t (e .cycle)) (cond b (turnedTrack (s .from) (s .to) t (e .level) (e .cycle)) (passedTrack t (e .cycle))))
       go true x b y = repeats s es e t told order bit (eqb-true (e .level) (t .level) x)
       go false x true y = turns s es e t told order bit (eqb-false (e .level) (t .level) x) y fwd fits
       go false x false y = too-late s es e t told order bit y
@@ -125,17 +125,17 @@ module _ (s : Shift) (es : List Entry) (e : Entry) where
       go true x h = omega arith
       go false x h = ltb-false (s .to) (s .from) x
 
-  next : numberOf s es ≡ 0 → numberOf s grown ≡ cond (astray es e) 10 0
+  next : numberOf s es ≡ 0 → numberOf s grown ≡ cond (misplaced es e) 10 0
   unfolding numberOf
   next = go (ltb (s .to) (s .from)) (outOfOrder [] es) refl
     where
-      go : (a b : Bool) → outOfOrder [] es ≡ b → byTests a b ≡ 0 → byTests a (outOfOrder [] grown) ≡ cond (astray es e) 10 0
+      go : (a b : Bool) → outOfOrder [] es ≡ b → byTests a b ≡ 0 → byTests a (outOfOrder [] grown) ≡ cond (misplaced es e) 10 0
       go true b x n = omega arith
       go false true x n = omega arith
       go false false x n = rw (order-more es [] e, x)
 
   module _ (w : List ℕ) (h : Stands s es w) where
-    same-stray : numberOf s es ≡ 0 → strays w e ≡ astray es e
+    same-stray : numberOf s es ≡ 0 → strays w e ≡ misplaced es e
     same-stray z = go (ltb 127 (e .pin)) refl
       where
         go : (b : Bool) → ltb 127 (e .pin) ≡ b
@@ -146,8 +146,8 @@ module _ (s : Shift) (es : List Entry) (e : Entry) where
     abbrev Grows : List ℕ → Type 0
     Grows w₁ = Stands s grown w₁
 
-    -- what an entry that is not astray says
-    fine : astray es e ≡ false → (e .pin < 128) × (e .level ≤ 1) × (cycleBefore (e .pin) es 0 ≤ e .cycle)
+    -- what an entry that is not misplaced says
+    fine : misplaced es e ≡ false → (e .pin < 128) × (e .level ≤ 1) × (cycleBefore (e .pin) es 0 ≤ e .cycle)
     fine = go (ltb 127 (e .pin)) refl (ltb 1 (e .level)) refl (ltb (e .cycle) (cycleBefore (e .pin) es 0)) refl
       where
         go : (a : Bool) → ltb 127 (e .pin) ≡ a → (b : Bool) → ltb 1 (e .level) ≡ b → (c : Bool) → ltb (e .cycle) (cycleBefore (e .pin) es 0) ≡ c → a || (b || c) ≡ false
@@ -157,8 +157,8 @@ module _ (s : Shift) (es : List Entry) (e : Entry) where
         go false x false y true z n = absurd (let k : _≡_ {A = ℕ} 0 1 = ap (λ (v : Bool). cond v 0 1) n in omega arith)
         go false x false y false z n = (omega (arith, ltb-false 127 (e .pin) x), ltb-false 1 (e .level) y, ltb-false (e .cycle) (cycleBefore (e .pin) es 0) z)
 
-    -- an entry astray: 10 from now on
-    turned-away : numberOf s es ≡ 0 → astray es e ≡ true → Grows (set w 514 10)
+    -- an entry misplaced: 10 from now on
+    turned-away : numberOf s es ≡ 0 → misplaced es e ≡ true → Grows (set w 514 10)
     turned-away z a =
         let n : numberOf s grown ≡ 10 = next z ∙ rw a in
         record {
@@ -171,7 +171,7 @@ module _ (s : Shift) (es : List Entry) (e : Entry) where
         }
 
     -- an entry in order
-    taken : numberOf s es ≡ 0 → astray es e ≡ false → Grows (putTrack w (e .pin) (took (fromOf w) (toOf w) (trackAt w (e .pin)) (e .level) (e .cycle)))
+    taken : numberOf s es ≡ 0 → misplaced es e ≡ false → Grows (putTrack w (e .pin) (took (fromOf w) (toOf w) (trackAt w (e .pin)) (e .level) (e .cycle)))
     taken z a =
         let u = took (fromOf w) (toOf w) (trackAt w (e .pin)) (e .level) (e .cycle) in
         let f = fine a in
@@ -196,18 +196,18 @@ module _ (s : Shift) (es : List Entry) (e : Entry) where
 
     pub stands-entered : Grows (entered w e)
     unfolding entered
-    stands-entered = go (eqb (numberIn w) 0) refl
+    stands-entered = go (eqb (numberKept w) 0) refl
       where
         served : numberOf s es ≡ 0 → (b : Bool) → strays w e ≡ b
             → Grows (cond b (set w 514 10) (putTrack w (e .pin) (took (fromOf w) (toOf w) (trackAt w (e .pin)) (e .level) (e .cycle))))
         served z true x = turned-away z (sym (same-stray z) ∙ x)
         served z false x = taken z (sym (same-stray z) ∙ x)
 
-        go : (b : Bool) → eqb (numberIn w) 0 ≡ b
+        go : (b : Bool) → eqb (numberKept w) 0 ≡ b
             → Grows (cond b (cond (strays w e) (set w 514 10) (putTrack w (e .pin) (took (fromOf w) (toOf w) (trackAt w (e .pin)) (e .level) (e .cycle)))) w)
-        go true x = served (sym (h .number) ∙ eqb-true (numberIn w) 0 x) (strays w e) refl
+        go true x = served (sym (h .number) ∙ eqb-true (numberKept w) 0 x) (strays w e) refl
         go false x =
-            let n : numberOf s es ≡ 0 → ⊥ = λ k. eqb-false (numberIn w) 0 x (h .number ∙ k) in
+            let n : numberOf s es ≡ 0 → ⊥ = λ k. eqb-false (numberKept w) 0 x (h .number ∙ k) in
             record {
               long = h .long;
               fits = h .fits;
@@ -240,8 +240,8 @@ highs-still l a (suc W) = go (eqb l 1) (highs-still l a W)
     go true h = omega arith
     go false h = omega arith
 
-level-bit : (words : List ℕ) (pin : ℕ) → levelOf words pin ≤ 1
-unfolding levelOf
+level-bit : (words : List ℕ) (pin : ℕ) → levelBit words pin ≤ 1
+unfolding levelBit
 level-bit words pin = omega (arith, mod-lt (getD words (pin / 32) 0 / 2 ^ (pin % 32)) {m = 2} (omega arith))
 
 told-fresh : (s : Shift) (pin : ℕ) → Told s [] pin (freshTrack (s .from) (s .to) (levelBefore s pin))

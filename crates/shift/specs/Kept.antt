@@ -9,7 +9,7 @@ use Rattle.book.specs.Book.{Entry, Lent}
 use Rattle.book.specs.Level.{levelAt}
 use Rattle.shift.specs.declared.Track.{Track}
 use Rattle.shift.specs.declared.Summary.{Summary}
-use Rattle.shift.specs.Shift.{Shift, levelOf, levelBefore, levelIn, highIn, edges, lastCycle, cycleBefore, numberOf, Figures, figuresAt}
+use Rattle.shift.specs.Shift.{Shift, levelBit, levelBefore, levelIn, highIn, edges, lastCycle, cycleBefore, numberOf, Figures, figuresAt}
 
 -- ---- a pin's track: the cycle of its last entry, its level at the end of the shift and its high cycles if no entry follows, its edges
 
@@ -33,14 +33,14 @@ abbrev pub moreEdges : ℕ → ℕ → ℕ → ℕ
 moreEdges edges from c = cond (ltb from c) ((edges + 1) % 18446744073709551616) edges
 
 -- an entry that changes the level, and any other
-abbrev pub turned : ℕ → ℕ → Track → ℕ → ℕ → Track
-turned from to t l c = track c l (turnedHigh (t .high) (rest from to c) l) (moreEdges (t .edges) from c)
+abbrev pub turnedTrack : ℕ → ℕ → Track → ℕ → ℕ → Track
+turnedTrack from to t l c = track c l (turnedHigh (t .high) (rest from to c) l) (moreEdges (t .edges) from c)
 
-abbrev pub passed : Track → ℕ → Track
-passed t c = track c (t .level) (t .high) (t .edges)
+abbrev pub passedTrack : Track → ℕ → Track
+passedTrack t c = track c (t .level) (t .high) (t .edges)
 
 unfoldable pub took : ℕ → ℕ → Track → ℕ → ℕ → Track
-took from to t l c = cond (eqb l (t .level)) (passed t c) (cond (counts from to c) (turned from to t l c) (passed t c))
+took from to t l c = cond (eqb l (t .level)) (passedTrack t c) (cond (counts from to c) (turnedTrack from to t l c) (passedTrack t c))
 
 -- ---- the words
 
@@ -57,7 +57,7 @@ freshTrack from to l = track 0 l (cond (eqb l 1) (to - from) 0) 0
 -- the first n pins of a shift that begins
 pub record Fresh (words : List ℕ) (from to n : ℕ) (w : List ℕ) : Type 0 where
   pub long : length w ≡ 515
-  pub each : (pin : ℕ) → pin < n → trackAt w pin ≡ freshTrack from to (levelOf words pin)
+  pub each : (pin : ℕ) → pin < n → trackAt w pin ≡ freshTrack from to (levelBit words pin)
 
 abbrev pub fromOf : List ℕ → ℕ
 fromOf w = getD w 512 0
@@ -65,8 +65,8 @@ fromOf w = getD w 512 0
 abbrev pub toOf : List ℕ → ℕ
 toOf w = getD w 513 0
 
-abbrev pub numberIn : List ℕ → ℕ
-numberIn w = getD w 514 0
+abbrev pub numberKept : List ℕ → ℕ
+numberKept w = getD w 514 0
 
 -- ---- any words, fed any entries
 
@@ -76,7 +76,7 @@ strays w e = ltb 127 (e .pin) || (ltb 1 (e .level) || ltb (e .cycle) (trackAt w 
 -- one entry: nothing once there is a number
 unfoldable pub entered : List ℕ → Entry → List ℕ
 entered w e =
-    cond (eqb (numberIn w) 0)
+    cond (eqb (numberKept w) 0)
     (cond (strays w e) (set w 514 10) (putTrack w (e .pin) (took (fromOf w) (toOf w) (trackAt w (e .pin)) (e .level) (e .cycle)))) w
 
 unfoldable pub fed : List ℕ → List Entry → List ℕ
@@ -104,10 +104,10 @@ unfoldable pub numberGiven : ℕ → ℕ
 numberGiven n = cond (eqb n 0) 0 (cond (eqb n 9) 9 10)
 
 pub record Ended (w : List ℕ) (r : Summary) (lent left : List ℕ) : Type 0 where
-  pub answered : r .number ≡ numberGiven (numberIn w)
-  pub refused : (numberIn w ≡ 0 → ⊥) → (r .high ≡ 0) × (left ≡ lent)
-  pub pins : numberIn w ≡ 0 → r .high ≡ highTracks w 128
-  pub each : numberIn w ≡ 0 → (pin : ℕ) → pin < 128 → figuresAt left pin ≡ figuresOf w (trackAt w pin)
+  pub answered : r .number ≡ numberGiven (numberKept w)
+  pub refused : (numberKept w ≡ 0 → ⊥) → (r .high ≡ 0) × (left ≡ lent)
+  pub pins : numberKept w ≡ 0 → r .high ≡ highTracks w 128
+  pub each : numberKept w ≡ 0 → (pin : ℕ) → pin < 128 → figuresAt left pin ≡ figuresOf w (trackAt w pin)
 
 -- ---- the words stand for a shift and the entries so far
 
@@ -131,5 +131,5 @@ pub record Stands (s : Shift) (es : List Entry) (w : List ℕ) : Type 0 where
   pub fits : s .to < 18446744073709551616
   pub from : fromOf w ≡ s .from
   pub to : toOf w ≡ s .to
-  pub number : numberIn w ≡ numberOf s es
+  pub number : numberKept w ≡ numberOf s es
   pub tracks : numberOf s es ≡ 0 → (pin : ℕ) → pin < 128 → Told s es pin (trackAt w pin)

@@ -6,7 +6,7 @@ use Prim.Native.Nat.{ℕ, zero, suc, _+_, _-_, _*_, _/_, _%_, _^_, _<_}
 use lib.Dec.{eqb, ltb}
 use lib.ListN.{getD}
 use Rattle.book.specs.Book.{Entry, Lent, places}
-use Rattle.book.specs.Level.{levelAt, highs}
+use Rattle.book.specs.Level.{entriesFrom, levelAt, highs}
 
 -- "every pin's level before the first entry (four 32-bit words ..) and cycles from and to"
 pub record Shift : Type 0 where
@@ -18,19 +18,13 @@ abbrev pub shift : List ℕ → ℕ → ℕ → Shift
 shift words from to = record { words = words; from = from; to = to }
 
 -- "pin i at bit i mod 32 of word i div 32"
-unfoldable pub levelOf : List ℕ → ℕ → ℕ
-levelOf words pin = getD words (pin / 32) 0 / 2 ^ (pin % 32) % 2
+unfoldable pub levelBit : List ℕ → ℕ → ℕ
+levelBit words pin = getD words (pin / 32) 0 / 2 ^ (pin % 32) % 2
 
 abbrev pub levelBefore : Shift → ℕ → ℕ
-levelBefore s pin = levelOf (s .words) pin
+levelBefore s pin = levelBit (s .words) pin
 
 -- ---- "Given the joined book": its entries, as many as its shortest slice has places
-
--- n entries from place i on
-unfoldable pub entriesFrom : ℕ → ℕ → Lent → List Entry
-entriesFrom i zero u = []
-entriesFrom i (suc n) u =
-    record { pin = getD (u .pins) i 0; level = getD (u .levels) i 0; cycle = getD (u .cycles) i 0 } ∷ entriesFrom (suc i) n u
 
 abbrev pub entriesIn : Lent → List Entry
 entriesIn u = entriesFrom 0 (places u) u
@@ -84,12 +78,12 @@ cycleBefore pin [] c = c
 cycleBefore pin (e ∷ es) c = cycleBefore pin es (cond (eqb (e .pin) pin) (e .cycle) c)
 
 -- "an entry's cycle is below that of its pin's entry before it, or its pin is above 127 or its level above 1"
-abbrev pub astray : List Entry → Entry → Bool
-astray before e = ltb 127 (e .pin) || (ltb 1 (e .level) || ltb (e .cycle) (cycleBefore (e .pin) before 0))
+abbrev pub misplaced : List Entry → Entry → Bool
+misplaced before e = ltb 127 (e .pin) || (ltb 1 (e .level) || ltb (e .cycle) (cycleBefore (e .pin) before 0))
 
 unfoldable pub outOfOrder : List Entry → List Entry → Bool
 outOfOrder before [] = false
-outOfOrder before (e ∷ es) = astray before e || outOfOrder (before ++ (e ∷ [])) es
+outOfOrder before (e ∷ es) = misplaced before e || outOfOrder (before ++ (e ∷ [])) es
 
 -- "9 'shift reversed' when to is below from, then 10 'book out of order'", "the only refusals here"
 unfoldable pub numberOf : Shift → List Entry → ℕ

@@ -8,8 +8,8 @@ ghost use lib.Dec.{eqb, ltb};
 ghost use lib.Count.{ones};
 ghost use lib.ListN.{length};
 ghost use Rattle.book.specs.Book.{Entry, slices};
-ghost use Rattle.shift.specs.Shift.{Shift, shift, levelOf, entriesIn, Reports};
-ghost use Rattle.shift.specs.Kept.{counts, turnedHigh, moreEdges, took, trackAt, putTrack, freshTrack, Fresh, numberIn, numberGiven, entered, fed, putFigures, Written, highTracks, Ended, Stands};
+ghost use Rattle.shift.specs.Shift.{Shift, shift, levelBit, entriesIn, Reports};
+ghost use Rattle.shift.specs.Kept.{counts, turnedHigh, moreEdges, took, trackAt, putTrack, freshTrack, Fresh, numberKept, numberGiven, entered, fed, putFigures, Written, highTracks, Ended, Stands};
 
 // The kept words: four a pin, from, to, the number.
 const FROM: usize = 512;
@@ -179,7 +179,7 @@ fn enter(kept: &mut [u64; KEPT], pin: u8, level: u8, cycle: u64)
 // A pin's bit of the four level words.
 fn level_of(words: &[u32; 4], pin: usize) -> u64
     requires { ⌜ pin < 128 ⌝ }
-    ensures { λ r. ⌜ r ≡ levelOf (now (words .entry)) pin ⌝ }
+    ensures { λ r. ⌜ r ≡ levelBit (now (words .entry)) pin ⌝ }
 {
     let k = pin / 32;
     ((words[k] >> (pin % 32)) % 2) as u64
@@ -315,7 +315,7 @@ fn high_pins(kept: &[u64; KEPT]) -> u32
 
 // 0, 9, or 10 for anything else.
 fn number_of(kept: &[u64; KEPT]) -> u32
-    ensures { λ r. ⌜ r ≡ numberGiven (numberIn (now (kept .entry))) ⌝ }
+    ensures { λ r. ⌜ r ≡ numberGiven (numberKept (now (kept .entry))) ⌝ }
 {
     let n = kept[NUMBER];
     if n == 0 {

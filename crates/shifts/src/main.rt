@@ -5,7 +5,6 @@ use shift::FIGURES;
 use shift::KEPT;
 use text::Number;
 use text::Reading;
-use text::Written;
 
 // Places of the state: the number of the line; whether a comment runs, a carriage return waits, a word runs.
 const LINE: usize = 0;
@@ -343,46 +342,30 @@ fn pass(part: &[u8], state: &mut [u64; STATE], first: &mut [u64; 6], kept: &mut 
 
 // ---- the report as text
 
-fn put(out: &mut [u8; OUT], n: usize, b: u8) -> usize {
-    if n < OUT {
-        out[n] = b;
-        return n + 1;
-    }
-    n
-}
-
-fn number(out: &mut [u8; OUT], n: usize, x: u64) -> usize {
-    let w = text::write_number(x, out, n);
-    match w {
-        Written::To(m) => m,
-        Written::NoRoom => n,
-    }
-}
-
 // `PIN HIGH LOW EDGES`: 128 lines of at most 67 bytes, which the buffer holds.
 fn pin_line(out: &mut [u8; OUT], n: usize, pin: usize, figures: &[u64; FIGURES]) -> usize {
     if 128 <= pin {
         return n;
     }
     let at = 3 * pin;
-    let a = number(out, n, pin as u64);
-    let b = put(out, a, b' ');
-    let c = number(out, b, figures[at]);
-    let d = put(out, c, b' ');
-    let e = number(out, d, figures[at + 1]);
-    let f = put(out, e, b' ');
-    let g = number(out, f, figures[at + 2]);
-    put(out, g, b'\n')
+    let a = reply::number(out, n, pin as u64);
+    let b = reply::put(out, a, b' ');
+    let c = reply::number(out, b, figures[at]);
+    let d = reply::put(out, c, b' ');
+    let e = reply::number(out, d, figures[at + 1]);
+    let f = reply::put(out, e, b' ');
+    let g = reply::number(out, f, figures[at + 2]);
+    reply::put(out, g, b'\n')
 }
 
 // `NUMBER HIGH`, and where NUMBER is 0 a line for each pin.
 fn report(kept: &[u64; KEPT], out: &mut [u8; OUT]) -> usize {
     let mut figures = [0u64; FIGURES];
     let r = shift::shift_end(kept, &mut figures);
-    let a = number(out, 0, r.number as u64);
-    let b = put(out, a, b' ');
-    let c = number(out, b, r.high as u64);
-    let mut n = put(out, c, b'\n');
+    let a = reply::number(out, 0, r.number as u64);
+    let b = reply::put(out, a, b' ');
+    let c = reply::number(out, b, r.high as u64);
+    let mut n = reply::put(out, c, b'\n');
     let mut pin = 0;
     while pin < 128 {
         if r.number == 0 {

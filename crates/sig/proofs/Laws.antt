@@ -5,7 +5,7 @@ use mathlib.Core.List.{List, [], _∷_, map}
 use Prim.Native.Nat.{ℕ, _/_, _≤_, _<_}
 use native.Mathlib.Omega.{arith}
 use borrow.Author.Tests.{le-leb, lt-leb}
-use Rattle.sig.specs.Signal.{nsig, none, uarts, timSignal, isUart, isInput}
+use Rattle.sig.specs.Signal.{nsig, noSignal, uarts, timSignal, isUart, isInput}
 
 -- the channels of timers 2 to 4 have signals below the number of signals
 pub tim-lt : (n c : ℕ) → 2 ≤ n → n ≤ 4 → c < 4 → timSignal n c < nsig
@@ -24,7 +24,7 @@ tim-no-uart n c k h =
 pub tim-no-input : (n c : ℕ) → c < 4 → isInput (timSignal n c) ≡ false
 tim-no-input n c h = tim-no-uart n c 1 h
 
-pub tim-not-none : (n c : ℕ) → timSignal n c ≡ none → ⊥
+pub tim-not-none : (n c : ℕ) → timSignal n c ≡ noSignal → ⊥
 tim-not-none n c e = omega arith
 
 -- document 01's figures of signals: a timer and a channel beside the expected signal

@@ -7,8 +7,8 @@ use lib.Dec.{leb, eqb}
 abbrev pub nsig : ℕ
 nsig = 256
 
-abbrev pub none : ℕ
-none = 0
+abbrev pub noSignal : ℕ
+noSignal = 0
 
 abbrev pub uarts : ℕ
 uarts = 9

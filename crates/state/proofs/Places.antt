@@ -12,7 +12,7 @@ use lib.Seq.{getD-drop, getD-set-same}
 use lib.Ieee.{Float, nan}
 use Rattle.nvic.specs.Nvic.{lineOf, lineAt}
 use Rattle.nvic.proofs.Laws.{word-at}
-use Rattle.scheduler.specs.Booking.{book}
+use Rattle.scheduler.specs.Booking.{rebook}
 use Rattle.gpio.specs.declared.Gpio.{Gpio}
 use Rattle.codec.specs.Codec.{decodeTimer}
 use Rattle.codec.specs.Pin.{decodeGpio}
@@ -76,7 +76,7 @@ module _ (w : List ℕ) (x : List Float) where
   booking-all = part-front 0 sizes 5 w (lit≤ tt)
 
   -- the word of an owner in the table that its booking leaves
-  pub booked-word : (m next : List ℕ) (owner cycle : ℕ) → owner < 8 → m ≡ view w x .booking → next ≡ book m owner cycle → getD next owner 0 ≡ cycle
+  pub booked-word : (m next : List ℕ) (owner cycle : ℕ) → owner < 8 → m ≡ view w x .booking → next ≡ rebook m owner cycle → getD next owner 0 ≡ cycle
   booked-word m next owner cycle h e f =
       ap (λ (l : List ℕ). getD l owner 0) f ∙ getD-set-same m owner cycle 0 (omega (arith, ap length (e ∙ booking-all), length-front 0 8 (drop 340 w)))
 

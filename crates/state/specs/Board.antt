@@ -8,7 +8,7 @@ use Rattle.tim.specs.declared.Inst.{Inst}
 use Rattle.gpio.specs.declared.Gpio.{Gpio}
 use Rattle.clk.specs.declared.ClockTree.{ClockTree}
 use Rattle.pins.specs.declared.ClockModel.{ClockModel}
-use Rattle.scheduler.specs.Booking.{cycleOf, book}
+use Rattle.scheduler.specs.Booking.{cycleOf, rebook}
 use Rattle.machine.specs.Board.{Board, Counts, gpioAt, routeOf, levelOf, withGpio, withRoute, withSigLevel, withBooking, withNvic, withPads, withClocks}
 
 -- ---- the pin and the numbers at a place
@@ -41,7 +41,7 @@ withInst t k = record { inst = k; regs = t .regs; chan = t .chan; count = t .cou
 
 -- owner booked at a cycle
 abbrev pub bookingSet : Board → ℕ → ℕ → Board
-bookingSet b owner cycle = withBooking b (book (b .booking) owner cycle)
+bookingSet b owner cycle = withBooking b (rebook (b .booking) owner cycle)
 
 abbrev pub withCounts : Board → Counts → Board
 withCounts b c = record { timers = b .timers; booking = b .booking; nvic = b .nvic; pads = b .pads; clocks = b .clocks; counts = c }

@@ -45,3 +45,8 @@ nextSteps t = consider t 3 (consider t 2 (consider t 1 (consider t 0 (record { s
 unfoldable pub nextEvent : Timer → Due
 nextEvent t =
     cond (t .count .running) (At (t .count .base + nextSteps t .steps * t .count .tick) (nextSteps t .next)) Stopped
+
+-- the next event is due by a cycle; a stopped timer has none
+abbrev pub dueBy : Due → ℕ → Bool
+dueBy (At at e) now = leb at now
+dueBy Stopped now = false

@@ -26,16 +26,17 @@ use Rattle.machine.specs.Call.{Outcome}
 use Rattle.machine.specs.Step.{deliveredTo, step, boardAfter}
 use Rattle.machine.specs.Step as Step
 use Rattle.machine.specs.Sound.{Sound}
+use Rattle.machine.specs.Demand1.{reached}
 use Rattle.machine.proofs.Routing.{by-test}
 use Rattle.machine.proofs.Reach.{sound-step, sound-after}
 use Rattle.accuracy.specs.Claim.{joined}
 use Rattle.follows.specs.Seen as S
 use Rattle.follows.specs.Follows.{Call, Delivered}
-use Rattle.boards.specs.Boards.{divOf, after, Lent, deliveries, last}
+use Rattle.boards.specs.Boards.{divOf, Delivery, deliveries, last}
 use Rattle.boards.proofs.Stepped.{delivered-timer}
 use Rattle.boards.proofs.More.{by-call, delivered-keeps, inst-delivered}
-use Rattle.waves.specs.Waves.{shown, Pilot, recorded, StepWaves}
-use Rattle.waves.proofs.Waved.{due, Told, all-told, s, q, fs, told, applied-same, due-same, nothing-left, rest, wave, begins}
+use Rattle.waves.specs.Waves.{shown, DrivenPin, entriesMade, StepWaves}
+use Rattle.waves.proofs.Waved.{due, Told, all-told, s, q, fs, told, applied-same, nothing-left, rest, wave, begins}
 
 module _ (t₀ : Timer) (div a ch pin : ℕ) (call : Call t₀ div a) (quiet : Delivered t₀ a) (four : ch < 4) (l₀ : ℕ) where
   abbrev Has : ℕ → Timer → Pads → List Entry → ℕ → Type 0
@@ -85,11 +86,11 @@ module _ (t₀ : Timer) (div a ch pin : ℕ) (call : Call t₀ div a) (quiet : D
   unfolding run
   run-ran zero now left k t p es x o le =
       ended now k t p es x (cond (dueBy (nextEvent t) now) 8 0) o le
-      (λ z. sym (due-same t₀ div a ch pin call quiet four l₀ (nextEvent t) now) ∙ nothing-left t₀ div a ch pin call quiet four l₀ (dueBy (nextEvent t) now) z)
+      (λ z. nothing-left t₀ div a ch pin call quiet four l₀ (dueBy (nextEvent t) now) z)
   run-ran (suc f) now left k t p es x o le =
       by-test (Ran now es) (dueBy (nextEvent t) now)
       (λ e. by-test (Ran now es) (ltb left 4) (λ l. ended now k t p es x 8 o le (λ z. absurd (omega arith))) (λ l. step-ran f now left k t p es x o e (run-ran f now)))
-      (λ e. ended now k t p es x 0 o le (λ z. sym (due-same t₀ div a ch pin call quiet four l₀ (nextEvent t) now) ∙ e))
+      (λ e. ended now k t p es x 0 o le (λ z. e))
 
   -- ---- of `step`
 
@@ -147,11 +148,11 @@ module _ (t₀ : Timer) (div a ch pin : ℕ) (call : Call t₀ div a) (quiet : D
           cycle (ran .none-due (sym (number-same b cycle places) ∙ z)) y from le′)
 
     module _ (cycle places : ℕ) where
-      abbrev end : Board → List Lent → Outcome
+      abbrev end : Board → List Delivery → Outcome
       end b ds = step (boardAfter b (deliveries i ds)) (C.deliver i cycle places)
 
       -- the record from here on has the machine's level
-      abbrev Shown : Board → List Entry → List Lent → Type 0
+      abbrev Shown : Board → List Entry → List Delivery → Type 0
       Shown b es ds = end b ds .number ≡ 0 → (y : ℕ) → a ≤ y → y ≤ cycle
           → levelAt pin (es ++ (joined (Step.run b (deliveries i ds)) ++ end b ds .entries)) l₀ y ≡ wave t₀ div a ch pin call quiet four l₀ y
 
@@ -161,7 +162,7 @@ module _ (t₀ : Timer) (div a ch pin : ℕ) (call : Call t₀ div a) (quiet : D
           by-call b i cycle places (λ (x : Outcome). x .number ≡ 0 → (y : ℕ) → a ≤ y → y ≤ cycle → levelAt pin (es ++ x .entries) l₀ y ≡ wave t₀ div a ch pin call quiet four l₀ y)
           (λ n ne z. absurd (ne z)) (λ le. shown-all b sound l es o cycle places le)
 
-      all-shown : (ds : List Lent) (b : Board) → Sound b → i < b .counts .timers → (es : List Entry) → Kept b es → Shown b es ds
+      all-shown : (ds : List Delivery) (b : Board) → Sound b → i < b .counts .timers → (es : List Entry) → Kept b es → Shown b es ds
       unfolding boardAfter Step.run joined
       all-shown [] b sound l es o = last-shown b sound l es o
       all-shown (d ∷ ds) b sound l es o =
@@ -183,6 +184,6 @@ module _ (t₀ : Timer) (div a ch pin : ℕ) (call : Call t₀ div a) (quiet : D
 
 pub step-waves : StepWaves
 step-waves cs i a ch pin ds cycle places l from o z c lo hi =
-    let b = after cs in
+    let b = reached cs in
     all-shown (timerAt b i) (divOf b i) a ch pin (o .call) (o .quiet) (o .channel) (shown (b .pads) pin) i cycle places ds b (sound-after cs) l []
     (record { count = 0; at = a; has = begins (timerAt b i) (divOf b i) a ch pin (b .pads) o; by-last = from; div-is = refl }) z c lo hi

@@ -41,7 +41,7 @@ use Rattle.follows.specs.Follows.{Call, Delivered, between}
 use Rattle.follows.proofs.Theorem.{follows}
 use Rattle.follows.proofs.Delivered.{steady}
 use Rattle.follows.proofs.Lasting.{left-updated, left-compared, updated-within}
-use Rattle.waves.specs.Waves.{onward, Settled, shown, Pilot, Waves}
+use Rattle.waves.specs.Waves.{onward, Settled, shown, DrivenPin, Waves}
 use Rattle.waves.proofs.Settled.{compare-count, settled-compared, settled-after, later}
 
 -- the event's own cycle
@@ -177,7 +177,7 @@ module _ (t₀ : Timer) (div a ch pin : ℕ) (call : Call t₀ div a) (quiet : D
         ∙ ap (λ (s : M.Timer). bit (level s ch)) (sym (follows .deliveries k t₀ div a c call (le-trans (o .from) le) quiet (subst (λ (u : Timer). Delivered u c) (sym e) d) tt ∙ ap (λ (u : Timer). seen u div c) e))
 
     not-yet : t .count .running ≡ true → (c : ℕ) → c < due t → Delivered t c
-    not-yet r c l = ap (λ (d : Due). S.dueBy d c) (event-runs t r) ∙ lt-leb (due t) c l
+    not-yet r c l = ap (λ (d : Due). dueBy d c) (event-runs t r) ∙ lt-leb (due t) c l
 
     -- at the end
     pub all-told : (now : ℕ) → Delivered t now → (c : ℕ) → a ≤ c → c ≤ now → levelAt pin es l₀ c ≡ wave c
@@ -187,8 +187,8 @@ module _ (t₀ : Timer) (div a ch pin : ℕ) (call : Call t₀ div a) (quiet : D
         earlier = by (t .count .running) refl
           where
             by : (b : Bool) → t .count .running ≡ b → Delivered t c
-            by false r = ap (λ (e : Due). S.dueBy e c) (event-stopped t r)
-            by true r = not-yet r c (omega (arith, leb-false (due t) now (ap (λ (e : Due). S.dueBy e now) (sym (event-runs t r)) ∙ d)))
+            by false r = ap (λ (e : Due). dueBy e c) (event-stopped t r)
+            by true r = not-yet r c (omega (arith, leb-false (due t) now (ap (λ (e : Due). dueBy e now) (sym (event-runs t r)) ∙ d)))
 
         go : (b : Bool) → ltb c x ≡ b → levelAt pin es l₀ c ≡ wave c
         go true e = o .past c from (ltb-true c x e)
@@ -220,7 +220,7 @@ module _ (t₀ : Timer) (div a ch pin : ℕ) (call : Call t₀ div a) (quiet : D
       unfolding S.deliver
       one-more n c l =
           let d : nextEvent t ≡ At (due t) e = event-runs t r ∙ ap (At (due t)) is in
-          ap (λ (y : Due). cond (S.dueBy y c) (S.deliver n c div (S.applied t div y)) t) d
+          ap (λ (y : Due). cond (dueBy y c) (S.deliver n c div (S.applied t div y)) t) d
           ∙ ap (λ (b : Bool). cond b (S.deliver n c div (S.applied t div (At (due t) e))) t) (le-leb (due t) c l)
 
       pub told : (applied-is : S.applied t div (At (due t) e) ≡ s) → Told (suc k) s q (es ++ fs) (due t)
@@ -257,10 +257,6 @@ module _ (t₀ : Timer) (div a ch pin : ℕ) (call : Call t₀ div a) (quiet : D
   applied-same t x Update = refl
   applied-same t x (Compare c) = refl
 
-  pub due-same : (d : Due) (c : ℕ) → dueBy d c ≡ S.dueBy d c
-  due-same (At x e) c = refl
-  due-same Stopped c = refl
-
   pub nothing-left : (b : Bool) → _≡_ {A = ℕ} (cond b 8 0) 0 → b ≡ false
   nothing-left true z = absurd (omega arith)
   nothing-left false z = refl
@@ -269,13 +265,13 @@ module _ (t₀ : Timer) (div a ch pin : ℕ) (call : Call t₀ div a) (quiet : D
   abbrev Record : ℕ → List Entry → Run → Type 0
   Record now es r = r .number ≡ 0 → (c : ℕ) → a ≤ c → c ≤ now → levelAt pin (es ++ r .entries) l₀ c ≡ wave c
 
-  ended : (now k : ℕ) (t : Timer) (p : Pads) (es : List Entry) (x n : ℕ) → Told k t p es x → (n ≡ 0 → S.dueBy (nextEvent t) now ≡ false) → Record now es (stop t p n)
+  ended : (now k : ℕ) (t : Timer) (p : Pads) (es : List Entry) (x n : ℕ) → Told k t p es x → (n ≡ 0 → dueBy (nextEvent t) now ≡ false) → Record now es (stop t p n)
   ended now k t p es x n o d z c from le = rw append-nil (all-told k t p es x o now (d z) c from le)
 
   -- what one event and the rest of a run leave
   abbrev pub rest : ℕ → ℕ → ℕ → Timer → Pads → Due → Run
   rest f now left t p d =
-      D.after (turnOf t p d div .entries) (run f now div (left - length (turnOf t p d div .entries)) (turnOf t p d div .timer) (turnOf t p d div .pads))
+      D.afterTurn (turnOf t p d div .entries) (run f now div (left - length (turnOf t p d div .entries)) (turnOf t p d div .timer) (turnOf t p d div .pads))
 
   next-told : (f now left k : ℕ) (t : Timer) (p : Pads) (es : List Entry) (x : ℕ) → Told k t p es x → t .count .running ≡ true
       → ((left′ k′ : ℕ) (t′ : Timer) (p′ : Pads) (es′ : List Entry) (x′ : ℕ) → Told k′ t′ p′ es′ x′ → Record now es′ (run f now div left′ t′ p′))
@@ -298,12 +294,12 @@ module _ (t₀ : Timer) (div a ch pin : ℕ) (call : Call t₀ div a) (quiet : D
   run-told : (f now left k : ℕ) (t : Timer) (p : Pads) (es : List Entry) (x : ℕ) → Told k t p es x → Record now es (run f now div left t p)
   unfolding run
   run-told zero now left k t p es x o =
-      ended now k t p es x (cond (dueBy (nextEvent t) now) 8 0) o (λ z. sym (due-same (nextEvent t) now) ∙ nothing-left (dueBy (nextEvent t) now) z)
+      ended now k t p es x (cond (dueBy (nextEvent t) now) 8 0) o (λ z. nothing-left (dueBy (nextEvent t) now) z)
   run-told (suc f) now left k t p es x o =
       by-test (Record now es) (dueBy (nextEvent t) now)
       (λ e. by-test (Record now es) (ltb left 4) (λ l. ended now k t p es x 8 o (λ z. absurd (omega arith)))
       (λ l. step-of f now left k t p es x o e (λ left′ k′ t′ p′ es′ x′ o′. run-told f now left′ k′ t′ p′ es′ x′ o′)))
-      (λ e. ended now k t p es x 0 o (λ z. sym (due-same (nextEvent t) now) ∙ e))
+      (λ e. ended now k t p es x 0 o (λ z. e))
 
 -- ---- the statement
 
@@ -317,7 +313,7 @@ unfolding levelAt
 level-none pin l c = refl
 
 -- at cycle a, before any event
-pub begins : (t : Timer) (div a ch pin : ℕ) (p : Pads) (o : Pilot t div a ch pin p) → Told t div a ch pin (o .call) (o .quiet) (o .channel) (shown p pin) 0 t p [] a
+pub begins : (t : Timer) (div a ch pin : ℕ) (p : Pads) (o : DrivenPin t div a ch pin p) → Told t div a ch pin (o .call) (o .quiet) (o .channel) (shown p pin) 0 t p [] a
 begins t div a ch pin p o = record {
   goes = record {
     left = record { timed = o .call .timed; based = o .call .came };
@@ -339,7 +335,7 @@ begins t div a ch pin p o = record {
 }
   where
     early : t .count .running ≡ true → a < due t
-    early r = leb-false (due t) a (ap (λ (d : Due). S.dueBy d a) (sym (event-runs t r)) ∙ o .quiet)
+    early r = leb-false (due t) a (ap (λ (d : Due). dueBy d a) (sym (event-runs t r)) ∙ o .quiet)
 
     few : a < due t → clocksAt t div a / per t ≤ nextSteps t .steps
     few l =

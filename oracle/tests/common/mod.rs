@@ -31,3 +31,25 @@ enable 3 1 # 0
 pub fn with(list: &str) -> String {
     format!("{BOARD}write 0 0x2c 4 9 0 4 # 0\n{list}")
 }
+
+/// The numbers that each call can give, all of which the lists have to show.
+pub const NUMBERS: [(&str, &[u8]); 18] = [
+    ("setup", &[0, 1, 4]),
+    ("clock", &[0, 4, 5]),
+    ("enable", &[0, 2]),
+    ("pin", &[0, 2, 5, 6, 11]),
+    ("drive", &[0, 2, 5, 6]),
+    ("reset-pins", &[0, 5, 6]),
+    ("read", &[0, 2, 3, 5]),
+    ("write", &[0, 2, 3, 5, 6, 7]),
+    ("peek", &[0, 2, 5]),
+    ("reset", &[0, 2, 5, 6]),
+    ("deliver", &[0, 2, 5, 6, 8]),
+    ("booked", &[0, 2]),
+    ("next", &[0]),
+    ("level", &[0, 2]),
+    ("volts", &[0, 2]),
+    ("line", &[0]),
+    ("time", &[0, 5]),
+    ("clear", &[0]),
+];

@@ -1,7 +1,7 @@
--- Two parts of the words, and the number as an answer.
+-- Two parts of the words.
 use borrow.Author.Needs.{needs}
 use native.Mathlib.Omega.{arith}
-use Rattle.calls.proofs.Laws.{answers-as, set-up-is, set-up-answers}
+use Rattle.calls.proofs.Laws.{answers-as, set-up-is}
 use Rattle.calls.proofs.set_up.Statement.{statement}
 use Rattle.calls.proofs.set_up.Tie as tie
 
@@ -30,12 +30,11 @@ part-table-end : tie.Need-part-table-end
 part-table-end c = omega (arith, c .before .before .before .word3 .ensures, c .before .before .word4 .ensures, c .before .before .before .before .before .before .before .before .before .pre)
 
 returns : tie.Need-returns
-returns c = answers-as _ _ (set-up-is (c .before .before .before .before .before .before .before .before .before .before .before .before .before .args .calls .now) _ _ _ _ _ _ _ (c .before .before .before .before .before .before .before .before .before .before .before .real64 .ensures) (c .before .before .before .before .before .before .before .before .before .before .real642 .ensures) (c .before .before .before .before .before .before .before .before .before .word .ensures) (c .before .before .before .before .before .before .before .before .word2 .ensures) (c .before .before .before .before .before .before .before .word3 .ensures) (c .before .before .before .before .before .before .word4 .ensures) (c .before .before .before .before .before .word5 .ensures)) _ _ _ _ _ _ (set-up-answers _ _ _ _ _ _ (c .set-up .ensures))
+returns c = answers-as _ _ (set-up-is (c .before .before .before .before .before .before .before .before .before .before .before .before .before .args .calls .now) _ _ _ _ _ _ _ (c .before .before .before .before .before .before .before .before .before .before .before .real64 .ensures) (c .before .before .before .before .before .before .before .before .before .before .real642 .ensures) (c .before .before .before .before .before .before .before .before .before .word .ensures) (c .before .before .before .before .before .before .before .before .word2 .ensures) (c .before .before .before .before .before .before .before .word3 .ensures) (c .before .before .before .before .before .before .word4 .ensures) (c .before .before .before .before .before .word5 .ensures)) _ _ _ _ _ _ (c .set-up .ensures)
 
 pub set-up-spec : {M : Type 1} → statement M
 set-up-spec =
     tie.close
     (tie.spec (λ c κs. search needs) (λ c κs. search needs) (λ c κs. search needs) (λ c κs. search needs) (λ c κs. search needs) (λ c κs. search needs)
     (λ c κs. search needs) (λ c. search needs) (λ c. search needs) add-start (λ c. search needs) add-end sub-timers
-    part-timers-start part-timers-end (λ c. search needs) sub-table part-table-start part-table-end (λ c κs. search needs)
-    (λ c. search needs) returns)
+    part-timers-start part-timers-end (λ c. search needs) sub-table part-table-start part-table-end (λ c κs. search needs) returns)

@@ -41,7 +41,7 @@ use denote.Triple.Table.{entered, cited}
 use denote.Triple.Walked.{says, needs, Stays, stay-none, walkOf, goes-none, Walks, ends-at, walked, walk-meets}
 use denote.Exit.{yes}
 use Rattle.scheduler.specs.declared.Scheduler.{Scheduler}
-use Rattle.scheduler.specs.Booking.{holding, book}
+use Rattle.scheduler.specs.Booking.{holding, rebook}
 use Rattle.scheduler.proofs.Made.{R, AR, gone, tableVal, v, x, Of, goes-gone, to-of, goes-of, said-of, All, to-all, goes-all, said-all}
 use Rattle.scheduler.proofs.Scheduler as T
 use Rattle.scheduler.proofs.Scheduler.Laws as T′
@@ -70,7 +70,7 @@ abbrev Callee : {M : Type 1} (𝓤 : URA M) (H : Heap 𝓤) (A : Atoms 𝓤) (me
 Callee 𝓤 H A mem′ run = tripleOf 𝓤 H A callee.signature (callee.spec 𝓤 H A mem′ run)
 
 -- from the three contracts to the result
-chain : (xs : List ℕ) (owner cycle : ℕ) (r₁ r₂ : Scheduler) (r : List ℕ) → r₁ ≡ holding xs → r₂ ≡ holding (book (r₁ .cycles) owner cycle) → r ≡ r₂ .cycles → r ≡ book xs owner cycle
+chain : (xs : List ℕ) (owner cycle : ℕ) (r₁ r₂ : Scheduler) (r : List ℕ) → r₁ ≡ holding xs → r₂ ≡ holding (rebook (r₁ .cycles) owner cycle) → r ≡ r₂ .cycles → r ≡ rebook xs owner cycle
 chain xs owner cycle r₁ r₂ r e₁ e₂ e₃ = cc
 
 module _ {M : Type 1} (𝓤 : URA M) (H : Heap 𝓤) (A : Atoms 𝓤) (W : Given 𝓤 H A) (at-mem : Memory → SProp 𝓤) (run : Routine → Fun 𝓤) (xs : List ℕ) (owner cycle : ℕ) (xs-is : Is AR xs (array-vals (uint-vals w64) xs)) (owner-fits : owner < 2 ^ 64) (cycle-fits : cycle < 2 ^ 64) where
@@ -88,7 +88,7 @@ module _ {M : Type 1} (𝓤 : URA M) (H : Heap 𝓤) (A : Atoms 𝓤) (W : Given
 
   -- what `at` says of the struct's last value
   abbrev Ensures : Scheduler → Scheduler → Type 0
-  Ensures h r = r ≡ holding (book (h .cycles) owner cycle)
+  Ensures h r = r ≡ holding (rebook (h .cycles) owner cycle)
 
   -- the local lent for the lifetime α under the name δ, at h
   abbrev Lent : ℕ → ℕ → GName → Scheduler → Fml
@@ -102,7 +102,7 @@ module _ {M : Type 1} (𝓤 : URA M) (H : Heap 𝓤) (A : Atoms 𝓤) (W : Given
       qed W (‵ (flft (α ∷ []) fullShare) ∷ ‵ (Lent l α δ h) ∷ []) ∵ says ! within $ nothing ! $ move ! (1 ∷ 0 ∷ []) $ join ! $ frame ! $
       nothing ! $ owned ! u64 (Is u64) (uint-makes 𝓤 H A W w64) cycle _ (refl, cycle-fits) $ fjoin ! $ owned ! usize (Is usize) (uint-makes 𝓤 H A W w64) owner _ (refl, owner-fits) $ fjoin ! $ move ! (1 ∷ 0 ∷ []) $ fjoin ! $ done !
 
-  exits : (r : List ℕ) (w : Val) → r ≡ book xs owner cycle → ent 𝓤 (sem 𝓤 H A (AR .own r (w ∷ []))) (Post w)
+  exits : (r : List ℕ) (w : Val) → r ≡ rebook xs owner cycle → ent 𝓤 (sem 𝓤 H A (AR .own r (w ∷ []))) (Post w)
   exits r w e =
       qed W (‵ (AR .own r (w ∷ [])) ∷ []) ∵
       suffices ! _ (ends-at 𝓤 H A self.ended stayed (self.clauses 𝓤 H A at-mem run) W ((tt, tt, tt, a, vals), tt) w r (tt, (tt, (tt, tt))) (tt, (tt, (tt, tt)))) $ says ! e $

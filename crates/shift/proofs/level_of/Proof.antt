@@ -1,12 +1,12 @@
 -- By the definition.
 use mathlib.Core.Path.{refl}
-use Rattle.shift.specs.Shift.{levelOf}
+use Rattle.shift.specs.Shift.{levelBit}
 use borrow.Author.Needs.{needs}
 use Rattle.shift.proofs.level_of.Statement.{statement}
 use Rattle.shift.proofs.level_of.Tie as tie
 
 returns : tie.Need-returns
-unfolding levelOf
+unfolding levelBit
 returns c = refl
 
 pub level-of-spec : {M : Type 1} → statement M

@@ -4,7 +4,7 @@ use mathlib.Core.Path.{_≡_}
 use native.Mathlib.Omega.{arith}
 use borrow.Author.Needs.{needs}
 use Rattle.book.specs.Book.{slices}
-use Rattle.shift.specs.Shift.{entriesFrom}
+use Rattle.book.specs.Level.{entriesFrom}
 use Rattle.shift.specs.Kept.{fed}
 use Rattle.shift.proofs.Ending.{fed-begins, fed-more, fed-both}
 use Rattle.shift.proofs.shift_feed.Statement.{statement}

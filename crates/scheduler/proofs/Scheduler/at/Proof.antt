@@ -40,7 +40,7 @@ use denote.Triple.Table.{entered, cited}
 use denote.Triple.Walked.{says, needs, Stays, stay-ref, stay-none, walkOf, goes-none, goes-ref, Walks, ends-at, walked, walk-meets}
 use denote.Exit.{yes}
 use Rattle.scheduler.specs.declared.Scheduler.{Scheduler}
-use Rattle.scheduler.specs.Booking.{holding, book}
+use Rattle.scheduler.specs.Booking.{holding, rebook}
 use Rattle.scheduler.proofs.Scheduler as T
 use Rattle.scheduler.proofs.Scheduler.Laws as T′
 use Rattle.scheduler.proofs.Scheduler.booked as next
@@ -75,7 +75,7 @@ module _ {M : Type 1} (𝓤 : URA M) (H : Heap 𝓤) (A : Atoms 𝓤) (W : Given
   v₀ = LL.val T.the-type T′.the-laws h
 
   abbrev Ensures : Scheduler → Type 0
-  Ensures r = r ≡ holding (book (h .cycles) owner cycle)
+  Ensures r = r ≡ holding (rebook (h .cycles) owner cycle)
 
   abbrev Post : Val → SProp 𝓤
   Post = walkOf 𝓤 H A self.ended stayed (self.clauses 𝓤 H A at-mem run) .post (((κ, tt), (q, tt), tt, a, vals), tt)

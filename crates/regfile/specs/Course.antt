@@ -4,5 +4,5 @@ use Prim.Native.Nat.{ℕ, _/_, _%_}
 use lib.Dec.{eqb}
 
 -- CEN and DIR as they were
-abbrev pub steady : ℕ → ℕ → Bool
-steady old new = eqb (old % 2) (new % 2) && eqb (old / 16 % 2) (new / 16 % 2)
+abbrev pub sameCourse : ℕ → ℕ → Bool
+sameCourse old new = eqb (old % 2) (new % 2) && eqb (old / 16 % 2) (new / 16 % 2)
