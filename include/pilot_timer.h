@@ -1,5 +1,6 @@
 /*
- * The proved pilot timer from C: a board of timers and pins (libboard.a) and the duty report of a shift (libshift.a).
+ * The proved pilot timer from C: a board of timers and pins and a test desk's list of pilots (libboard.a), and the duty
+ * report of a shift (libshift.a).
  *
  *     rt staticlib board && rt staticlib shift
  *     cc -std=c11 -Iinclude program.c target/staticlib/libboard.a target/staticlib/libshift.a
