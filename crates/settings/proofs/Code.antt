@@ -1,0 +1,87 @@
+-- What the functions' own proofs cite.
+use mathlib.Core.Path.{_≡_, refl, sym, _∙_}
+use mathlib.Core.Bool.{Bool, true, false, cond, not, _||_}
+use mathlib.Core.List.{List, [], _∷_, _++_}
+use Prim.Native.Nat.{ℕ, _+_, _-_, _%_, _<_, _≤_}
+use native.Mathlib.Omega.{arith}
+use lib.Dec.{eqb, ltb}
+use lib.ListN.{length, take, drop}
+use borrow.Author.Tests.{lt-ltb, le-ltb, eq-eqb, ne-eqb}
+use Rattle.machine.specs.Refusals.{first}
+use Rattle.tim.specs.declared.Inst.{Inst}
+use Rattle.settings.specs.declared.Settings.{Settings}
+use Rattle.settings.specs.declared.Read.{Read}
+use Rattle.settings.specs.Record.{four, byteAt, fourAt, lengthOf, kindOf, encode, decode, wrongAdded, wrongSettings, good, readNumber, writeNumber, settingsOf, turnedAway, read, given, Writes}
+
+-- ---- the reader
+
+-- the mode is not asked
+pub good-same : (t : Inst) (x : Settings) → x ≡ settingsOf t
+    → good (given (x .number) (x .width) (x .channels) (x .bus) (x .word) (x .bit) (x .irq) 0) ≡ good t
+unfolding good
+good-same t x e = rw e
+
+pub settings-wrong : (s : List ℕ) (x : Settings) (g a : Bool) → x ≡ settingsOf (decode s)
+    → g ≡ good (given (x .number) (x .width) (x .channels) (x .bus) (x .word) (x .bit) (x .irq) 0) → a ≡ wrongAdded s
+    → (a || not g) ≡ wrongSettings s
+unfolding wrongSettings
+settings-wrong s x g a e f h = rw (h, f ∙ good-same (decode s) x e)
+
+pub read-refused : (latest n : ℕ) (s : List ℕ) (r : Read) → n ≡ readNumber latest s → (n ≡ 0 → ⊥) → r ≡ turnedAway n → r ≡ read latest s
+unfolding read
+read-refused latest n s r e ne q = q ∙ rw (sym e, ne-eqb n 0 ne)
+
+pub read-served : (latest n l : ℕ) (s : List ℕ) (x : Settings) → n ≡ readNumber latest s → n ≡ 0 → l ≡ lengthOf s → x ≡ settingsOf (decode s)
+    → (record { number = 0; count = 2 + l; timer = x }) ≡ read latest s
+unfolding read
+read-served latest n l s x e z f g = rw (sym e, z, f, g)
+
+-- ---- the writer
+
+module _ (number width channels bus word bit irq manual k : ℕ) (lent : List ℕ) (e : k ≡ cond (eqb manual 0) 1 2) where
+  t : Inst
+  t = given number width channels bus word bit irq manual
+
+  written : List ℕ
+  written =
+      (11 + k) ∷ 0 ∷ k ∷ 0 ∷ (number % 256) ∷ (width % 256) ∷ (channels % 256) ∷ ((bus - 1) % 256) ∷ (word % 256) ∷ (bit % 256) ∷ (four irq ++ (1 ∷ []))
+
+  record-size : length (encode t) ≡ 13 + k
+  unfolding encode
+  record-size = go (eqb manual 0) refl
+    where
+      go : (m : Bool) → eqb manual 0 ≡ m → length (encode t) ≡ 13 + k
+      go true h = rw (e, h)
+      go false h = rw (e, h)
+
+  record-bytes : take (13 + k) written ≡ encode t
+  unfolding encode
+  record-bytes = go (eqb manual 0) refl
+    where
+      go : (m : Bool) → eqb manual 0 ≡ m → take (13 + k) written ≡ encode t
+      go true h = rw (e, h)
+      go false h = rw (e, h)
+
+  mode-aside : good t ≡ good (given number width channels bus word bit irq 0)
+  unfolding good
+  mode-aside = refl
+
+  pub write-cut : length lent < 13 + k → Writes t lent lent (record { number = 13; count = 0 })
+  unfolding writeNumber first
+  write-cut h =
+      let n : writeNumber t (length lent) ≡ 13 = rw (record-size, lt-ltb (length lent) (13 + k) h) in
+      record { number = sym n; count = rw n; places = rw n }
+
+  pub write-bad : (g : Bool) → 13 + k ≤ length lent → g ≡ good (given number width channels bus word bit irq 0) → g ≡ false
+      → Writes t lent lent (record { number = 1; count = 0 })
+  unfolding writeNumber first
+  write-bad g h f b =
+      let n : writeNumber t (length lent) ≡ 1 = rw (record-size, le-ltb (length lent) (13 + k) h, mode-aside ∙ sym f ∙ b) in
+      record { number = sym n; count = rw n; places = rw n }
+
+  pub write-served : (g : Bool) (out bytes : List ℕ) → 13 + k ≤ length lent → g ≡ good (given number width channels bus word bit irq 0) → g ≡ true
+      → bytes ≡ written → out ≡ take (13 + k) bytes ++ drop (13 + k) lent → Writes t lent out (record { number = 0; count = 13 + k })
+  unfolding writeNumber first
+  write-served g out bytes h f b w o =
+      let n : writeNumber t (length lent) ≡ 0 = rw (record-size, le-ltb (length lent) (13 + k) h, mode-aside ∙ sym f ∙ b) in
+      record { number = sym n; count = rw n (sym record-size); places = rw (n, record-size) (o ∙ rw (w, record-bytes)) }
