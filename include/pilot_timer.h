@@ -69,7 +69,8 @@ enum pilot_number {
     PILOT_BACKLOG = 8,           /* a delivery stopped with an event still due: no refusal, what it did stands. Deliver again */
     PILOT_SHIFT_REVERSED = 9,    /* a shift whose end is below its beginning */
     PILOT_BOOK_OUT_OF_ORDER = 10, /* an entry before its pin's last one, or of a pin above 127 or a level above 1 */
-    PILOT_SOCKET_TAKEN = 11 /* a pin set to a signal that another pin routes; asked after 5 and before 6 */
+    PILOT_SOCKET_TAKEN = 11,      /* a pin set to a signal that another pin routes; asked after 5 and before 6 */
+    PILOT_TOO_WIDE = 12           /* small pilots up to a size above 7; no call of a board gives it, as none gives 9 or 10 */
 };
 
 /* What every call of a board answers; 16 bytes, in two registers. */
@@ -84,6 +85,16 @@ typedef struct pilot_summary {
     uint32_t number; /* 0, 9 or 10 */
     uint32_t high;   /* pins that are high at the end of the shift */
 } pilot_summary;
+
+/* A pilot's setting at a place of the list; 24 bytes, in memory that the caller of the function gives (C does this by itself). */
+typedef struct pilot_listed {
+    uint32_t number; /* 0 or 12 */
+    uint32_t reload;
+    uint32_t prescaler;
+    uint32_t compare;
+    uint32_t mode; /* 6 or 7; 0 past the end */
+    uint32_t down; /* 0 up, 1 down */
+} pilot_listed;
 
 /* Offsets of a timer's registers. */
 enum pilot_register {
@@ -202,6 +213,16 @@ pilot_answer board_time(const uint64_t words[PILOT_BOARD_WORDS], const double re
 
 /* Clears a pending interrupt. */
 pilot_answer board_clear_pending(uint64_t words[PILOT_BOARD_WORDS], const double reals[PILOT_BOARD_REALS], uint32_t irq);
+
+/* ---- every small pilot (document 02, F-9) */
+
+/*
+ * The setting at place k, from 0, of the pilots up to n: reload and prescaler 0 to n, compare 0 to n + 1, mode 6 or 7, up or down, ordered by reload, then
+ * prescaler, compare, mode, then up before down. There are 4 (n + 1) (n + 1) (n + 2); past the end all fields are 0, the mode too, and number
+ * is 0 as well. 12 for n above 7, whatever k is. It asks no board. Demand 3's bound speaks of those in mode 6 that count upward, every fourth; of
+ * mode 7 and of downward it says nothing.
+ */
+pilot_listed small_pilot(uint32_t n, uint32_t k);
 
 /* ---- the duty report of a shift */
 

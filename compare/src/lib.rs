@@ -3,6 +3,7 @@
 use std::io::{self, BufRead, Write};
 
 pub use oracle;
+use oracle::Line;
 
 pub mod duty;
 pub mod machine;
@@ -18,11 +19,12 @@ pub use shrink::report;
 pub fn run(input: impl BufRead, mut out: impl Write) -> io::Result<()> {
     let mut port = Port::new();
     for (i, line) in input.split(b'\n').enumerate() {
-        match oracle::calls::parse(&line?) {
-            Ok(Some(call)) => match port.call(&call) {
+        match oracle::calls::read(&line?) {
+            Ok(Some(Line::Call(call))) => match port.call(&call) {
                 Ok(answer) => writeln!(out, "{answer}")?,
                 Err(fault) => writeln!(out, "{fault}")?,
             },
+            Ok(Some(Line::Aside(aside))) => writeln!(out, "{}", port::aside(&aside))?,
             Ok(None) => {}
             Err(reason) => {
                 writeln!(out, "line {}: {reason}", i + 1)?;

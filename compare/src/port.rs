@@ -3,7 +3,7 @@
 use std::fmt::{self, Display, Formatter};
 
 use board::ffi::{self, Book, State};
-use oracle::{Answer, Call, Entry, Setup};
+use oracle::{Answer, Aside, Call, Entry, Setup};
 
 /// A book of this many places is as good as any larger one: 100,001 events of 4 entries each, and room for a next.
 pub const MOST: u64 = 400_008;
@@ -219,4 +219,14 @@ fn changes(call: &Call) -> bool {
         call,
         Call::Read { .. } | Call::Peek { .. } | Call::Booked { .. } | Call::Next | Call::Level { .. } | Call::Volts { .. } | Call::Line { .. } | Call::Time { .. }
     )
+}
+
+/// What the library answers to a line that asks the board nothing, as a line.
+pub fn aside(aside: &Aside) -> String {
+    match *aside {
+        Aside::Pilot { n, k } => match ffi::pilot(n, k) {
+            ffi::Listed { number: 0, reload, prescaler, compare, mode, down } => format!("0 0 0 {reload} {prescaler} {compare} {mode} {down}"),
+            refused => format!("{} 0 0", refused.number),
+        },
+    }
 }

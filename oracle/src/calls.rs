@@ -54,6 +54,20 @@ pub enum Call {
     Clear { irq: u32 },
 }
 
+/// A line that asks the board nothing and changes nothing.
+#[derive(Clone, Copy, Debug, PartialEq, Eq)]
+pub enum Aside {
+    /// The setting at place `k` of the pilots up to `n` (document 02, F-9).
+    Pilot { n: u32, k: u32 },
+}
+
+/// What a line is.
+#[derive(Clone, Debug, PartialEq, Eq)]
+pub enum Line {
+    Call(Call),
+    Aside(Aside),
+}
+
 /// One entry of the book.
 #[derive(Clone, Copy, Debug, PartialEq, Eq)]
 pub struct Entry {
@@ -130,6 +144,22 @@ impl<'a, I: Iterator<Item = &'a [u8]>> Words<'a, I> {
         Ok(self.at_most(u32::MAX as u64)?.ok_or(Malformed::Missing)? as u32)
     }
 
+    /// The line's end.
+    fn end(&mut self, line: Line) -> Result<Option<Line>, Malformed> {
+        match self.0.next() {
+            Some(_) => Err(Malformed::Surplus),
+            None => Ok(Some(line)),
+        }
+    }
+
+    /// What asks the board nothing; `None` for any other word.
+    fn aside(&mut self, first: &[u8]) -> Result<Option<Aside>, Malformed> {
+        Ok(Some(match first {
+            b"pilot" => Aside::Pilot { n: self.short()?, k: self.short()? },
+            _ => return Ok(None),
+        }))
+    }
+
     fn timer(&mut self) -> Result<TimerSpec, Malformed> {
         Ok(TimerSpec {
             number: self.short()?,
@@ -173,13 +203,24 @@ impl<'a, I: Iterator<Item = &'a [u8]>> Words<'a, I> {
     }
 }
 
-/// Parses a line without its line end: a call, or `None` if the line has no word.
+/// Parses a line without its line end: a call, or `None` if the line has no word or asks the board nothing.
 pub fn parse(line: &[u8]) -> Result<Option<Call>, Malformed> {
+    Ok(match read(line)? {
+        Some(Line::Call(call)) => Some(call),
+        _ => None,
+    })
+}
+
+/// Parses a line without its line end: what it is, or `None` if it has no word.
+pub fn read(line: &[u8]) -> Result<Option<Line>, Malformed> {
     let line = line.strip_suffix(b"\r").unwrap_or(line);
     let line = &line[..line.iter().position(|&b| b == b'#').unwrap_or(line.len())];
     let mut words = line.split(|&b| b == b' ' || b == b'\t').filter(|w| !w.is_empty());
     let Some(first) = words.next() else { return Ok(None) };
     let mut w = Words(words);
+    if let Some(aside) = w.aside(first)? {
+        return w.end(Line::Aside(aside));
+    }
     // The fields are read in the order written here, which is the line's.
     let call = match first {
         b"setup" => Call::Setup(w.setup()?),
@@ -225,10 +266,7 @@ pub fn parse(line: &[u8]) -> Result<Option<Call>, Malformed> {
         b"clear" => Call::Clear { irq: w.short()? },
         _ => return Err(Malformed::UnknownWord),
     };
-    match w.0.next() {
-        Some(_) => Err(Malformed::Surplus),
-        None => Ok(Some(call)),
-    }
+    w.end(Line::Call(call))
 }
 
 impl Display for Setup {
@@ -266,6 +304,14 @@ impl Display for Call {
             Call::Line { irq } => write!(f, "line {irq}"),
             Call::Time { cycle } => write!(f, "time {cycle}"),
             Call::Clear { irq } => write!(f, "clear {irq}"),
+        }
+    }
+}
+
+impl Display for Aside {
+    fn fmt(&self, f: &mut Formatter) -> fmt::Result {
+        match self {
+            Aside::Pilot { n, k } => write!(f, "pilot {n} {k}"),
         }
     }
 }

@@ -7,18 +7,20 @@ pub mod gen;
 pub mod rng;
 pub mod samples;
 pub mod silicon;
+pub mod small;
 
 use std::io::{self, BufRead, Write};
 
 pub use board::Board;
-pub use calls::{Answer, Call, Entry, Setup, TimerSpec};
+pub use calls::{Answer, Aside, Call, Entry, Line, Setup, TimerSpec};
 
 /// Answers a call list from the first board, up to its end or its first malformed line.
 pub fn run(input: impl BufRead, mut out: impl Write) -> io::Result<()> {
     let mut board = Board::new();
     for (i, line) in input.split(b'\n').enumerate() {
-        match calls::parse(&line?) {
-            Ok(Some(call)) => writeln!(out, "{}", board.call(&call))?,
+        match calls::read(&line?) {
+            Ok(Some(Line::Call(call))) => writeln!(out, "{}", board.call(&call))?,
+            Ok(Some(Line::Aside(Aside::Pilot { n, k }))) => writeln!(out, "{}", small::answer(n, k))?,
             Ok(None) => {}
             Err(reason) => {
                 writeln!(out, "line {}: {reason}", i + 1)?;

@@ -2,7 +2,7 @@
 
 mod common;
 use common::play;
-use oracle::calls::{parse, Malformed};
+use oracle::calls::{parse, read, Aside, Line, Malformed};
 use oracle::gen::Gen;
 
 #[test]
@@ -63,6 +63,12 @@ fn malformed_lines() {
         ("deliver 0 0", Missing),
         ("clock 0 0 1 1 1 1 1 1", Missing),
         ("clock 0 0 1 1 1 1 1 1 0 0", Surplus),
+        ("pilot 1", Missing),
+        ("pilot 1 2 3", Surplus),
+        ("pilot 1 4294967296", TooLarge),
+        ("pilot 4294967296 0", TooLarge),
+        ("pilot -1 0", NotANumber),
+        ("pilots 1 0", UnknownWord),
         ("setup 0 0 1 0", Missing),
         ("setup 0 0 1 0 0", Missing),
         ("setup 0 0 1 0 4294967295 1 2 3", Missing),
@@ -108,6 +114,17 @@ fn accepted_lines() {
     assert_eq!([mask(timers(1)), mask(timers(1) + " manual 1"), mask(timers(8) + " 1 194 manual 0xa5")], [0, 1, 0xa5]);
     // As many timers as the mask has bits, and more, are the board's to refuse.
     assert_eq!([mask(timers(32) + " manual 4294967295"), mask(timers(33) + " manual 4294967295"), mask(timers(0) + " manual 0")], [u32::MAX, u32::MAX, 0]);
+}
+
+/// A line that asks the board nothing, and leaves it as it was.
+#[test]
+fn asides() {
+    assert_eq!(read(b" pilot 0x1 47 # last"), Ok(Some(Line::Aside(Aside::Pilot { n: 1, k: 47 }))));
+    assert_eq!(Aside::Pilot { n: 1, k: 47 }.to_string(), "pilot 1 47");
+    assert_eq!(parse(b"pilot 1 47"), Ok(None));
+    let list = "next\npilot 1 47\npilot 1 48\npilot 8 0\npilot 8 4294967295\nnext";
+    let next = "0 18446744073709551615 0";
+    assert_eq!(play(list), [next, "0 0 0 1 1 2 7 1", "0 0 0 0 0 0 0 0", "12 0 0", "12 0 0", next]);
 }
 
 /// The malformed line is the last thing told, with its number among all lines.

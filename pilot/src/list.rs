@@ -39,6 +39,8 @@ pub enum Call {
     Line { irq: u32 },
     Time { cycle: u64 },
     Clear { irq: u32 },
+    /// The setting at place `k` of the pilots up to `n`: no board is asked.
+    SmallPilot { n: u32, k: u32 },
 }
 
 /// How the numbers behind a call's word make the call.
@@ -85,6 +87,7 @@ const FORMS: &[(&str, Form)] = &[
     ("line", |n| Ok(Call::Line { irq: n.short()? })),
     ("time", |n| Ok(Call::Time { cycle: n.wide()? })),
     ("clear", |n| Ok(Call::Clear { irq: n.short()? })),
+    ("pilot", |n| Ok(Call::SmallPilot { n: n.short()?, k: n.short()? })),
 ];
 
 /// A table of this many entries is as wrong as any longer one: the most that is right is 128 pins of 16.
@@ -261,6 +264,7 @@ mod tests {
         assert_eq!(read("write 1 2 3 4 5 6"), Call::Write { timer: 1, offset: 2, size: 3, value: 4, cycle: 5, book: 6 });
         assert_eq!(read("drive 1 3 0x4000000000000000 4 5"), Call::Drive { pin: 1, kind: 3, volts: 2.0, cycle: 4, book: 5 });
         assert_eq!(read("\ttime 0XfFfFfFfFfFfFfFfF# all\r"), Call::Time { cycle: u64::MAX });
+        assert_eq!(read("pilot 1 2"), Call::SmallPilot { n: 1, k: 2 });
         assert_eq!(read("level 00000000000000000000004294967295"), Call::Level { pin: u32::MAX });
     }
 

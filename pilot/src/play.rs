@@ -16,6 +16,7 @@ pub struct Player {
     levels: Vec<u8>,
     cycles: Vec<u64>,
     answer: ffi::Answer,
+    more: Vec<u32>,
 }
 
 /// What a call answered.
@@ -27,6 +28,8 @@ pub struct Answer<'a> {
     pub pins: &'a [u8],
     pub levels: &'a [u8],
     pub cycles: &'a [u64],
+    /// The numbers behind the three, of a call that has no entries.
+    pub more: &'a [u32],
 }
 
 impl Player {
@@ -39,6 +42,7 @@ impl Player {
             levels: vec![0; places],
             cycles: vec![0; places],
             answer: ffi::Answer { value: 0, number: 0, count: 0 },
+            more: Vec::new(),
         }
     }
 
@@ -47,6 +51,7 @@ impl Player {
         let lent = book(call).min(PLACES) as usize;
         let book = &mut Book { pins: &mut self.pins[..lent], levels: &mut self.levels[..lent], cycles: &mut self.cycles[..lent] };
         let s = &mut self.state;
+        self.more.clear();
         self.answer = match *call {
             Call::SetUp(SetUp { hz, vcc, pins, lines, ref timers, ref table, manual }) => {
                 s.set_up_manual(hz, vcc, pins, lines, manual, timers, table)
@@ -70,6 +75,7 @@ impl Player {
             Call::Line { irq } => s.line(irq),
             Call::Time { cycle } => s.time(cycle),
             Call::Clear { irq } => s.clear_pending(irq),
+            Call::SmallPilot { n, k } => small_pilot(n, k, &mut self.more),
         };
         self.answer()
     }
@@ -78,7 +84,7 @@ impl Player {
     pub fn answer(&self) -> Answer<'_> {
         let ffi::Answer { number, value, count } = self.answer;
         let count = count as usize;
-        Answer { number, value, pins: &self.pins[..count], levels: &self.levels[..count], cycles: &self.cycles[..count] }
+        Answer { number, value, pins: &self.pins[..count], levels: &self.levels[..count], cycles: &self.cycles[..count], more: &self.more }
     }
 
     /// The cycle of a timer's next event; `None` if it is stopped or there is no such timer.
@@ -101,17 +107,29 @@ fn book(call: &Call) -> u64 {
     }
 }
 
+/// The setting's numbers stand behind the three; a refusal has none.
+fn small_pilot(n: u32, k: u32, more: &mut Vec<u32>) -> ffi::Answer {
+    let ffi::Listed { number, reload, prescaler, compare, mode, down } = ffi::pilot(n, k);
+    if number == 0 {
+        more.extend([reload, prescaler, compare, mode, down]);
+    }
+    ffi::Answer { value: 0, number, count: 0 }
+}
+
 impl Answer<'_> {
     /// The entries, in order.
     pub fn entries(&self) -> impl Iterator<Item = (u8, u8, u64)> + '_ {
         self.pins.iter().zip(self.levels).zip(self.cycles).map(|((&pin, &level), &cycle)| (pin, level, cycle))
     }
 
-    /// `NUMBER VALUE COUNT`, then ` PIN:LEVEL@CYCLE` for each entry, and the line's end.
+    /// `NUMBER VALUE COUNT`, then ` PIN:LEVEL@CYCLE` for each entry, or the numbers behind the three, and the line's end.
     pub fn write(&self, out: &mut impl Write) -> io::Result<()> {
         write!(out, "{} {} {}", self.number, self.value, self.cycles.len())?;
         for (pin, level, cycle) in self.entries() {
             write!(out, " {pin}:{level}@{cycle}")?;
+        }
+        for number in self.more {
+            write!(out, " {number}")?;
         }
         out.write_all(b"\n")
     }

@@ -112,6 +112,9 @@ fn the_levels_are_the_definitions_on_every_stored_list() {
             if call.starts_with("setup") && words.next() == Some("0") {
                 records.push(Vec::new());
             }
+            if call.starts_with("pilot") {
+                continue; // no entries stand behind its three numbers
+            }
             for word in answer.split(' ').skip(3) {
                 let (pin, rest) = word.split_once(':').unwrap();
                 let (level, cycle) = rest.split_once('@').unwrap();

@@ -66,6 +66,11 @@ pub enum Error {
         /// The pin that was to be set.
         pin: u32,
     },
+    /// 12: pilots up to a size above 7 were asked for; see [`SmallPilots`](crate::SmallPilots). No call of a board gives it, as none gives 9 or 10.
+    TooWide {
+        /// The size.
+        n: u32,
+    },
     /// A number that this crate does not know: the library is newer.
     Other(u8),
 }
@@ -251,6 +256,7 @@ pub const fn word(number: u8) -> Option<&'static str> {
         9 => "shift reversed",
         10 => "book out of order",
         11 => "socket taken",
+        12 => "too wide",
         _ => return None,
     })
 }
@@ -286,6 +292,7 @@ impl Error {
             Error::ShiftReversed { .. } => 9,
             Error::BookOutOfOrder(_) => 10,
             Error::SocketTaken { .. } => 11,
+            Error::TooWide { .. } => 12,
             Error::Other(n) => n,
         }
     }
@@ -330,6 +337,7 @@ impl Display for Error {
             Error::Backlog => f.write_str(": an event is still due, deliver again"),
             Error::ShiftReversed { from, to } => write!(f, ": from {from} to {to}"),
             Error::BookOutOfOrder(d) => write!(f, ": {d}"),
+            Error::TooWide { n } => write!(f, ": pilots up to {n}, not up to 7"),
             Error::Other(n) => write!(f, " with {n}"),
         }
     }

@@ -75,6 +75,24 @@ pub struct Summary {
     pub high: u32,
 }
 
+/// A pilot's setting at a place of the list (document 02, F-9).
+#[repr(C)]
+#[derive(Clone, Copy, Debug, PartialEq, Eq)]
+pub struct Listed {
+    /// 0 served, else the number of [`Error`](crate::Error): 12. The rest is 0 then, and for a place past the end.
+    pub number: u32,
+    /// The reload.
+    pub reload: u32,
+    /// The prescaler.
+    pub prescaler: u32,
+    /// The compare.
+    pub compare: u32,
+    /// 6 or 7.
+    pub mode: u32,
+    /// 0 up, 1 down.
+    pub down: u32,
+}
+
 // The exports of crates/board: tests/header.rs holds these declarations to them, and those of include/pilot_timer.h.
 unsafe extern "C" {
     safe fn board_words() -> usize;
@@ -99,6 +117,7 @@ unsafe extern "C" {
     fn board_line(words: *const u64, reals: *const f64, irq: u32) -> Answer;
     fn board_time(words: *const u64, reals: *const f64, cycle: u64) -> Answer;
     fn board_clear_pending(words: *mut u64, reals: *const f64, irq: u32) -> Answer;
+    safe fn small_pilot(n: u32, k: u32) -> Listed;
 }
 
 // The exports of crates/shift.
@@ -140,6 +159,18 @@ pub fn words() -> usize {
 /// The floats of a state.
 pub fn reals() -> usize {
     board_reals()
+}
+
+/// The setting at place k of the pilots up to n. [`SmallPilots`](crate::SmallPilots) says more.
+///
+/// ```
+/// use board::ffi::{pilot, Listed};
+///
+/// assert_eq!(pilot(1, 47), Listed { number: 0, reload: 1, prescaler: 1, compare: 2, mode: 7, down: 1 });
+/// assert_eq!((pilot(1, 48).mode, pilot(8, 0).number), (0, 12));
+/// ```
+pub fn pilot(n: u32, k: u32) -> Listed {
+    small_pilot(n, k)
 }
 
 impl Default for State {

@@ -6,6 +6,7 @@
 //! - [`Pilot`] starts, changes and stops a pilot and delivers before it writes; [`Board::poll_all`] and [`Board::drain`] hand over what is due.
 //! - [`Reg`], [`Cr1`], [`Ccmr`] and [`Ccer`] are the registers by name; [`Clock`] and [`Timing`] make cycles of hertz and seconds.
 //! - A [`Shift`] takes the entries and gives the planner's figures.
+//! - [`SmallPilots`] lists every pilot up to a size, for a test desk.
 //! - [`Error`] says what a call was refused for; [`Board::save`] and [`Board::restore`] carry a board over a restart.
 //!
 //! What the library answers is proved. This crate is not: it hands calls on, and its tests compare it with the published Rust.
@@ -74,6 +75,7 @@ mod reg;
 mod save;
 mod setup;
 mod shift;
+mod small;
 mod time;
 
 pub use board::{Board, Delivered, Entry, Line, Written};
@@ -83,4 +85,5 @@ pub use reg::{Ccer, Ccmr, Channel, Cr1, OutputMode, Reg, UG};
 pub use save::RestoreError;
 pub use setup::{signal, ClockTree, Drive, Mode, PinConfig, Setup, TimerIndex, TimerSpec};
 pub use shift::{Duty, PinReport, Report, Shift, PINS};
+pub use small::{SmallPilot, SmallPilots};
 pub use time::{Clock, Timing, LAST_CYCLE};

@@ -83,7 +83,12 @@ fn sources() -> Vec<Function> {
 
 /// The fields of the structs that are returned, `name: type`.
 fn source_fields(name: &str) -> Vec<String> {
-    let file = code(&text(if name == "Answer" { "../crates/answer/src/lib.rt" } else { "../crates/shift/src/lib.rt" }));
+    let of = match name {
+        "Answer" => "answer",
+        "Listed" => "small",
+        _ => "shift",
+    };
+    let file = code(&text(&format!("../crates/{of}/src/lib.rt")));
     let (fields, _) = between(&file, &format!("#[repr(C)]\npub struct {name} {{"), "}");
     parts(fields).map(|f| f.trim_start_matches("pub ").to_owned()).collect()
 }
@@ -101,6 +106,7 @@ fn rust_type(c: &str) -> &str {
         "void" => "()",
         "pilot_answer" => "Answer",
         "pilot_summary" => "Summary",
+        "pilot_listed" => "Listed",
         other => other,
     }
 }
@@ -166,6 +172,7 @@ fn the_header_is_the_library() {
     same(&header_functions(&header), &sources);
     assert_eq!(header_fields(&header, "pilot_answer"), source_fields("Answer"));
     assert_eq!(header_fields(&header, "pilot_summary"), source_fields("Summary"));
+    assert_eq!(header_fields(&header, "pilot_listed"), source_fields("Listed"));
     for (name, constant) in [("PILOT_BOARD_WORDS", "WORDS"), ("PILOT_BOARD_REALS", "REALS"), ("PILOT_SHIFT_KEPT", "KEPT"), ("PILOT_FIGURES", "FIGURES")] {
         assert_eq!(macro_value(&code(&header), name), length(constant));
     }
@@ -187,7 +194,7 @@ fn ffi_is_the_library() {
     // An array's length is not in a pointer's type.
     wanted.iter_mut().flat_map(|f| &mut f.arguments).for_each(|a| a.truncate(a.find(" [").unwrap_or(a.len())));
     same(&functions, &wanted);
-    for name in ["Answer", "Summary"] {
+    for name in ["Answer", "Summary", "Listed"] {
         let (fields, _) = between(&file, &format!("pub struct {name} {{"), "}");
         assert_eq!(parts(fields).map(|f| f.trim_start_matches("pub ").to_owned()).collect::<Vec<_>>(), source_fields(name));
     }
@@ -205,7 +212,7 @@ fn the_archives_have_the_functions() {
     let mut exported: Vec<_> = nm.lines().filter_map(|l| l.split_whitespace().nth(2)).map(str::to_owned).collect();
     exported.sort();
     assert_eq!(names, exported);
-    assert_eq!(names.len(), 26);
+    assert_eq!(names.len(), 27);
 }
 
 #[test]
@@ -236,6 +243,7 @@ fn a_changed_header_is_seen() {
         ("uint32_t size, ", ""),
         ("uint32_t timer", "uint32_t offset"),
         ("pilot_answer", "pilot_summary"),
+        ("pilot_listed", "pilot_answer"),
         ("board_re", "board_ra"),
         ("void shift", "int shift"),
     ];

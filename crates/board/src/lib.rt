@@ -3,6 +3,7 @@
 // content of the arrays.
 use answer::Answer;
 use clk::ClockTree;
+use small::Listed;
 use state::REALS;
 use state::WORDS;
 ghost use mathlib.Core.Path.{_≡_};
@@ -15,6 +16,7 @@ ghost use Rattle.machine.specs.Step.{step};
 ghost use Rattle.pads.specs.Ext.{driveOf};
 ghost use Rattle.setup.specs.Setup.{setupOf};
 ghost use Rattle.answer.specs.Promise.{Answers};
+ghost use Rattle.small.specs.Small.{listed};
 ghost use Rattle.board.specs.Layout.{treeGiven};
 
 // ---- the arrays
@@ -361,4 +363,15 @@ pub extern "C" fn board_clear_pending(
     ensures { λ r. ⌜ Answers (step (view (now (words .entry)) (now (reals .entry))) (C.clearPending irq)) r (now (words .entry)) (now (words .exit)) (now (reals .entry)) (now (reals .entry)) ⌝ }
 {
     control::clear_pending(words, reals, irq)
+}
+
+// ---- every small pilot
+
+// The setting at place k of the pilots up to n (document 02, F-9). It asks no board. Among them are mode 7, downward and reload 0, of which demand 3
+// says nothing.
+#[no_mangle]
+pub extern "C" fn small_pilot(n: u32, k: u32) -> Listed
+    ensures { λ r. ⌜ r ≡ listed n k ⌝ }
+{
+    small::pilot(n, k)
 }

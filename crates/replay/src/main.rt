@@ -15,6 +15,9 @@ use state::WORDS;
 // 100,001 events make at most four entries each: a longer book never matters.
 const PLACES: usize = 400004;
 
+// The word that asks the board nothing, by its place among the words.
+const PILOT: u64 = 18;
+
 // What a turn leads to: the next, the end of the run, or the end because the list cannot be read.
 const MORE: u8 = 0;
 
@@ -101,6 +104,23 @@ fn lend(
     )
 }
 
+// The setting at place K of the pilots up to N (document 02, F-9).
+fn pilot(n: u32, k: u32, out: &mut [u8; OUT], used: usize) -> usize {
+    let p = small::pilot(n, k);
+    let answer = [p.number as u64, 0, 0];
+    if p.number != 0 {
+        return reply::plain(out, used, &answer);
+    }
+    let setting = [
+        p.reload as u64,
+        p.prescaler as u64,
+        p.compare as u64,
+        p.mode as u64,
+        p.down as u64,
+    ];
+    reply::numbers(out, used, &answer, &setting)
+}
+
 // A line is complete: a call is answered, a reason is told. Whether the run goes on: not when a write has failed.
 fn act(
     event: u8,
@@ -117,6 +137,11 @@ fn act(
     if event == line::CALL {
         let length = line::size(state[AT]);
         let op = state[OP];
+        if op == PILOT {
+            let p = pilot(call[1], call[2], out, used);
+            state[USED] = p as u64;
+            return reply::whole(p);
+        }
         let places = lent(op, state[WIDE]);
         ask(call, op, length, places);
         let n = lend(

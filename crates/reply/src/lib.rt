@@ -111,6 +111,32 @@ pub fn answer(
     put(out, last, b'\n')
 }
 
+// The line of an answer that is its three numbers.
+pub fn plain(out: &mut [u8; OUT], n: usize, answer: &[u64; 3]) -> usize {
+    let at = head(out, n, answer);
+    let last = room(out, at);
+    put(out, last, b'\n')
+}
+
+// ` NUMBER`
+fn another(out: &mut [u8; OUT], n: usize, x: u64) -> usize {
+    let a = room(out, n);
+    let b = put(out, a, b' ');
+    number(out, b, x)
+}
+
+// The line of an answer that has numbers behind its three and no entries.
+pub fn numbers(out: &mut [u8; OUT], n: usize, answer: &[u64; 3], more: &[u64]) -> usize {
+    let mut at = head(out, n, answer);
+    let mut i = 0;
+    while i < more.len() {
+        at = another(out, at, more[i]);
+        i += 1;
+    }
+    let last = room(out, at);
+    put(out, last, b'\n')
+}
+
 // A text of few bytes.
 fn words(out: &mut [u8; OUT], n: usize, s: &[u8]) -> usize {
     let mut at = room(out, n);

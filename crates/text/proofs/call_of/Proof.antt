@@ -1,6 +1,6 @@
 -- Piece k of the text is word k of the table; a word that is none of the first k has its place among the rest.
 use Prim.Native.Nat.{ℕ, suc, _+_, _-_, _≤_}
-use Rattle.text.proofs.WordLaws.{There, piece-there, call-start, call-here, call-next, call-none, word-there, joined, starts}
+use Rattle.text.proofs.WordLaws.{There, piece-there, call-start, call-here, call-next, call-none, word-there, joined, starts, words}
 use Rattle.text.specs.Words.{placeIn, calls, callOf, sameWord}
 use borrow.Author.Needs.{needs}
 use lib.ListN.{drop}
@@ -17,15 +17,15 @@ text = joined calls
 abbrev places : List ℕ
 places = starts 0 calls
 
-there : (k : ℕ) → suc k ≤ 18 → There text places k
+there : (k : ℕ) → suc k ≤ words → There text places k
 unfolding word-there sameWord
 there k h = piece-there text places tt k h
 
 abbrev Inv-loop : tie.InvT-loop
-Inv-loop word k₀ t5 k = (k ≤ 18) × (callOf word ≡ k + placeIn word (drop k calls))
+Inv-loop word k₀ t5 k = (k ≤ words) × (callOf word ≡ k + placeIn word (drop k calls))
 
 abbrev μ-loop : tie.MeasureT-loop
-μ-loop word k₀ t5 k = 18 - k
+μ-loop word k₀ t5 k = words - k
 
 loop-holds : tie.Need-loop-holds Inv-loop μ-loop
 loop-holds c = (omega arith, call-start _)
