@@ -108,5 +108,10 @@ int main(void)
     printf("the shift from %" PRIu64 " to %" PRIu64 ": number %" PRIu32 ", pin 0 high %" PRIu64 ", low %" PRIu64 ", %" PRIu64 " edges\n", from, to,
            s.number, figures[0], figures[1], figures[2]);
     printf("its end is %.3f s after the start\n", real(board_time(words, reals, to).value));
+
+    /* A test desk's list: every pilot up to a size, by its place. */
+    pilot_listed l = small_pilot(1, 47);
+    printf("place 47 of the pilots up to 1: reload %" PRIu32 ", prescaler %" PRIu32 ", compare %" PRIu32 ", mode %" PRIu32 ", %s; up to 8: refused with %" PRIu32 "\n",
+           l.reload, l.prescaler, l.compare, l.mode, l.down ? "down" : "up", small_pilot(8, 0).number);
     return 0;
 }

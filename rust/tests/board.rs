@@ -64,14 +64,14 @@ fn every_error_is_given() {
 
 #[test]
 fn every_number_has_its_words() {
-    let words = ["served", "wrong board", "no such post", "odd plug", "bad clock", "clock astray", "book full", "counter astray", "backlog", "shift reversed", "book out of order", "socket taken"];
+    let words = ["served", "wrong board", "no such post", "odd plug", "bad clock", "clock astray", "book full", "counter astray", "backlog", "shift reversed", "book out of order", "socket taken", "too wide"];
     for (number, words) in (0..).zip(words) {
         assert_eq!(board::word(number), Some(words));
         assert_eq!(board::is_refusal(number), number != 0 && number != 8);
     }
-    assert_eq!(board::word(12), None);
-    let e = Error::Other(12);
-    assert_eq!((e.number(), e.to_string().as_str(), e.is_refusal()), (12, "refused with 12", true));
+    assert_eq!(board::word(13), None);
+    let e = Error::Other(13);
+    assert_eq!((e.number(), e.to_string().as_str(), e.is_refusal()), (13, "refused with 13", true));
 }
 
 #[test]
@@ -88,6 +88,7 @@ fn errors_in_words() {
         (Error::CounterAstray { offset: 0x2c }, 7, "counter astray: this write of ARR would leave the counter above the active reload + 1"),
         (Error::Backlog, 8, "backlog: an event is still due, deliver again"),
         (Error::ShiftReversed { from: 2, to: 1 }, 9, "shift reversed: from 2 to 1"),
+        (Error::TooWide { n: 8 }, 12, "too wide: pilots up to 8, not up to 7"),
     ] {
         assert_eq!((e.number(), e.to_string().as_str()), (number, text));
         assert!(text.starts_with(e.word()));

@@ -50,8 +50,6 @@ fn too_wide_comes_before_anything() {
         }
         assert_eq!(SmallPilots::new(n), Err(Error::TooWide { n }));
     }
-    let e = Error::TooWide { n: 8 };
-    assert_eq!((e.number(), e.word(), e.is_refusal(), e.to_string().as_str()), (12, "too wide", true, "too wide: pilots up to 8, not up to 7"));
 }
 
 /// The length is exact at every place, however the iterator got there.
