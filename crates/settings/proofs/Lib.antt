@@ -1,3 +1,3 @@
 pub mod Tests
-pub mod Code
+pub mod Meets
 pub mod Laws

@@ -53,6 +53,9 @@ copy-step out out₀ bytes i h k e = rw (e, add-one i) (go (0 + i) (zero-add i) 
         → set (take i bytes ++ drop i out₀) i (getD bytes i 0) ≡ take (suc i) bytes ++ drop (suc i) out₀
     go j z q = rw (z, zero-add (suc i)) at q
 
+pub copy-done : (out out₀ bytes : List ℕ) (i count : ℕ) → i ≤ count → count ≤ i → out ≡ take i bytes ++ drop i out₀ → out ≡ take count bytes ++ drop count out₀
+copy-done out out₀ bytes i count h k e = let z : i ≡ count = omega arith in rw z at e
+
 -- ---- four bytes, little-endian
 
 pub four-back : (n : ℕ) → n ≤ 4294967295

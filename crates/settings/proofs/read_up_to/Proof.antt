@@ -1,6 +1,6 @@
 -- Refused with the number, or the settings as they stand.
 use borrow.Author.Needs.{needs}
-use Rattle.settings.proofs.Code.{read-refused, read-served}
+use Rattle.settings.proofs.Meets.{read-refused, read-served}
 use Rattle.settings.proofs.read_up_to.Statement.{statement}
 use Rattle.settings.proofs.read_up_to.Tie as tie
 

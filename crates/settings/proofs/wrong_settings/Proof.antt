@@ -1,6 +1,6 @@
 -- The limits are asked of the settings that were read, the mode aside.
 use borrow.Author.Needs.{needs}
-use Rattle.settings.proofs.Code.{settings-wrong}
+use Rattle.settings.proofs.Meets.{settings-wrong}
 use Rattle.settings.proofs.wrong_settings.Statement.{statement}
 use Rattle.settings.proofs.wrong_settings.Tie as tie
 
