@@ -11,7 +11,7 @@ use Rattle.machine.specs.Refusals.{first}
 use Rattle.tim.specs.declared.Inst.{Inst}
 use Rattle.settings.specs.Record.{one, four, byteAt, twoAt, fourAt, lengthOf, kindOf, encode, decode, cutShort, strangeKind, wrongLength, wrongAdded, wrongSettings, good, readNumber, settingsOf, served, turnedAway, read}
 use Rattle.settings.specs.Kept.{Kept}
-use Rattle.settings.proofs.Tests.{and-left, and-right, or-left, or-right, or-false, places, take-places, four-back, byte-back}
+use Rattle.settings.proofs.Tests.{and-left, and-right, or-left, or-right, or-false, places, take-places, four-back, four-bytes, byte-back}
 
 -- ---- the limits as numbers
 
@@ -87,7 +87,7 @@ module _ (t : Inst) (rest : List ℕ) (g : good t ≡ true) where
   front : ℕ → List ℕ → List ℕ
   front kind tail =
       (11 + kind) ∷ 0 ∷ kind ∷ 0 ∷ (t .n % 256) ∷ (t .width % 256) ∷ (t .channels % 256) ∷ ((t .apb - 1) % 256) ∷ (t .«en_reg» % 256) ∷ (t .«en_bit» % 256)
-      ∷ (t .irq % 256) ∷ (t .irq / 256 % 256) ∷ (t .irq / 65536 % 256) ∷ (t .irq / 16777216 % 256) ∷ tail
+      ∷ (t .irq % 256) ∷ (t .irq / 256 % 256) ∷ (t .irq / 256 / 256 % 256) ∷ (t .irq / 256 / 256 / 256 % 256) ∷ tail
 
   decoded : (kind : ℕ) (tail : List ℕ) → eqb kind 2 ≡ t .manual → decode (front kind tail) ≡ t
   unfolding decode
@@ -143,17 +143,24 @@ same-bytes : (b0 b1 b2 b3 b4 b5 b6 b7 b8 b9 b10 b11 b12 b13 l k : ℕ) (tail : L
     ≡ l ∷ 0 ∷ k ∷ 0 ∷ (b4 % 256) ∷ (b5 % 256) ∷ (b6 % 256) ∷ ((b7 + 1 - 1) % 256) ∷ (b8 % 256) ∷ (b9 % 256)
     ∷ (four (b10 + 256 * b11 + 65536 * (b12 + 256 * b13)) ++ tail)
 same-bytes b0 b1 b2 b3 b4 b5 b6 b7 b8 b9 b10 b11 b12 b13 l k tail h0 h1 h2 h3 h4 h5 h6 h7 h8 h9 h10 h11 h12 h13 el hl ek hk =
-    let n : ℕ = b10 + 256 * b11 + 65536 * (b12 + 256 * b13) in
     let e0 : b0 ≡ l = omega arith in
     let e1 : b1 ≡ 0 = omega arith in
     let e2 : b2 ≡ k = omega arith in
     let e3 : b3 ≡ 0 = omega arith in
     let e7 : (b7 + 1 - 1) % 256 ≡ b7 = omega arith in
-    let f0 : n % 256 ≡ b10 = omega arith in
-    let f1 : n / 256 % 256 ≡ b11 = omega arith in
-    let f2 : n / 65536 % 256 ≡ b12 = omega arith in
-    let f3 : n / 16777216 % 256 ≡ b13 = omega arith in
-    rw (e0, e1, e2, e3, byte-back b4 h4, byte-back b5 h5, byte-back b6 h6, e7, byte-back b8 h8, byte-back b9 h9, f0, f1, f2, f3)
+    rw (
+      e0,
+      e1,
+      e2,
+      e3,
+      byte-back b4 h4,
+      byte-back b5 h5,
+      byte-back b6 h6,
+      e7,
+      byte-back b8 h8,
+      byte-back b9 h9,
+      four-bytes b10 b11 b12 b13 h10 h11 h12 h13,
+    )
 
 module _ (s : List ℕ) (byte : (i : ℕ) → getD s i 0 < 256) (h : readNumber 2 s ≡ 0) where
   p : Passed 2 s

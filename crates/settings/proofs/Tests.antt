@@ -9,7 +9,7 @@ use native.Mathlib.Omega.{arith}
 use lib.Dec.{eqb}
 use lib.ListN.{length, getD, take, drop, set}
 use lib.Seq.{paste, paste-suc, drop-cons}
-use borrow.Author.Tests.{eqb-true}
+use Rattle.settings.specs.Record.{four}
 
 -- ---- bools
 
@@ -19,14 +19,16 @@ and-left false b h = h
 
 pub and-right : (a b : Bool) → (a && b) ≡ true → b ≡ true
 and-right true b h = h
-and-right false b h = absurd (omega (arith, cc (h)))
+and-right false true h = refl
+and-right false false h = h
 
 pub or-left : (a b : Bool) → (a || b) ≡ false → a ≡ false
 or-left true b h = h
 or-left false b h = refl
 
 pub or-right : (a b : Bool) → (a || b) ≡ false → b ≡ false
-or-right true b h = absurd (omega (arith, cc (h)))
+or-right true true h = h
+or-right true false h = refl
 or-right false b h = h
 
 pub or-false : (a b : Bool) → a ≡ false → b ≡ false → (a || b) ≡ false
@@ -58,9 +60,28 @@ copy-done out out₀ bytes i count h k e = let z : i ≡ count = omega arith in 
 
 -- ---- four bytes, little-endian
 
-pub four-back : (n : ℕ) → n ≤ 4294967295
-    → n % 256 + 256 * (n / 256 % 256) + 65536 * (n / 65536 % 256 + 256 * (n / 16777216 % 256)) ≡ n
-four-back n h = omega arith
-
 pub byte-back : (b : ℕ) → b < 256 → b % 256 ≡ b
 byte-back b h = omega arith
+
+split : (n : ℕ) → n % 256 + 256 * (n / 256) ≡ n
+split n = omega arith
+
+pub four-back : (n : ℕ) → n ≤ 4294967295
+    → n % 256 + 256 * (n / 256 % 256) + 65536 * (n / 256 / 256 % 256 + 256 * (n / 256 / 256 / 256 % 256)) ≡ n
+four-back n h =
+    let a = split n in
+    let b = split (n / 256) in
+    let c = split (n / 256 / 256) in
+    let small : n / 256 / 256 / 256 < 256 = omega (arith, a, b, c) in
+    omega (arith, a, b, c, byte-back (n / 256 / 256 / 256) small)
+
+-- bytes put together and taken apart
+pub four-bytes : (a b c d : ℕ) → a < 256 → b < 256 → c < 256 → d < 256 → four (a + 256 * b + 65536 * (c + 256 * d)) ≡ a ∷ b ∷ c ∷ d ∷ []
+four-bytes a b c d ha hb hc hd =
+    let q : (a + 256 * b + 65536 * (c + 256 * d)) / 256 ≡ b + 256 * (c + 256 * d) = omega arith in
+    let p : (b + 256 * (c + 256 * d)) / 256 ≡ c + 256 * d = omega arith in
+    let o : (c + 256 * d) / 256 ≡ d = omega arith in
+    let q₀ : (a + 256 * b + 65536 * (c + 256 * d)) % 256 ≡ a = omega arith in
+    let p₀ : (b + 256 * (c + 256 * d)) % 256 ≡ b = omega arith in
+    let o₀ : (c + 256 * d) % 256 ≡ c = omega arith in
+    rw (q₀, q, p₀, p, o₀, o, byte-back d hd)

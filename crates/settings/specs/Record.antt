@@ -21,7 +21,7 @@ abbrev pub two : ℕ → List ℕ
 two n = n % 256 ∷ one (n / 256)
 
 abbrev pub four : ℕ → List ℕ
-four n = n % 256 ∷ n / 256 % 256 ∷ n / 65536 % 256 ∷ one (n / 16777216)
+four n = n % 256 ∷ n / 256 % 256 ∷ n / 256 / 256 % 256 ∷ one (n / 256 / 256 / 256)
 
 -- a byte that is not there reads 0
 abbrev pub byteAt : List ℕ → ℕ → ℕ
