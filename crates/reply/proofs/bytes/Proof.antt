@@ -7,10 +7,10 @@ use Rattle.reply.proofs.bytes.Statement.{statement}
 use Rattle.reply.proofs.bytes.Tie as tie
 
 abbrev Inv-loop : tie.InvT-loop
-Inv-loop out₀ n answer bytes at₀ i₀ out at i = Unit {0}
+Inv-loop out₀ n answer bytes a at₀ i₀ out at i = Unit {0}
 
 abbrev μ-loop : tie.MeasureT-loop
-μ-loop out₀ n answer bytes at₀ i₀ out at i = length bytes - i
+μ-loop out₀ n answer bytes a at₀ i₀ out at i = length bytes - i
 
 loop-holds : tie.Need-loop-holds Inv-loop μ-loop
 loop-holds c = tt
