@@ -1,5 +1,5 @@
 -- What is written reads back, what reads is what would be written, and the kinds (`kept : Kept`).
-use mathlib.Core.Path.{_≡_, refl, sym, _∙_}
+use mathlib.Core.Path.{_≡_, refl, sym, ap, _∙_}
 use mathlib.Core.Bool.{Bool, true, false, cond, not, _&&_, _||_}
 use mathlib.Core.List.{List, [], _∷_, _++_}
 use Prim.Native.Nat.{ℕ, _+_, _-_, _*_, _/_, _%_, _<_, _≤_}
@@ -35,21 +35,31 @@ sixteen-or w h = go (eqb w 16) refl
 small : (t : Inst) → good t ≡ true → Small t
 unfolding good
 small t h =
-    let inst = and-left _ _ (and-left _ _ h) in
-    let bus = and-right _ _ (and-left _ _ h) in
-    let i5 = and-left _ _ inst in
-    let i4 = and-left _ _ i5 in
-    let i3 = and-left _ _ i4 in
-    let i2 = and-left _ _ i3 in
+    let n : Bool = leb 1 (t .n) in
+    let n₁ : Bool = leb (t .n) 24 in
+    let w : Bool = eqb (t .width) 16 || eqb (t .width) 32 in
+    let c : Bool = leb (t .channels) 4 in
+    let r : Bool = leb (t .«en_reg») 8 in
+    let b : Bool = leb (t .«en_bit») 31 in
+    let a : Bool = leb 1 (t .apb) in
+    let a₁ : Bool = leb (t .apb) 4 in
+    let i : Bool = leb (t .irq) 4294967295 in
+    let h₆ : (n && n₁ && w && c && r && b && (a && a₁)) ≡ true = and-left (n && n₁ && w && c && r && b && (a && a₁)) i h in
+    let h₅ : (n && n₁ && w && c && r && b) ≡ true = and-left (n && n₁ && w && c && r && b) (a && a₁) h₆ in
+    let h₄ : (n && n₁ && w && c && r) ≡ true = and-left (n && n₁ && w && c && r) b h₅ in
+    let h₃ : (n && n₁ && w && c) ≡ true = and-left (n && n₁ && w && c) r h₄ in
+    let h₂ : (n && n₁ && w) ≡ true = and-left (n && n₁ && w) c h₃ in
+    let h₁ : (n && n₁) ≡ true = and-left (n && n₁) w h₂ in
+    let bus : (a && a₁) ≡ true = and-right (n && n₁ && w && c && r && b) (a && a₁) h₆ in
     record {
-      n = omega (arith, leb-true (t .n) 24 (and-right _ _ i2));
-      width = sixteen-or (t .width) (and-right _ _ i3);
-      channels = omega (arith, leb-true (t .channels) 4 (and-right _ _ i4));
-      apb-1 = leb-true 1 (t .apb) (and-left _ _ bus);
-      apb = leb-true (t .apb) 4 (and-right _ _ bus);
-      word = omega (arith, leb-true (t .«en_reg») 8 (and-right _ _ i5));
-      bit = omega (arith, leb-true (t .«en_bit») 31 (and-right _ _ inst));
-      irq = leb-true (t .irq) 4294967295 (and-right _ _ h);
+      n = omega (arith, leb-true (t .n) 24 (and-right n n₁ h₁));
+      width = sixteen-or (t .width) (and-right (n && n₁) w h₂);
+      channels = omega (arith, leb-true (t .channels) 4 (and-right (n && n₁ && w) c h₃));
+      apb-1 = leb-true 1 (t .apb) (and-left a a₁ bus);
+      apb = leb-true (t .apb) 4 (and-right a a₁ bus);
+      word = omega (arith, leb-true (t .«en_reg») 8 (and-right (n && n₁ && w && c) r h₄));
+      bit = omega (arith, leb-true (t .«en_bit») 31 (and-right (n && n₁ && w && c && r) b h₅));
+      irq = leb-true (t .irq) 4294967295 (and-right (n && n₁ && w && c && r && b && (a && a₁)) i h);
     }
 
 -- ---- the checks
@@ -82,58 +92,69 @@ is-served latest s h = rw h
 
 -- ---- "What is written reads back the same"
 
--- a record's bytes at the front of a list, by its kind, read
-module _ (t : Inst) (rest : List ℕ) (g : good t ≡ true) where
-  front : ℕ → List ℕ → List ℕ
+same-timer : (t : Inst) (n w c a i r b : ℕ) (m : Bool) → n ≡ t .n → w ≡ t .width → c ≡ t .channels → a ≡ t .apb → i ≡ t .irq → r ≡ t .«en_reg»
+    → b ≡ t .«en_bit» → m ≡ t .manual
+    → (record { n = n; width = w; channels = c; apb = a; irq = i; «en_reg» = r; «en_bit» = b; manual = m }) ≡ t
+same-timer t n w c a i r b m en ew ec ea ei er eb em = rw (en, ew, ec, ea, ei, er, eb, em)
+
+-- a record's bytes at the front of a list, by its kind
+module _ (t : Inst) where
+  abbrev front : ℕ → List ℕ → List ℕ
   front kind tail =
       (11 + kind) ∷ 0 ∷ kind ∷ 0 ∷ (t .n % 256) ∷ (t .width % 256) ∷ (t .channels % 256) ∷ ((t .apb - 1) % 256) ∷ (t .«en_reg» % 256) ∷ (t .«en_bit» % 256)
       ∷ (t .irq % 256) ∷ (t .irq / 256 % 256) ∷ (t .irq / 256 / 256 % 256) ∷ (t .irq / 256 / 256 / 256 % 256) ∷ tail
 
-  decoded : (kind : ℕ) (tail : List ℕ) → eqb kind 2 ≡ t .manual → decode (front kind tail) ≡ t
-  unfolding decode
-  decoded kind tail m =
-      let k = small t g in
-      let e : kind + 256 * 0 ≡ kind = omega arith in
-      let bus : (t .apb - 1) % 256 + 1 ≡ t .apb = omega (arith, k .apb-1, k .apb) in
-      rw (
-        e,
-        m,
-        byte-back (t .n) (k .n),
-        byte-back (t .width) (k .width),
-        byte-back (t .channels) (k .channels),
-        bus,
-        byte-back (t .«en_reg») (k .word),
-        byte-back (t .«en_bit») (k .bit),
-        four-back (t .irq) (k .irq),
-      )
-
-  manual-back : t .manual ≡ true → read 2 (front 2 (1 ∷ rest)) ≡ served 15 t
-  unfolding cutShort strangeKind wrongLength wrongAdded wrongSettings
-  manual-back m =
-      let s : List ℕ = front 2 (1 ∷ rest) in
-      let d : decode s ≡ t = decoded 2 (1 ∷ rest) (sym m) in
-      let z : readNumber 2 s ≡ 0 = none-applies 2 s
-      (or-false _ _ (le-ltb (length s) 2 (omega arith)) (or-false _ _ refl (le-ltb (length s) 15 (omega arith)))) refl refl (rw (d, g)) in
-      is-served 2 s z ∙ rw d
-
-  plain-back : t .manual ≡ false → read 2 (front 1 rest) ≡ served 14 t
-  unfolding cutShort strangeKind wrongLength wrongAdded wrongSettings
-  plain-back m =
-      let s : List ℕ = front 1 rest in
-      let d : decode s ≡ t = decoded 1 rest (sym m) in
-      let z : readNumber 2 s ≡ 0 = none-applies 2 s
-      (or-false _ _ (le-ltb (length s) 2 (omega arith)) (or-false _ _ refl (le-ltb (length s) 14 (omega arith)))) refl refl (rw (d, g)) in
-      is-served 2 s z ∙ rw d
-
-  reads-back : read 2 (encode t ++ rest) ≡ served (length (encode t)) t
+  encoded-2 : t .manual ≡ true → encode t ≡ front 2 (1 ∷ [])
   unfolding encode
-  reads-back = go (t .manual) refl
+  encoded-2 e = rw e
+
+  encoded-1 : t .manual ≡ false → encode t ≡ front 1 []
+  unfolding encode
+  encoded-1 e = rw e
+
+  decoded : (kind : ℕ) (tail : List ℕ) → good t ≡ true → eqb (kindOf (front kind tail)) 2 ≡ t .manual → decode (front kind tail) ≡ t
+  unfolding decode
+  decoded kind tail g m =
+      let k = small t g in
+      let bus : (t .apb - 1) % 256 + 1 ≡ t .apb = omega (arith, k .apb-1, k .apb) in
+      same-timer t _ _ _ _ _ _ _ _ (byte-back (t .n) (k .n)) (byte-back (t .width) (k .width)) (byte-back (t .channels) (k .channels)) bus
+      (four-back (t .irq) (k .irq)) (byte-back (t .«en_reg») (k .word)) (byte-back (t .«en_bit») (k .bit)) m
+
+  back-2 : (rest : List ℕ) → good t ≡ true → t .manual ≡ true → read 2 (front 2 (1 ∷ rest)) ≡ served 15 t
+  unfolding cutShort strangeKind wrongLength wrongAdded wrongSettings
+  back-2 rest g m =
+      let d : decode (front 2 (1 ∷ rest)) ≡ t = decoded 2 (1 ∷ rest) g (sym m) in
+      let l : 15 ≤ length (front 2 (1 ∷ rest)) = omega arith in
+      let z : readNumber 2 (front 2 (1 ∷ rest)) ≡ 0 = none-applies 2 (front 2 (1 ∷ rest))
+      (or-false (ltb (length (front 2 (1 ∷ rest))) 2) (ltb (lengthOf (front 2 (1 ∷ rest))) 2 || ltb (length (front 2 (1 ∷ rest))) 15)
+      (le-ltb (length (front 2 (1 ∷ rest))) 2 (omega (arith, l)))
+      (or-false (ltb (lengthOf (front 2 (1 ∷ rest))) 2) (ltb (length (front 2 (1 ∷ rest))) 15) refl (le-ltb (length (front 2 (1 ∷ rest))) 15 l)))
+      refl refl (rw (d, g)) in
+      is-served 2 (front 2 (1 ∷ rest)) z ∙ rw d
+
+  back-1 : (rest : List ℕ) → good t ≡ true → t .manual ≡ false → read 2 (front 1 rest) ≡ served 14 t
+  unfolding cutShort strangeKind wrongLength wrongAdded wrongSettings
+  back-1 rest g m =
+      let d : decode (front 1 rest) ≡ t = decoded 1 rest g (sym m) in
+      let l : 14 ≤ length (front 1 rest) = omega arith in
+      let z : readNumber 2 (front 1 rest) ≡ 0 = none-applies 2 (front 1 rest)
+      (or-false (ltb (length (front 1 rest)) 2) (ltb (lengthOf (front 1 rest)) 2 || ltb (length (front 1 rest)) 14)
+      (le-ltb (length (front 1 rest)) 2 (omega (arith, l)))
+      (or-false (ltb (lengthOf (front 1 rest)) 2) (ltb (length (front 1 rest)) 14) refl (le-ltb (length (front 1 rest)) 14 l)))
+      refl refl (rw (d, g)) in
+      is-served 2 (front 1 rest) z ∙ rw d
+
+  reads-back : (rest : List ℕ) → good t ≡ true → read 2 (encode t ++ rest) ≡ served (length (encode t)) t
+  reads-back rest g = go (t .manual) refl
     where
       go : (m : Bool) → t .manual ≡ m → read 2 (encode t ++ rest) ≡ served (length (encode t)) t
-      go true e = rw e (manual-back e)
-      go false e = rw e (plain-back e)
+      go true e = rw (encoded-2 e) (back-2 rest g e)
+      go false e = rw (encoded-1 e) (back-1 rest g e)
 
 -- ---- what reads is what would be written
+
+cons-same : {a b : ℕ} {xs ys : List ℕ} → a ≡ b → xs ≡ ys → (a ∷ xs) ≡ (b ∷ ys)
+cons-same {a} {b} {xs} {ys} e f = ap (λ (x : ℕ). x ∷ xs) e ∙ ap (λ (r : List ℕ). b ∷ r) f
 
 -- the bytes of a kind that were read, and those of the settings they give
 same-bytes : (b0 b1 b2 b3 b4 b5 b6 b7 b8 b9 b10 b11 b12 b13 l k : ℕ) (tail : List ℕ)
@@ -148,19 +169,9 @@ same-bytes b0 b1 b2 b3 b4 b5 b6 b7 b8 b9 b10 b11 b12 b13 l k tail h0 h1 h2 h3 h4
     let e2 : b2 ≡ k = omega arith in
     let e3 : b3 ≡ 0 = omega arith in
     let e7 : (b7 + 1 - 1) % 256 ≡ b7 = omega arith in
-    rw (
-      e0,
-      e1,
-      e2,
-      e3,
-      byte-back b4 h4,
-      byte-back b5 h5,
-      byte-back b6 h6,
-      e7,
-      byte-back b8 h8,
-      byte-back b9 h9,
-      four-bytes b10 b11 b12 b13 h10 h11 h12 h13,
-    )
+    cons-same e0 (cons-same e1 (cons-same e2 (cons-same e3 (cons-same (sym (byte-back b4 h4)) (cons-same (sym (byte-back b5 h5))
+    (cons-same (sym (byte-back b6 h6)) (cons-same (sym e7) (cons-same (sym (byte-back b8 h8)) (cons-same (sym (byte-back b9 h9))
+    (sym (ap (λ (r : List ℕ). r ++ tail) (four-bytes b10 b11 b12 b13 h10 h11 h12 h13))))))))))))
 
 module _ (s : List ℕ) (byte : (i : ℕ) → getD s i 0 < 256) (h : readNumber 2 s ≡ 0) where
   p : Passed 2 s
@@ -168,31 +179,33 @@ module _ (s : List ℕ) (byte : (i : ℕ) → getD s i 0 < 256) (h : readNumber 
 
   held : good (decode s) ≡ true
   unfolding wrongSettings
-  held = not-false (good (decode s)) (or-right (wrongAdded s) _ (p .held))
+  held = not-false (good (decode s)) (or-right (wrongAdded s) (not (good (decode s))) (p .held))
 
   long : 2 + lengthOf s ≤ length s
   unfolding cutShort
-  long = ltb-false (length s) (2 + lengthOf s) (or-right _ _ (or-right _ _ (p .long)))
+  long =
+      let c : Bool = ltb (length s) (2 + lengthOf s) in
+      ltb-false (length s) (2 + lengthOf s) (or-right (ltb (lengthOf s) 2) c (or-right (ltb (length s) 2) (ltb (lengthOf s) 2 || c) (p .long)))
 
   kind-least : 1 ≤ kindOf s
   unfolding strangeKind
-  kind-least = ltb-false (kindOf s) 1 (or-left _ _ (p .known))
+  kind-least = ltb-false (kindOf s) 1 (or-left (ltb (kindOf s) 1) (ltb 2 (kindOf s)) (p .known))
 
   kind-most : kindOf s ≤ 2
   unfolding strangeKind
-  kind-most = ltb-false 2 (kindOf s) (or-right _ _ (p .known))
+  kind-most = ltb-false 2 (kindOf s) (or-right (ltb (kindOf s) 1) (ltb 2 (kindOf s)) (p .known))
 
   length-1 : kindOf s ≡ 1 → lengthOf s ≡ 12
   unfolding wrongLength
-  length-1 e = eqb-true (lengthOf s) 12 (not-false _ (sym (rw (eq-eqb (kindOf s) 1 e)) ∙ or-left (eqb (kindOf s) 1 && not (eqb (lengthOf s) 12)) _ (p .fitting)))
+  length-1 e = eqb-true (lengthOf s) 12 (not-false _ (sym (rw (eq-eqb (kindOf s) 1 e)) ∙ or-left (eqb (kindOf s) 1 && not (eqb (lengthOf s) 12)) (eqb (kindOf s) 2 && not (eqb (lengthOf s) 13)) (p .fitting)))
 
   length-2 : kindOf s ≡ 2 → lengthOf s ≡ 13
   unfolding wrongLength
-  length-2 e = eqb-true (lengthOf s) 13 (not-false _ (sym (rw (eq-eqb (kindOf s) 2 e)) ∙ or-right _ (eqb (kindOf s) 2 && not (eqb (lengthOf s) 13)) (p .fitting)))
+  length-2 e = eqb-true (lengthOf s) 13 (not-false _ (sym (rw (eq-eqb (kindOf s) 2 e)) ∙ or-right (eqb (kindOf s) 1 && not (eqb (lengthOf s) 12)) (eqb (kindOf s) 2 && not (eqb (lengthOf s) 13)) (p .fitting)))
 
   added : kindOf s ≡ 2 → getD s 14 0 ≡ 1
   unfolding wrongSettings wrongAdded
-  added e = eqb-true (getD s 14 0) 1 (not-false _ (sym (rw (eq-eqb (kindOf s) 2 e)) ∙ or-left (eqb (kindOf s) 2 && not (eqb (byteAt s 14) 1)) _ (p .held)))
+  added e = eqb-true (getD s 14 0) 1 (not-false _ (sym (rw (eq-eqb (kindOf s) 2 e)) ∙ or-left (eqb (kindOf s) 2 && not (eqb (byteAt s 14) 1)) (not (good (decode s))) (p .held)))
 
   taken-1 : kindOf s ≡ 1 → take 14 s ≡ encode (decode s)
   unfolding encode decode places
