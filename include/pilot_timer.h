@@ -1,11 +1,11 @@
 /*
- * The proved pilot timer from C: a board of timers and pins and a test desk's list of pilots (libboard.a), and the duty
- * report of a shift (libshift.a).
+ * The proved pilot timer from C: a board of timers and pins and a test desk's list of pilots (libboard.a), the duty report of a shift
+ * (libshift.a), and timers' settings as records (libsettings.a).
  *
- *     rt staticlib board && rt staticlib shift
- *     cc -std=c11 -Iinclude program.c target/staticlib/libboard.a target/staticlib/libshift.a
+ *     rt staticlib board && rt staticlib shift && rt staticlib settings
+ *     cc -std=c11 -Iinclude program.c target/staticlib/libboard.a target/staticlib/libshift.a target/staticlib/libsettings.a
  *
- * The archives are for x86-64 Linux and need memset of the C library alone. examples/pilot.c is a whole program.
+ * The archives are for x86-64 Linux and need memset of the C library alone. examples/pilot.c is a whole program, examples/record.c another of records.
  *
  * Memory. All of it is the caller's: the library has none of its own, allocates nothing and keeps no pointer. So boards have nothing to do with
  * each other and may be used on different threads; calls on one board are made one at a time.
@@ -71,7 +71,10 @@ enum pilot_number {
     PILOT_SHIFT_REVERSED = 9,    /* a shift whose end is below its beginning */
     PILOT_BOOK_OUT_OF_ORDER = 10, /* an entry before its pin's last one, or of a pin above 127 or a level above 1 */
     PILOT_SOCKET_TAKEN = 11,      /* a pin set to a signal that another pin routes; asked after 5 and before 6 */
-    PILOT_TOO_WIDE = 12           /* small pilots up to a size above 7; no call of a board gives it, as none gives 9 or 10 */
+    PILOT_TOO_WIDE = 12,          /* small pilots up to a size above 7; no call of a board gives it, as none gives 9 or 10 */
+    PILOT_CUT_SHORT = 13,         /* a record, or the places for one, is cut short; 13 to 15 are of records alone */
+    PILOT_STRANGE_KIND = 14,      /* a record of a kind that the reader does not know */
+    PILOT_WRONG_LENGTH = 15       /* a record whose length is not its kind's */
 };
 
 /* What every call of a board answers; 16 bytes, in two registers. */
@@ -96,6 +99,31 @@ typedef struct pilot_listed {
     uint32_t mode; /* 6 or 7; 0 past the end */
     uint32_t down; /* 0 up, 1 down */
 } pilot_listed;
+
+/* A timer's settings as a record has them and set-up takes them: the bus counts from 1. */
+typedef struct pilot_settings {
+    uint32_t number; /* the n of TIMn */
+    uint32_t width;
+    uint32_t channels;
+    uint32_t bus;
+    uint32_t word; /* the enable word, and its bit */
+    uint32_t bit;
+    uint32_t irq;
+    uint32_t manual; /* 1 in manual mode, else 0 */
+} pilot_settings;
+
+/* What the writer of a record answers; 8 bytes. */
+typedef struct pilot_stored {
+    uint32_t number; /* 0, 13 or 1 */
+    uint32_t count;  /* bytes written */
+} pilot_stored;
+
+/* What a reader of records answers; 40 bytes, in memory that the caller of the function gives (C does this by itself). */
+typedef struct pilot_read {
+    uint32_t number; /* 0, 13, 14, 15 or 1; the rest is 0 where it is not 0 */
+    uint32_t count;  /* bytes that the record took */
+    pilot_settings timer;
+} pilot_read;
 
 /* Offsets of a timer's registers. */
 enum pilot_register {
@@ -246,6 +274,21 @@ pilot_summary shift_end(const uint64_t kept[PILOT_SHIFT_KEPT], uint64_t figures[
 /* Begin, one feed and end. */
 pilot_summary shift_report(uint64_t figures[PILOT_FIGURES], const uint32_t words[4], uint64_t from, uint64_t to, const uint8_t *pins, size_t pins_len,
                            const uint8_t *levels, size_t levels_len, const uint64_t *cycles, size_t cycles_len);
+
+/* ---- a timer's settings as a record, to be kept (document 02, F-10); docs/RECORDS.md has the format */
+
+/*
+ * Writes a timer's record to the front of out: 14 bytes, or 15 for a manual mode other than 0. The places behind it stay as they were. Refused with 13 for
+ * too few places, then 1 for a setting outside its limits, a bus outside 1 to 4, or an interrupt above 2^32 - 1; nothing is written then.
+ */
+pilot_stored record_write(uint8_t *out, size_t out_len, uint64_t number, uint64_t width, uint64_t channels, uint64_t bus, uint64_t word, uint64_t bit,
+                          uint64_t irq, uint64_t manual);
+
+/* Reads the record at the front of bytes; what stands behind it is passed over. Refused with 13, 14, 15 or 1, in that order. */
+pilot_read record_read(const uint8_t *bytes, size_t bytes_len);
+
+/* The same of kind 1 alone: 14 for kind 2. */
+pilot_read record_read_kind_1(const uint8_t *bytes, size_t bytes_len);
 
 #ifdef __cplusplus
 }

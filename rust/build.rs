@@ -10,7 +10,7 @@ fn main() {
         Some(dir) => PathBuf::from(dir),
         None => PathBuf::from(env::var_os("CARGO_MANIFEST_DIR").unwrap()).join("../target/staticlib"),
     };
-    for name in ["board", "shift"] {
+    for name in ["board", "shift", "settings"] {
         let lib = dir.join(format!("lib{name}.a"));
         println!("cargo:rerun-if-changed={}", lib.display());
         if !lib.is_file() {

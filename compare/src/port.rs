@@ -3,6 +3,7 @@
 use std::fmt::{self, Display, Formatter};
 
 use board::ffi::{self, Book, State};
+use oracle::record::Fields;
 use oracle::{Answer, Aside, Call, Entry, Setup};
 
 /// A book of this many places is as good as any larger one: 100,001 events of 4 entries each, and room for a next.
@@ -224,9 +225,33 @@ fn changes(call: &Call) -> bool {
 /// What the library answers to a line that asks the board nothing, as a line.
 pub fn aside(aside: &Aside) -> String {
     match *aside {
+        Aside::Record { timer, places } => oracle::record::write_line(write_record(&timer, places)),
+        Aside::Unrecord { latest, ref bytes } => oracle::record::read_line(read_record(bytes, latest)),
         Aside::Pilot { n, k } => match ffi::pilot(n, k) {
             ffi::Listed { number: 0, reload, prescaler, compare, mode, down } => format!("0 0 0 {reload} {prescaler} {compare} {mode} {down}"),
             refused => format!("{} 0 0", refused.number),
         },
     }
+}
+
+/// The library's writer as the oracle's: the record's bytes, or a number. A place behind them that is touched is told.
+pub fn write_record(timer: &Fields, places: u64) -> Result<Vec<u8>, u8> {
+    const UNTOUCHED: u8 = 0xa5;
+    let mut lent = vec![UNTOUCHED; places.min(64) as usize];
+    let stored = ffi::write_record(&mut lent, *timer);
+    let count = stored.count as usize;
+    assert!(lent[count..].iter().all(|&b| b == UNTOUCHED), "{timer:?} with {places} places touches {lent:?} behind {count}");
+    if stored.number == 0 { Ok(lent[..count].to_vec()) } else { Err(stored.number as u8) }
+}
+
+/// The library's readers as the oracle's.
+pub fn read_record(bytes: &[u8], latest: u16) -> Result<(Fields, usize), u8> {
+    let read = if latest == 1 { ffi::read_record_kind_1(bytes) } else { ffi::read_record(bytes) };
+    let ffi::Settings { number, width, channels, bus, word, bit, irq, manual } = read.timer;
+    let fields = [number, width, channels, bus, word, bit, irq, manual].map(u64::from);
+    if read.number == 0 {
+        return Ok((fields, read.count as usize));
+    }
+    assert_eq!((fields, read.count), ([0; 8], 0), "{bytes:?} is refused with {} and has settings", read.number);
+    Err(read.number as u8)
 }

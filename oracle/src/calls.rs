@@ -2,6 +2,8 @@
 
 use std::fmt::{self, Display, Formatter};
 
+use crate::record;
+
 /// One timer of a set-up. Everything as written, for the board to judge.
 #[derive(Clone, Copy, Debug, PartialEq, Eq)]
 pub struct TimerSpec {
@@ -74,10 +76,14 @@ impl Call {
 }
 
 /// A line that asks the board nothing and changes nothing.
-#[derive(Clone, Copy, Debug, PartialEq, Eq)]
+#[derive(Clone, Debug, PartialEq, Eq)]
 pub enum Aside {
     /// The setting at place `k` of the pilots up to `n` (document 02, F-9).
     Pilot { n: u32, k: u32 },
+    /// The writer of a timer's record into so many places (document 02, F-10).
+    Record { timer: record::Fields, places: u64 },
+    /// The reader of the kinds up to `latest`.
+    Unrecord { latest: u16, bytes: Vec<u8> },
 }
 
 /// What a line is.
@@ -159,6 +165,10 @@ impl<'a, I: Iterator<Item = &'a [u8]>> Words<'a, I> {
         self.at_most(u64::MAX)?.ok_or(Malformed::Missing)
     }
 
+    fn bytes(&mut self) -> Result<Vec<u8>, Malformed> {
+        record::bytes(self.0.next().ok_or(Malformed::Missing)?).ok_or(Malformed::NotANumber)
+    }
+
     fn short(&mut self) -> Result<u32, Malformed> {
         Ok(self.at_most(u32::MAX as u64)?.ok_or(Malformed::Missing)? as u32)
     }
@@ -175,6 +185,15 @@ impl<'a, I: Iterator<Item = &'a [u8]>> Words<'a, I> {
     fn aside(&mut self, first: &[u8]) -> Result<Option<Aside>, Malformed> {
         Ok(Some(match first {
             b"pilot" => Aside::Pilot { n: self.short()?, k: self.short()? },
+            b"record" => {
+                let mut timer = [0; 8];
+                for field in &mut timer {
+                    *field = self.wide()?;
+                }
+                Aside::Record { timer, places: self.wide()? }
+            }
+            b"unrecord" => Aside::Unrecord { latest: 2, bytes: self.bytes()? },
+            b"unrecord1" => Aside::Unrecord { latest: 1, bytes: self.bytes()? },
             _ => return Ok(None),
         }))
     }
@@ -331,6 +350,11 @@ impl Display for Aside {
     fn fmt(&self, f: &mut Formatter) -> fmt::Result {
         match self {
             Aside::Pilot { n, k } => write!(f, "pilot {n} {k}"),
+            Aside::Record { timer, places } => write!(f, "record {} {places}", timer.map(|n| n.to_string()).join(" ")),
+            Aside::Unrecord { latest, bytes } => {
+                let hex = if bytes.is_empty() { "-".to_owned() } else { record::hex(bytes) };
+                write!(f, "unrecord{} {hex}", if *latest == 1 { "1" } else { "" })
+            }
         }
     }
 }

@@ -4,6 +4,7 @@ pub mod board;
 pub mod calls;
 pub mod follow;
 pub mod gen;
+pub mod record;
 pub mod rng;
 pub mod samples;
 pub mod silicon;
@@ -20,7 +21,7 @@ pub fn run(input: impl BufRead, mut out: impl Write) -> io::Result<()> {
     for (i, line) in input.split(b'\n').enumerate() {
         match calls::read(&line?) {
             Ok(Some(Line::Call(call))) => writeln!(out, "{}", board.call(&call))?,
-            Ok(Some(Line::Aside(Aside::Pilot { n, k }))) => writeln!(out, "{}", small::answer(n, k))?,
+            Ok(Some(Line::Aside(aside))) => writeln!(out, "{}", answer(&aside))?,
             Ok(None) => {}
             Err(reason) => {
                 writeln!(out, "line {}: {reason}", i + 1)?;
@@ -29,4 +30,13 @@ pub fn run(input: impl BufRead, mut out: impl Write) -> io::Result<()> {
         }
     }
     out.flush()
+}
+
+/// What a line that asks the board nothing is answered.
+pub fn answer(aside: &Aside) -> String {
+    match aside {
+        Aside::Pilot { n, k } => small::answer(*n, *k),
+        Aside::Record { timer, places } => record::write_line(record::write(timer, *places)),
+        Aside::Unrecord { latest, bytes } => record::read_line(record::read(bytes, *latest)),
+    }
 }

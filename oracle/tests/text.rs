@@ -69,6 +69,18 @@ fn malformed_lines() {
         ("pilot 4294967296 0", TooLarge),
         ("pilot -1 0", NotANumber),
         ("pilots 1 0", UnknownWord),
+        ("record 2 32 4 1 3 0 5 0", Missing),
+        ("record 2 32 4 1 3 0 5 0 14 0", Surplus),
+        ("record 2 32 4 1 3 0 5 0 18446744073709551616", TooLarge),
+        ("record 2 32 4 1 3 0 -5 0 14", NotANumber),
+        ("unrecord", Missing),
+        ("unrecord 0", NotANumber),
+        ("unrecord 0g", NotANumber),
+        ("unrecord 0x00", NotANumber),
+        ("unrecord --", NotANumber),
+        ("unrecord - -", Surplus),
+        ("unrecord1 00 1", Surplus),
+        ("unrecord2 00", UnknownWord),
         ("setup 0 0 1 0", Missing),
         ("setup 0 0 1 0 0", Missing),
         ("setup 0 0 1 0 4294967295 1 2 3", Missing),
@@ -122,6 +134,11 @@ fn asides() {
     assert_eq!(read(b" pilot 0x1 47 # last"), Ok(Some(Line::Aside(Aside::Pilot { n: 1, k: 47 }))));
     assert_eq!(Aside::Pilot { n: 1, k: 47 }.to_string(), "pilot 1 47");
     assert_eq!(parse(b"pilot 1 47"), Ok(None));
+    for line in ["record 2 32 4 1 3 0 18446744073709551615 7 99", "unrecord 0c00ff", "unrecord1 00", "unrecord -", "unrecord1 -"] {
+        let Ok(Some(Line::Aside(aside))) = read(line.as_bytes()) else { panic!("{line}") };
+        assert_eq!(aside.to_string(), line);
+    }
+    assert_eq!(read(b"unrecord 0C0a"), read(b"unrecord 0c0A"));
     let list = "next\npilot 1 47\npilot 1 48\npilot 8 0\npilot 8 4294967295\nnext";
     let next = "0 18446744073709551615 0";
     assert_eq!(play(list), [next, "0 0 0 1 1 2 7 1", "0 0 0 0 0 0 0 0", "12 0 0", "12 0 0", next]);

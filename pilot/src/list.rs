@@ -41,6 +41,10 @@ pub enum Call {
     Clear { irq: u32 },
     /// The setting at place `k` of the pilots up to `n`: no board is asked.
     SmallPilot { n: u32, k: u32 },
+    /// A timer's record written; the bytes of one read, and read by the reader of kind 1 alone. No board is asked either.
+    Record { timer: [u64; 8], places: u64 },
+    Unrecord { bytes: Vec<u8> },
+    Unrecord1 { bytes: Vec<u8> },
 }
 
 /// How the numbers behind a call's word make the call.
@@ -88,6 +92,9 @@ const FORMS: &[(&str, Form)] = &[
     ("time", |n| Ok(Call::Time { cycle: n.wide()? })),
     ("clear", |n| Ok(Call::Clear { irq: n.short()? })),
     ("pilot", |n| Ok(Call::SmallPilot { n: n.short()?, k: n.short()? })),
+    ("record", |n| Ok(Call::Record { timer: n.timer()?, places: n.wide()? })),
+    ("unrecord", |n| Ok(Call::Unrecord { bytes: n.bytes()? })),
+    ("unrecord1", |n| Ok(Call::Unrecord1 { bytes: n.bytes()? })),
 ];
 
 /// A table of this many entries is as wrong as any longer one: the most that is right is 128 pins of 16.
@@ -202,6 +209,30 @@ impl Numbers<'_> {
         Ok(dividers)
     }
 
+    /// The eight numbers of a record.
+    fn timer(&mut self) -> Result<[u64; 8], Malformed> {
+        let mut timer = [0; 8];
+        for field in &mut timer {
+            *field = self.wide()?;
+        }
+        Ok(timer)
+    }
+
+    /// An even number of hexadecimal digits, or `-` for no byte.
+    fn bytes(&mut self) -> Result<Vec<u8>, Malformed> {
+        let word = self.0.next().ok_or(Malformed::Missing)?;
+        if word == b"-" {
+            return Ok(Vec::new());
+        }
+        let digit = |b: u8| char::from(b).to_digit(16).ok_or(Malformed::NotANumber);
+        let mut bytes = Vec::with_capacity(word.len() / 2);
+        for pair in word.chunks(2) {
+            let [high, low] = *pair else { return Err(Malformed::NotANumber) };
+            bytes.push((digit(high)? << 4 | digit(low)?) as u8);
+        }
+        Ok(bytes)
+    }
+
     fn set_up(&mut self) -> Result<Call, Malformed> {
         let (hz, vcc) = (self.float()?, self.float()?);
         let (pins, lines) = (self.short()?, self.short()?);
@@ -265,6 +296,9 @@ mod tests {
         assert_eq!(read("drive 1 3 0x4000000000000000 4 5"), Call::Drive { pin: 1, kind: 3, volts: 2.0, cycle: 4, book: 5 });
         assert_eq!(read("\ttime 0XfFfFfFfFfFfFfFfF# all\r"), Call::Time { cycle: u64::MAX });
         assert_eq!(read("pilot 1 2"), Call::SmallPilot { n: 1, k: 2 });
+        assert_eq!(read("record 1 2 3 4 5 6 7 8 9"), Call::Record { timer: [1, 2, 3, 4, 5, 6, 7, 8], places: 9 });
+        assert_eq!(read("unrecord 0fF0"), Call::Unrecord { bytes: vec![0x0f, 0xf0] });
+        assert_eq!(read("unrecord1 -"), Call::Unrecord1 { bytes: vec![] });
         assert_eq!(read("level 00000000000000000000004294967295"), Call::Level { pin: u32::MAX });
     }
 
@@ -292,6 +326,16 @@ mod tests {
         assert_eq!([read("manual"), read("1 manual 1")], [Err(Malformed::Missing), Err(Malformed::NotANumber)]);
         assert_eq!([read("manually 1"), read("Manual 1"), read("manual manual")], [Err(Malformed::NotANumber); 3]);
         assert_eq!([read("manual 1 1"), read("manual 1 manual 1")], [Err(Malformed::Surplus); 2]);
+    }
+
+    #[test]
+    fn bytes_are_pairs_of_digits() {
+        for word in ["0", "000", "0g", "g0", "0x00", "--", "-0", "+1", "0_"] {
+            assert_eq!(parse(format!("unrecord {word}").as_bytes()), Err(Malformed::NotANumber), "{word}");
+        }
+        assert_eq!(parse(b"unrecord"), Err(Malformed::Missing));
+        assert_eq!(parse(b"unrecord1 00 -"), Err(Malformed::Surplus));
+        assert_eq!(parse(b"record 1 2 3 4 5 6 18446744073709551616 8 9"), Err(Malformed::TooLarge));
     }
 
     #[test]

@@ -3,6 +3,7 @@
 use std::io::{self, Write};
 
 use board::ffi::{self, Book, State};
+use board::RECORD;
 
 use crate::list::{Call, SetUp};
 
@@ -17,6 +18,7 @@ pub struct Player {
     cycles: Vec<u64>,
     answer: ffi::Answer,
     more: Vec<u32>,
+    bytes: Vec<u8>,
 }
 
 /// What a call answered.
@@ -30,6 +32,8 @@ pub struct Answer<'a> {
     pub cycles: &'a [u64],
     /// The numbers behind the three, of a call that has no entries.
     pub more: &'a [u32],
+    /// The record that was written; its bytes are the count then.
+    pub bytes: &'a [u8],
 }
 
 impl Player {
@@ -43,6 +47,7 @@ impl Player {
             cycles: vec![0; places],
             answer: ffi::Answer { value: 0, number: 0, count: 0 },
             more: Vec::new(),
+            bytes: Vec::new(),
         }
     }
 
@@ -52,6 +57,7 @@ impl Player {
         let book = &mut Book { pins: &mut self.pins[..lent], levels: &mut self.levels[..lent], cycles: &mut self.cycles[..lent] };
         let s = &mut self.state;
         self.more.clear();
+        self.bytes.clear();
         self.answer = match *call {
             Call::SetUp(SetUp { hz, vcc, pins, lines, ref timers, ref table, manual }) => {
                 s.set_up_manual(hz, vcc, pins, lines, manual, timers, table)
@@ -76,6 +82,9 @@ impl Player {
             Call::Time { cycle } => s.time(cycle),
             Call::Clear { irq } => s.clear_pending(irq),
             Call::SmallPilot { n, k } => small_pilot(n, k, &mut self.more),
+            Call::Record { timer, places } => record(timer, places, &mut self.bytes),
+            Call::Unrecord { ref bytes } => unrecord(ffi::read_record(bytes), &mut self.more),
+            Call::Unrecord1 { ref bytes } => unrecord(ffi::read_record_kind_1(bytes), &mut self.more),
         };
         self.answer()
     }
@@ -84,7 +93,7 @@ impl Player {
     pub fn answer(&self) -> Answer<'_> {
         let ffi::Answer { number, value, count } = self.answer;
         let count = count as usize;
-        Answer { number, value, pins: &self.pins[..count], levels: &self.levels[..count], cycles: &self.cycles[..count], more: &self.more }
+        Answer { number, value, pins: &self.pins[..count], levels: &self.levels[..count], cycles: &self.cycles[..count], more: &self.more, bytes: &self.bytes }
     }
 
     /// The cycle of a timer's next event; `None` if it is stopped or there is no such timer.
@@ -116,20 +125,40 @@ fn small_pilot(n: u32, k: u32, more: &mut Vec<u32>) -> ffi::Answer {
     ffi::Answer { value: 0, number, count: 0 }
 }
 
+/// The record's bytes stand behind the three numbers, the last of which counts them; a refusal has none. No record has more than 15.
+fn record(timer: [u64; 8], places: u64, bytes: &mut Vec<u8>) -> ffi::Answer {
+    let mut lent = [0; RECORD];
+    let stored = ffi::write_record(&mut lent[..places.min(RECORD as u64) as usize], timer);
+    bytes.extend(&lent[..stored.count as usize]);
+    ffi::Answer { value: 0, number: stored.number, count: 0 }
+}
+
+/// The timer's numbers stand behind the three; a refusal has none.
+fn unrecord(read: ffi::Read, more: &mut Vec<u32>) -> ffi::Answer {
+    let ffi::Settings { number, width, channels, bus, word, bit, irq, manual } = read.timer;
+    if read.number == 0 {
+        more.extend([number, width, channels, bus, word, bit, irq, manual]);
+    }
+    ffi::Answer { value: 0, number: read.number, count: 0 }
+}
+
 impl Answer<'_> {
     /// The entries, in order.
     pub fn entries(&self) -> impl Iterator<Item = (u8, u8, u64)> + '_ {
         self.pins.iter().zip(self.levels).zip(self.cycles).map(|((&pin, &level), &cycle)| (pin, level, cycle))
     }
 
-    /// `NUMBER VALUE COUNT`, then ` PIN:LEVEL@CYCLE` for each entry, or the numbers behind the three, and the line's end.
+    /// `NUMBER VALUE COUNT`, then ` PIN:LEVEL@CYCLE` for each entry, or the numbers or bytes behind the three, and the line's end.
     pub fn write(&self, out: &mut impl Write) -> io::Result<()> {
-        write!(out, "{} {} {}", self.number, self.value, self.cycles.len())?;
+        write!(out, "{} {} {}", self.number, self.value, self.cycles.len() + self.bytes.len())?;
         for (pin, level, cycle) in self.entries() {
             write!(out, " {pin}:{level}@{cycle}")?;
         }
         for number in self.more {
             write!(out, " {number}")?;
+        }
+        for (i, byte) in self.bytes.iter().enumerate() {
+            write!(out, "{}{byte:02x}", if i == 0 { " " } else { "" })?;
         }
         out.write_all(b"\n")
     }

@@ -112,7 +112,7 @@ fn the_levels_are_the_definitions_on_every_stored_list() {
             if call.starts_with("setup") && words.next() == Some("0") {
                 records.push(Vec::new());
             }
-            if call.starts_with("pilot") {
+            if ["pilot", "record", "unrecord"].iter().any(|word| call.starts_with(word)) {
                 continue; // no entries stand behind its three numbers
             }
             for word in answer.split(' ').skip(3) {

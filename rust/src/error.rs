@@ -71,6 +71,25 @@ pub enum Error {
         /// The size.
         n: u32,
     },
+    /// 13: a record, or the places for one, is cut short. No call of a board gives 13, 14 or 15; see [`TimerSpec::from_record`](crate::TimerSpec::from_record).
+    CutShort {
+        /// The bytes that there are, or the places that were lent.
+        given: usize,
+        /// What the record needs; `None` where its length is below 2, so that it has no kind.
+        needed: Option<usize>,
+    },
+    /// 14: a record of a kind that the reader does not know.
+    StrangeKind {
+        /// Its kind.
+        kind: u16,
+    },
+    /// 15: a record whose length is not its kind's.
+    WrongLength {
+        /// Its kind.
+        kind: u16,
+        /// Its length: the bytes behind the first two.
+        length: u16,
+    },
     /// A number that this crate does not know: the library is newer.
     Other(u8),
 }
@@ -141,8 +160,38 @@ pub enum Limit {
     },
     /// The supply is not finite and above 0.
     Supply,
+    /// A setting that no record can hold; it is of a record alone.
+    Record(Setting),
     /// A limit that this crate does not know: the library is newer.
     Unknown,
+}
+
+/// A setting of a record that is outside its limits; see [`Limit::Record`] and docs/RECORDS.md.
+///
+/// ```
+/// use board::{Error, Limit, Setting, TimerSpec};
+///
+/// let e = TimerSpec::new(25).to_record().unwrap_err();
+/// assert_eq!(e, Error::WrongBoard(Limit::Record(Setting::Number(25))));
+/// assert_eq!(e.to_string(), "wrong board: the record's number is 25, not 1 to 24");
+/// ```
+#[derive(Clone, Copy, Debug, PartialEq, Eq, Hash)]
+#[non_exhaustive]
+pub enum Setting {
+    /// The timer's number; 1 to 24.
+    Number(u32),
+    /// Its width; 16 or 32.
+    Width(u32),
+    /// Its channels; 0 to 4.
+    Channels(u32),
+    /// Its bus; 1 to 4, which is 0 to 3 in the record.
+    Bus(u32),
+    /// Its enable word; 0 to 8.
+    Word(u32),
+    /// Its enable bit; 0 to 31.
+    Bit(u32),
+    /// The byte that kind 2 adds; always 1.
+    Added(u8),
 }
 
 /// What a board does not have; see [`Error::NoSuchIndex`].
@@ -257,6 +306,9 @@ pub const fn word(number: u8) -> Option<&'static str> {
         10 => "book out of order",
         11 => "socket taken",
         12 => "too wide",
+        13 => "cut short",
+        14 => "strange kind",
+        15 => "wrong length",
         _ => return None,
     })
 }
@@ -293,6 +345,9 @@ impl Error {
             Error::BookOutOfOrder(_) => 10,
             Error::SocketTaken { .. } => 11,
             Error::TooWide { .. } => 12,
+            Error::CutShort { .. } => 13,
+            Error::StrangeKind { .. } => 14,
+            Error::WrongLength { .. } => 15,
             Error::Other(n) => n,
         }
     }
@@ -338,6 +393,10 @@ impl Display for Error {
             Error::ShiftReversed { from, to } => write!(f, ": from {from} to {to}"),
             Error::BookOutOfOrder(d) => write!(f, ": {d}"),
             Error::TooWide { n } => write!(f, ": pilots up to {n}, not up to 7"),
+            Error::CutShort { given, needed: Some(needed) } => write!(f, ": {given} bytes where the record needs {needed}"),
+            Error::CutShort { .. } => f.write_str(": the record's length is below 2, so it has no kind"),
+            Error::StrangeKind { kind } => write!(f, ": the record is of kind {kind}"),
+            Error::WrongLength { kind, length } => write!(f, ": a record of kind {kind} with length {length}"),
             Error::Other(n) => write!(f, " with {n}"),
         }
     }
@@ -358,7 +417,22 @@ impl Display for Limit {
             Limit::Bit { timer, bit } => write!(f, "the timer at index {} has enable bit {bit}, not 0 to 31", timer.0),
             Limit::SameNumber { timer, other, number } => write!(f, "the timers at index {} and {} are both TIM{number}", timer.0, other.0),
             Limit::Supply => f.write_str("the supply is not finite and above 0"),
+            Limit::Record(setting) => write!(f, "the record's {setting}"),
             Limit::Unknown => f.write_str("a limit that this crate does not know"),
+        }
+    }
+}
+
+impl Display for Setting {
+    fn fmt(&self, f: &mut Formatter) -> fmt::Result {
+        match *self {
+            Setting::Number(n) => write!(f, "number is {n}, not 1 to 24"),
+            Setting::Width(n) => write!(f, "width is {n}, not 16 or 32"),
+            Setting::Channels(n) => write!(f, "channels are {n}, not 0 to 4"),
+            Setting::Bus(n) => write!(f, "bus is {n}, not 1 to 4"),
+            Setting::Word(n) => write!(f, "enable word is {n}, not 0 to 8"),
+            Setting::Bit(n) => write!(f, "enable bit is {n}, not 0 to 31"),
+            Setting::Added(n) => write!(f, "added byte is {n}, not 1"),
         }
     }
 }

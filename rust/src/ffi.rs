@@ -93,6 +93,50 @@ pub struct Listed {
     pub down: u32,
 }
 
+/// A timer's settings as a record has them, and set-up takes them: the bus counts from 1.
+#[repr(C)]
+#[derive(Clone, Copy, Debug, PartialEq, Eq)]
+pub struct Settings {
+    /// The n of TIMn.
+    pub number: u32,
+    /// 16 or 32.
+    pub width: u32,
+    /// 0 to 4.
+    pub channels: u32,
+    /// 1 to 4.
+    pub bus: u32,
+    /// The enable word.
+    pub word: u32,
+    /// Its bit.
+    pub bit: u32,
+    /// The interrupt.
+    pub irq: u32,
+    /// 1 in manual mode, else 0.
+    pub manual: u32,
+}
+
+/// What the writer of a record answers.
+#[repr(C)]
+#[derive(Clone, Copy, Debug, PartialEq, Eq)]
+pub struct Stored {
+    /// 0 served, else the number of [`Error`](crate::Error): 13 or 1.
+    pub number: u32,
+    /// Bytes written.
+    pub count: u32,
+}
+
+/// What a reader of records answers.
+#[repr(C)]
+#[derive(Clone, Copy, Debug, PartialEq, Eq)]
+pub struct Read {
+    /// 0 served, else the number of [`Error`](crate::Error): 13, 14, 15 or 1. The rest is 0 then.
+    pub number: u32,
+    /// Bytes that the record took.
+    pub count: u32,
+    /// The timer.
+    pub timer: Settings,
+}
+
 // The exports of crates/board: tests/header.rs holds these declarations to them, and those of include/pilot_timer.h.
 unsafe extern "C" {
     safe fn board_words() -> usize;
@@ -126,6 +170,13 @@ unsafe extern "C" {
     fn shift_feed(kept: *mut u64, pins: *const u8, pins_len: usize, levels: *const u8, levels_len: usize, cycles: *const u64, cycles_len: usize);
     fn shift_end(kept: *const u64, figures: *mut u64) -> Summary;
     fn shift_report(figures: *mut u64, words: *const u32, from: u64, to: u64, pins: *const u8, pins_len: usize, levels: *const u8, levels_len: usize, cycles: *const u64, cycles_len: usize) -> Summary;
+}
+
+// The exports of crates/settings.
+unsafe extern "C" {
+    fn record_write(out: *mut u8, out_len: usize, number: u64, width: u64, channels: u64, bus: u64, word: u64, bit: u64, irq: u64, manual: u64) -> Stored;
+    fn record_read(bytes: *const u8, bytes_len: usize) -> Read;
+    fn record_read_kind_1(bytes: *const u8, bytes_len: usize) -> Read;
 }
 
 /// A call that reads the state.
@@ -363,4 +414,35 @@ pub fn end(kept: &[u64; KEPT], figures: &mut [u64; FIGURES]) -> Summary {
 pub fn report(figures: &mut [u64; FIGURES], words: &[u32; 4], from: u64, to: u64, pins: &[u8], levels: &[u8], cycles: &[u64]) -> Summary {
     // SAFETY: as above.
     unsafe { shift_report(figures.as_mut_ptr(), words.as_ptr(), from, to, pins.as_ptr(), pins.len(), levels.as_ptr(), levels.len(), cycles.as_ptr(), cycles.len()) }
+}
+
+/// Writes a timer's record to the front of `places`: number, width, channels, bus, enable word, enable bit, interrupt, manual mode.
+/// [`TimerSpec::write_record`](crate::TimerSpec::write_record) says more; here an interrupt may be above 2^32 − 1, and is refused.
+///
+/// ```
+/// use board::ffi::{write_record, Stored};
+///
+/// let mut places = [0; 15];
+/// assert_eq!(write_record(&mut places, [2, 32, 4, 1, 3, 0, 5, 0]), Stored { number: 0, count: 14 });
+/// assert_eq!(places, [12, 0, 1, 0, 2, 32, 4, 0, 3, 0, 5, 0, 0, 0, 0]);
+/// assert_eq!(write_record(&mut places, [2, 32, 4, 1, 3, 0, 1 << 32, 0]), Stored { number: 1, count: 0 });
+/// ```
+#[inline]
+pub fn write_record(places: &mut [u8], [number, width, channels, bus, word, bit, irq, manual]: [u64; 8]) -> Stored {
+    // SAFETY: a live slice with its length, held exclusively.
+    unsafe { record_write(places.as_mut_ptr(), places.len(), number, width, channels, bus, word, bit, irq, manual) }
+}
+
+/// Reads the record at the front; see [`TimerSpec::from_record`](crate::TimerSpec::from_record).
+#[inline]
+pub fn read_record(bytes: &[u8]) -> Read {
+    // SAFETY: a live slice with its length.
+    unsafe { record_read(bytes.as_ptr(), bytes.len()) }
+}
+
+/// The same of kind 1 alone; see [`TimerSpec::from_record_kind_1`](crate::TimerSpec::from_record_kind_1).
+#[inline]
+pub fn read_record_kind_1(bytes: &[u8]) -> Read {
+    // SAFETY: as above.
+    unsafe { record_read_kind_1(bytes.as_ptr(), bytes.len()) }
 }

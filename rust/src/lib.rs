@@ -7,6 +7,7 @@
 //! - [`Reg`], [`Cr1`], [`Ccmr`] and [`Ccer`] are the registers by name; [`Clock`] and [`Timing`] make cycles of hertz and seconds.
 //! - A [`Shift`] takes the entries and gives the planner's figures.
 //! - [`SmallPilots`] lists every pilot up to a size, for a test desk.
+//! - [`TimerSpec::to_record`] and [`TimerSpec::from_record`] are a timer's settings as bytes, to be kept; [`TimerSpec::records`] reads a file of them.
 //! - [`Error`] says what a call was refused for; [`Board::save`] and [`Board::restore`] carry a board over a restart.
 //!
 //! What the library answers is proved. This crate is not: it hands calls on, and its tests compare it with the published Rust.
@@ -71,6 +72,7 @@ mod error;
 #[allow(unsafe_code)]
 pub mod ffi;
 mod pilot;
+mod record;
 mod reg;
 mod save;
 mod setup;
@@ -79,8 +81,9 @@ mod small;
 mod time;
 
 pub use board::{Board, Delivered, Entry, Line, Written};
-pub use error::{is_refusal, word, ClockField, Disorder, Error, Index, Limit};
+pub use error::{is_refusal, word, ClockField, Disorder, Error, Index, Limit, Setting};
 pub use pilot::{Pilot, PilotError};
+pub use record::{Records, RECORD};
 pub use reg::{Ccer, Ccmr, Channel, Cr1, OutputMode, Reg, UG};
 pub use save::RestoreError;
 pub use setup::{signal, ClockTree, Drive, Mode, PinConfig, Setup, TimerIndex, TimerSpec};

@@ -1,4 +1,5 @@
-//! include/pilot_timer.h and src/ffi.rs against the library: its sources, crates/board and crates/shift, and the archives that were made of them.
+//! include/pilot_timer.h and src/ffi.rs against the library: its sources, crates/board, crates/shift and crates/settings, and the archives that were made of
+//! them.
 
 use std::path::Path;
 use std::process::Command;
@@ -54,7 +55,7 @@ fn length(of: &str) -> String {
 
 fn sources() -> Vec<Function> {
     let mut functions = Vec::new();
-    for file in ["../crates/board/src/lib.rt", "../crates/shift/src/lib.rt"] {
+    for file in ["../crates/board/src/lib.rt", "../crates/shift/src/lib.rt", "../crates/settings/src/lib.rt"] {
         let file = code(&text(file));
         for f in file.split("#[no_mangle]\npub extern \"C\" fn ").skip(1) {
             let (name, rest) = f.split_once('(').unwrap();
@@ -86,6 +87,7 @@ fn source_fields(name: &str) -> Vec<String> {
     let of = match name {
         "Answer" => "answer",
         "Listed" => "small",
+        "Settings" | "Stored" | "Read" => "settings",
         _ => "shift",
     };
     let file = code(&text(&format!("../crates/{of}/src/lib.rt")));
@@ -107,6 +109,9 @@ fn rust_type(c: &str) -> &str {
         "pilot_answer" => "Answer",
         "pilot_summary" => "Summary",
         "pilot_listed" => "Listed",
+        "pilot_settings" => "Settings",
+        "pilot_stored" => "Stored",
+        "pilot_read" => "Read",
         other => other,
     }
 }
@@ -173,6 +178,9 @@ fn the_header_is_the_library() {
     assert_eq!(header_fields(&header, "pilot_answer"), source_fields("Answer"));
     assert_eq!(header_fields(&header, "pilot_summary"), source_fields("Summary"));
     assert_eq!(header_fields(&header, "pilot_listed"), source_fields("Listed"));
+    for (name, of) in [("pilot_settings", "Settings"), ("pilot_stored", "Stored"), ("pilot_read", "Read")] {
+        assert_eq!(header_fields(&header, name), source_fields(of));
+    }
     for (name, constant) in [("PILOT_BOARD_WORDS", "WORDS"), ("PILOT_BOARD_REALS", "REALS"), ("PILOT_SHIFT_KEPT", "KEPT"), ("PILOT_FIGURES", "FIGURES")] {
         assert_eq!(macro_value(&code(&header), name), length(constant));
     }
@@ -194,7 +202,7 @@ fn ffi_is_the_library() {
     // An array's length is not in a pointer's type.
     wanted.iter_mut().flat_map(|f| &mut f.arguments).for_each(|a| a.truncate(a.find(" [").unwrap_or(a.len())));
     same(&functions, &wanted);
-    for name in ["Answer", "Summary", "Listed"] {
+    for name in ["Answer", "Summary", "Listed", "Settings", "Stored", "Read"] {
         let (fields, _) = between(&file, &format!("pub struct {name} {{"), "}");
         assert_eq!(parts(fields).map(|f| f.trim_start_matches("pub ").to_owned()).collect::<Vec<_>>(), source_fields(name));
     }
@@ -207,12 +215,12 @@ fn the_archives_have_the_functions() {
     let mut names: Vec<_> = header_functions(&header()).into_iter().map(|f| f.name).collect();
     names.sort();
     let libraries = Path::new(env!("BOARD_LIBRARIES"));
-    let nm = Command::new("nm").args(["--extern-only", "--defined-only"]).arg(libraries.join("libboard.a")).arg(libraries.join("libshift.a")).output();
+    let nm = Command::new("nm").args(["--extern-only", "--defined-only"]).args(["board", "shift", "settings"].map(|l| libraries.join(format!("lib{l}.a")))).output();
     let nm = String::from_utf8(nm.expect("nm").stdout).unwrap();
     let mut exported: Vec<_> = nm.lines().filter_map(|l| l.split_whitespace().nth(2)).map(str::to_owned).collect();
     exported.sort();
     assert_eq!(names, exported);
-    assert_eq!(names.len(), 27);
+    assert_eq!(names.len(), 30);
 }
 
 #[test]
@@ -244,6 +252,8 @@ fn a_changed_header_is_seen() {
         ("uint32_t timer", "uint32_t offset"),
         ("pilot_answer", "pilot_summary"),
         ("pilot_listed", "pilot_answer"),
+        ("pilot_read", "pilot_stored"),
+        ("pilot_stored", "pilot_read"),
         ("board_re", "board_ra"),
         ("void shift", "int shift"),
     ];

@@ -2,7 +2,7 @@
 use text::Number;
 use text::Reading;
 
-// Places of the state: the number of the line; 0 before the first word, 1 in it, 2 between numbers, 3 in a number, 4 in `manual`; whether a
+// Places of the state: the number of the line; 0 before the first word, 1 in it, 2 between numbers, 3 in a number, 4 in `manual`, 5 in bytes; whether a
 // comment runs; whether a carriage return waits for the line's end.
 pub const LINE: usize = 0;
 
@@ -50,8 +50,9 @@ pub const STATE: usize = 18;
 // The longest word of a call has 10 letters.
 pub const WORD: usize = 11;
 
-// A set-up of 9 timers and 2,049 table entries: more is refused as these are.
-pub const ENCODED: usize = 2122;
+// A set-up of 9 timers and 2,049 table entries is 2,122 words: more is refused as these are. The bytes of a record stand one in a word behind the call's
+// number, and a record takes up to 2 + 65,535.
+pub const ENCODED: usize = 65538;
 
 // What a byte leads to: nothing yet, a call, or why there is none.
 pub const GO_ON: u8 = 0;
@@ -184,8 +185,60 @@ fn manual_end(state: &mut [u64; STATE], word: &[u8; WORD]) -> u8 {
     NOT_A_NUMBER
 }
 
+// A digit of bytes, the high one first. Steps: 0 none, 1 half a byte, 2 whole bytes, 3 a dash, which is no byte, 4 something else. Bytes that no record can
+// have are passed over.
+fn hex(state: &mut [u64; STATE], call: &mut [u32; ENCODED], b: u8) {
+    let step = state[STEP];
+    let high = state[VALUE];
+    let d = text::digit(b);
+    if (step == 0) & (b == b'-') {
+        state[STEP] = 3;
+        return;
+    }
+    if (3 <= step) | (16 <= d) {
+        state[STEP] = 4;
+        return;
+    }
+    if step != 1 {
+        state[VALUE] = d;
+        state[STEP] = 1;
+        return;
+    }
+    let at = size(state[AT]);
+    if at < ENCODED {
+        put(call, at, 16 * (high % 16) + d % 16);
+        bump(state, AT, 1);
+    }
+    state[STEP] = 2;
+}
+
+// Bytes end: whole ones, or a dash.
+fn hex_end(state: &mut [u64; STATE]) -> u8 {
+    let step = state[STEP];
+    state[PHASE] = 2;
+    state[STEP] = 0;
+    bump(state, FIELD, 1);
+    if (step == 2) | (step == 3) {
+        return GO_ON;
+    }
+    NOT_A_NUMBER
+}
+
+// What a word behind the first begins: bytes, `manual`, or a number.
+fn begins(state: &[u64; STATE], b: u8) -> u64 {
+    if wanted(state) == 4 {
+        return 5;
+    }
+    if b == b'm' {
+        if may_be_manual(state) {
+            return 4;
+        }
+    }
+    3
+}
+
 // A byte that belongs to a word.
-fn letter(state: &mut [u64; STATE], word: &mut [u8; WORD], b: u8) -> u8 {
+fn letter(state: &mut [u64; STATE], word: &mut [u8; WORD], call: &mut [u32; ENCODED], b: u8) -> u8 {
     let phase = state[PHASE];
     if phase < 2 {
         first_letter(state, word, b);
@@ -195,15 +248,14 @@ fn letter(state: &mut [u64; STATE], word: &mut [u8; WORD], b: u8) -> u8 {
         if is_full(state) {
             return SURPLUS;
         }
-        state[PHASE] = 3;
-        if b == b'm' {
-            if may_be_manual(state) {
-                state[PHASE] = 4;
-            }
-        }
+        state[PHASE] = begins(state, b);
     }
     if state[PHASE] == 4 {
         keep(state, word, b);
+        return GO_ON;
+    }
+    if state[PHASE] == 5 {
+        hex(state, call, b);
         return GO_ON;
     }
     digit(state, b);
@@ -399,6 +451,9 @@ fn word_end(state: &mut [u64; STATE], word: &[u8; WORD], call: &mut [u32; ENCODE
     if phase == 4 {
         return manual_end(state, word);
     }
+    if phase == 5 {
+        return hex_end(state);
+    }
     GO_ON
 }
 
@@ -449,7 +504,7 @@ fn mark(state: &mut [u64; STATE], word: &mut [u8; WORD], call: &mut [u32; ENCODE
     if text::is_space(b) {
         return word_end(state, word, call);
     }
-    letter(state, word, b)
+    letter(state, word, call, b)
 }
 
 // The next byte of the list.
@@ -467,7 +522,7 @@ pub fn feed(
     }
     if state[RETURN] != 0 {
         state[RETURN] = 0;
-        let e = letter(state, word, b'\r');
+        let e = letter(state, word, call, b'\r');
         if e != GO_ON {
             return e;
         }

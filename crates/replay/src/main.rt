@@ -9,14 +9,21 @@ use line::USED;
 use line::WIDE;
 use line::WORD;
 use reply::OUT;
+use settings::Read;
+use settings::Stored;
 use state::REALS;
 use state::WORDS;
 
 // 100,001 events make at most four entries each: a longer book never matters.
 const PLACES: usize = 400004;
 
-// The word that asks the board nothing, by its place among the words.
+// The words that ask the board nothing, from this place among the words on.
 const PILOT: u64 = 18;
+
+// A record's bytes: no longer one is written, and none takes more.
+const WRITTEN: usize = 15;
+
+const BYTES: usize = 65537;
 
 // What a turn leads to: the next, the end of the run, or the end because the list cannot be read.
 const MORE: u8 = 0;
@@ -121,6 +128,129 @@ fn pilot(n: u32, k: u32, out: &mut [u8; OUT], used: usize) -> usize {
     reply::numbers(out, used, &answer, &setting)
 }
 
+// The number of 64 bits at place i of a call that has no others.
+fn wide(call: &[u32; ENCODED], i: usize) -> u64 {
+    if 9 <= i {
+        return 0;
+    }
+    let at = 1 + 2 * i;
+    let high = call[at + 1];
+    let low = call[at];
+    4294967296 * high as u64 + low as u64
+}
+
+// Writes the record of the call's timer to the first n places.
+fn store(call: &[u32; ENCODED], places: &mut [u8], n: usize) -> Stored {
+    if places.len() < n {
+        return Stored {
+            number: 13,
+            count: 0,
+        };
+    }
+    settings::record_write(
+        &mut places[..n],
+        wide(call, 0),
+        wide(call, 1),
+        wide(call, 2),
+        wide(call, 3),
+        wide(call, 4),
+        wide(call, 5),
+        wide(call, 6),
+        wide(call, 7),
+    )
+}
+
+// The record as it was written.
+fn written(places: &[u8], answer: &[u64; 3], n: usize, out: &mut [u8; OUT], used: usize) -> usize {
+    if places.len() < n {
+        return used;
+    }
+    reply::bytes(out, used, answer, &places[..n])
+}
+
+// The writer of records (document 02, F-10), lent as many of the line's places as a record can need.
+fn record(call: &[u32; ENCODED], out: &mut [u8; OUT], used: usize) -> usize {
+    let mut places = [0u8; WRITTEN];
+    let asked = wide(call, 8);
+    let n = if asked < 15 {
+        line::size(asked)
+    } else {
+        WRITTEN
+    };
+    let s = store(call, &mut places, n);
+    let answer = [s.number as u64, 0, s.count as u64];
+    if s.number != 0 {
+        return reply::plain(out, used, &answer);
+    }
+    written(&places, &answer, s.count as usize, out, used)
+}
+
+fn take_byte(call: &[u32; ENCODED], bytes: &mut [u8; BYTES], i: usize) {
+    if i < BYTES {
+        bytes[i] = (call[i + 1] % 256) as u8;
+    }
+}
+
+// The first n bytes of the call.
+fn take(call: &[u32; ENCODED], bytes: &mut [u8; BYTES], n: usize) {
+    let mut i = 0;
+    while i < n {
+        take_byte(call, bytes, i);
+        i += 1;
+    }
+}
+
+// Reads the first n bytes, by the reader of kind 1 alone or by the other.
+fn load(bytes: &[u8], n: usize, kind_1: bool) -> Read {
+    if bytes.len() < n {
+        return settings::record_read(bytes);
+    }
+    if kind_1 {
+        return settings::record_read_kind_1(&bytes[..n]);
+    }
+    settings::record_read(&bytes[..n])
+}
+
+// The readers of records: the bytes are the call's words behind its number.
+fn unrecord(
+    call: &[u32; ENCODED],
+    length: usize,
+    kind_1: bool,
+    out: &mut [u8; OUT],
+    used: usize,
+) -> usize {
+    let mut bytes = [0u8; BYTES];
+    let n = if length < 1 { 0 } else { length - 1 };
+    take(call, &mut bytes, n);
+    let r = load(&bytes, n, kind_1);
+    let answer = [r.number as u64, 0, 0];
+    if r.number != 0 {
+        return reply::plain(out, used, &answer);
+    }
+    let t = r.timer;
+    let settings = [
+        t.number as u64,
+        t.width as u64,
+        t.channels as u64,
+        t.bus as u64,
+        t.word as u64,
+        t.bit as u64,
+        t.irq as u64,
+        t.manual as u64,
+    ];
+    reply::numbers(out, used, &answer, &settings)
+}
+
+// A line that asks the board nothing.
+fn aside(op: u64, call: &[u32; ENCODED], length: usize, out: &mut [u8; OUT], used: usize) -> usize {
+    match op {
+        18 => pilot(call[1], call[2], out, used),
+        19 => record(call, out, used),
+        20 => unrecord(call, length, false, out, used),
+        _ => unrecord(call, length, true, out, used),
+    }
+}
+
 // A line is complete: a call is answered, a reason is told. Whether the run goes on: not when a write has failed.
 fn act(
     event: u8,
@@ -137,8 +267,8 @@ fn act(
     if event == line::CALL {
         let length = line::size(state[AT]);
         let op = state[OP];
-        if op == PILOT {
-            let p = pilot(call[1], call[2], out, used);
+        if PILOT <= op {
+            let p = aside(op, call, length, out, used);
             state[USED] = p as u64;
             return reply::whole(p);
         }

@@ -138,6 +138,31 @@ pub fn numbers(out: &mut [u8; OUT], n: usize, answer: &[u64; 3], more: &[u64]) -
     put(out, last, b'\n')
 }
 
+// The small hexadecimal digit of a number below 16.
+fn hex_digit(d: u8) -> u8 {
+    let e = d % 16;
+    if e < 10 { 48 + e } else { 87 + e }
+}
+
+fn hex(out: &mut [u8; OUT], n: usize, b: u8) -> usize {
+    let a = room(out, n);
+    let c = put(out, a, hex_digit(b / 16));
+    put(out, c, hex_digit(b))
+}
+
+// The line of an answer whose count is that of the bytes behind its three numbers.
+pub fn bytes(out: &mut [u8; OUT], n: usize, answer: &[u64; 3], bytes: &[u8]) -> usize {
+    let a = head(out, n, answer);
+    let mut at = put(out, a, b' ');
+    let mut i = 0;
+    while i < bytes.len() {
+        at = hex(out, at, bytes[i]);
+        i += 1;
+    }
+    let last = room(out, at);
+    put(out, last, b'\n')
+}
+
 // A text of few bytes.
 fn words(out: &mut [u8; OUT], n: usize, s: &[u8]) -> usize {
     let mut at = room(out, n);

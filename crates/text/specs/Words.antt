@@ -21,7 +21,8 @@ placeIn w [] = 0
 placeIn w (x ∷ xs) = cond (sameWord w x) 0 (placeIn w xs + 1)
 
 -- the words of the table; "Words are written as in the table, in small letters": setup, clock, enable, pin, drive, reset-pins, read, write,
--- peek, reset, deliver, booked, next, level, volts, line, time, clear; then what asks the board nothing: pilot
+-- peek, reset, deliver, booked, next, level, volts, line, time, clear; then what asks the board nothing: pilot, record,
+-- unrecord, unrecord1
 abbrev pub calls : List (List ℕ)
 calls =
     (115 ∷ 101 ∷ 116 ∷ 117 ∷ 112 ∷ [])
@@ -43,13 +44,16 @@ calls =
     ∷ (116 ∷ 105 ∷ 109 ∷ 101 ∷ [])
     ∷ (99 ∷ 108 ∷ 101 ∷ 97 ∷ 114 ∷ [])
     ∷ (112 ∷ 105 ∷ 108 ∷ 111 ∷ 116 ∷ [])
+    ∷ (114 ∷ 101 ∷ 99 ∷ 111 ∷ 114 ∷ 100 ∷ [])
+    ∷ (117 ∷ 110 ∷ 114 ∷ 101 ∷ 99 ∷ 111 ∷ 114 ∷ 100 ∷ [])
+    ∷ (117 ∷ 110 ∷ 114 ∷ 101 ∷ 99 ∷ 111 ∷ 114 ∷ 100 ∷ 49 ∷ [])
     ∷ []
 
--- 19 for an unknown word
+-- 22 for an unknown word
 unfoldable pub callOf : List ℕ → ℕ
 callOf w = placeIn w calls
 
--- what stands in each number's place: 1 a number of 32 bits, 2 one of 64 bits, 3 one that is at most 3. Of `setup` those before its timers.
+-- what stands in each number's place: 1 a number of 32 bits, 2 one of 64 bits, 3 one that is at most 3, 4 bytes. Of `setup` those before its timers.
 abbrev pub shapes : List (List ℕ)
 shapes =
     (2 ∷ 2 ∷ 1 ∷ 1 ∷ 1 ∷ [])
@@ -71,6 +75,9 @@ shapes =
     ∷ (2 ∷ [])
     ∷ (1 ∷ [])
     ∷ (1 ∷ 1 ∷ [])
+    ∷ (2 ∷ 2 ∷ 2 ∷ 2 ∷ 2 ∷ 2 ∷ 2 ∷ 2 ∷ 2 ∷ [])
+    ∷ (4 ∷ [])
+    ∷ (4 ∷ [])
     ∷ []
 
 -- 0 where no number stands

@@ -280,13 +280,13 @@ fn is_part(word: &[u8], text: &[u8], from: usize, to: usize) -> bool
 }
 
 // How many words there are: the board's calls, then what asks the board nothing.
-const WORDS: usize = 19;
+const WORDS: usize = 22;
 
 // What `call_of` gives for an unknown word.
-pub const UNKNOWN: u8 = 19;
+pub const UNKNOWN: u8 = 22;
 
 // Where the words start in the text that has one behind the other, and where the last ends.
-const STARTS: [usize; 20] = [
+const STARTS: [usize; 23] = [
     0,
     5,
     10,
@@ -307,9 +307,12 @@ const STARTS: [usize; 20] = [
     87,
     92,
     97,
+    103,
+    111,
+    120,
 ];
 
-// The call that a first word names, by its place in the table; 19 if it is an unknown word.
+// The call that a first word names, by its place in the table; 22 if it is an unknown word.
 pub fn call_of(word: &[u8]) -> u8
     ensures { λ r. ⌜ r ≡ callOf (now (word .entry)) ⌝ }
 {
@@ -319,7 +322,7 @@ pub fn call_of(word: &[u8]) -> u8
         let to = STARTS[k + 1];
         if is_part(
             word,
-            b"setupclockenablepindrivereset-pinsreadwritepeekresetdeliverbookednextlevelvoltslinetimeclearpilot",
+            b"setupclockenablepindrivereset-pinsreadwritepeekresetdeliverbookednextlevelvoltslinetimeclearpilotrecordunrecordunrecord1",
             from,
             to,
         ) {
@@ -331,7 +334,7 @@ pub fn call_of(word: &[u8]) -> u8
 }
 
 // What stands in the places of each call's numbers, the first in the lowest hexadecimal digit: 0 no number, 1 one of 32 bits, 2 one
-// of 64 bits, 3 one that is at most 3.
+// of 64 bits, 3 one that is at most 3, 4 bytes.
 const FIELDS: [u64; WORDS] = [
     0x11122,
     0x211111122,
@@ -352,6 +355,9 @@ const FIELDS: [u64; WORDS] = [
     2,
     1,
     0x11,
+    0x222222222,
+    4,
+    4,
 ];
 
 // What stands in place k of a call's numbers.

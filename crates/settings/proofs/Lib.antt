@@ -1,0 +1,3 @@
+pub mod Tests
+pub mod Meets
+pub mod Laws
