@@ -72,11 +72,11 @@ unfolding C.generated C.recomputedAfterUpdate C.restarted
 inst-generated t now div =
     either (λ (u : Timer). u .inst ≡ t .inst) (URS (t .regs .cr1)) refl (either (λ (u : Timer). u .inst ≡ t .inst) (UDIS (t .regs .cr1)) refl refl)
 
-inst-retimed : (t : Timer) (now div : ℕ) → C.retimed t now div .inst ≡ t .inst
+pub inst-retimed : (t : Timer) (now div : ℕ) → C.retimed t now div .inst ≡ t .inst
 unfolding C.retimed
 inst-retimed t now div = inst-synced t now
 
-inst-reset : (i : Inst) (div : ℕ) → C.resetState i div .inst ≡ i
+pub inst-reset : (i : Inst) (div : ℕ) → C.resetState i div .inst ≡ i
 unfolding C.resetState
 inst-reset i div = refl
 
@@ -419,6 +419,11 @@ unfolding afterDelivery rebooked lineSettled
 sound-settled b i now t p k e h =
     sound-booking _ _ (sound-nvic _ _
     (sound-pads (withTimer b i t) p (sound-timer b i t (k .inst) h) (beyond-on (b .counts .pins) (b .pads) p e (h .beyond)) (k .pads)))
+
+pub delivered-inst : (b : Board) (i cycle places : ℕ) → Sound b → delivered b i cycle places .timer .inst ≡ timerAt b i .inst
+unfolding delivered
+delivered-inst b i cycle places h =
+    run-good mostEvents cycle (dividerOf b (timerAt b i)) places (timerAt b i .inst) (timerAt b i) (b .pads) (record { inst = refl; pads = h .pads }) .inst
 
 sound-delivered : (b : Board) (i cycle places : ℕ) → Sound b → Good (deliveredTo b i cycle places)
 unfolding deliveredTo delivered

@@ -144,8 +144,10 @@ some-wishes w h = go (some (lineOf w .wishes)) refl
     zero-bit zero l e = refl
     zero-bit (suc zero) l e = absurd (false≢true (sym e))
     zero-bit (suc (suc k)) l e = absurd (omega arith)
+
     double : (x y j : ℕ) → x / 2 ≡ y → x % 2 ≡ 0 → y % 2 ^ j ≡ 0 → x % 2 ^ (j + 1) ≡ 0
     double x y j e l k = mod-pow-add x j 1 ∙ rw (e, l, k)
+
     go : (b : Bool) → some (lineOf w .wishes) ≡ b → b ≡ true
     go true e = refl
     go false e =
