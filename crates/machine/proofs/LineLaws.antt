@@ -1,6 +1,6 @@
 -- The interrupt lines: each timer's wish is what its flags ask for, a line is high when there is a wish, and where no two timers share a line
 -- it goes as the Rust's. Assumes nothing.
-use mathlib.Core.Path.{_≡_, refl, sym, ap, _∙_, subst}
+use mathlib.Core.Path.{_≡_, refl, sym, ap, _∙_, subst, fun-ext}
 use mathlib.Core.Bool.{Bool, true, false, cond, not, _&&_, _||_, false≢true}
 use mathlib.Core.List.{List, [], _∷_, _++_, map}
 use mathlib.Core.Logic.{_⊎_, inl, inr}
@@ -33,12 +33,12 @@ use Rattle.machine.specs.Deliver.{dividerOf, wantsLine, lineSettled, reb
 use Rattle.machine.specs.Sys as Sys
 use Rattle.machine.specs.Refusals.{refusals, applies}
 use Rattle.machine.specs.Sound.{Sound}
-use Rattle.machine.specs.Call.{Setup, pinSetting, outsideDrive, pinReset, writing, resetting, delivery, Call, setUp, clockTree, enable, clearPending, ask, lend, Outcome}
+use Rattle.machine.specs.Call.{Setup, pinSetting, outsideDrive, pinReset, writing, resetting, delivery, Call, setUp, clockTree, enable, clearPending, ask, lend, Outcome, served, isSetUp, isRefusal}
 use Rattle.machine.specs.Step.{register, written, withinLimits, instsGood, entriesBelow, clockOn, followed, timerReset, deliveredTo, timerRetimed, allRetimed, treeSet, step, boardAfter}
-use Rattle.machine.specs.Lines.{asks, wish, anyOf, Lines}
-use Rattle.machine.proofs.NumberLaws.{both, Verdict, refuses, passes, answered, step-given, performed, here, set-up-within}
+use Rattle.machine.specs.Lines.{asks, wish, anyOf, Lines, RustLine, rustIdle, rustSet, rustCleared, bare, rustSettled, rustServed, rustAfter, rustLines, OneEach, OneEachAlong, TwoTimers}
+use Rattle.machine.proofs.NumberLaws.{both, Verdict, refuses, passes, answered, step-given, performed, performed-served, here, set-up-within}
 use Rattle.machine.proofs.Routing.{either, by-test}
-use Rattle.machine.proofs.Reach.{inst-reset, inst-retimed, inst-written, delivered-inst, sound-step, sound-first}
+use Rattle.machine.proofs.Reach.{inst-reset, inst-retimed, inst-written, delivered-inst, sound-step, sound-first, sound-after}
 
 -- ---- a register write that does not settle the line leaves what the flags ask for
 
@@ -480,8 +480,11 @@ unfolding boardAfter
 wished-run b [] s h = h
 wished-run b (c ∷ cs) s h = wished-run (step b c .board) cs (sound-step b c s) (wished-step b c s h)
 
+wished-first : Wished firstBoard
+wished-first = wished-fresh one one 0 0 [] [] (lit≤ tt)
+
 pub wished-after : (cs : List Call) → Wished (boardAfter firstBoard cs)
-wished-after cs = wished-run firstBoard cs sound-first (wished-fresh one one 0 0 [] [] (lit≤ tt))
+wished-after cs = wished-run firstBoard cs sound-first wished-first
 
 pub lines-of : (b : Board) → Sound b → Wished b → Lines b
 lines-of b s h = record {
@@ -494,3 +497,231 @@ lines-of b s h = record {
     none : (v : Bool) → v && false ≡ false
     none true = refl
     none false = refl
+
+-- ---- what a call does to the lines
+
+-- "Pending is still set only on a rise"
+abbrev Rises : Line → Line → Type 0
+Rises was is = is .pending ≡ true → (was .pending || (is .high && not (was .high))) ≡ true
+
+rises-same : (l : Line) → Rises l l
+rises-same l h = rw h
+
+rises-cleared : (l : Line) → Rises l (lineCleared l)
+rises-cleared l h = absurd (false≢true h)
+
+rises-set : (l : Line) (i : ℕ) (level : Bool) → Rises l (lineSet l i level)
+rises-set l i level h = go (l .pending) (some (set (l .wishes) i level) && not (l .high)) h
+  where
+    go : (p r : Bool) → (r || p) ≡ true → (p || r) ≡ true
+    go true r e = refl
+    go false true e = refl
+    go false false e = e
+
+-- where no other timer names line irq, timer i's `set_line` is the Rust's
+bare-set : (l : Line) (i : ℕ) (level : Bool) → i < length (l .wishes) → ((j : ℕ) → (j ≡ i → ⊥) → getD (l .wishes) j false ≡ false)
+    → bare (lineSet l i level) ≡ rustSet (bare l) level
+bare-set l i level a h = ap (λ (v : Bool). record { high = v; pending = (v && not (l .high)) || l .pending }) (some-own (l .wishes) i level a h)
+
+-- no other timer's wish
+others : (b : Board) (i j k : ℕ) → OneEach b → i < b .counts .timers → j ≡ timerAt b i .inst .irq → j < b .nvic .nirq → (k ≡ i → ⊥) → asks b j k ≡ false
+others b i j k o few e l z = by (ltb k (b .counts .timers)) refl
+  where
+    none : (v : Bool) → v && false ≡ false
+    none true = refl
+    none false = refl
+
+    by : (q : Bool) → ltb k (b .counts .timers) ≡ q → askedOf (hasLine (b .nvic .nirq) j) q (timerAt b k) j ≡ false
+    by false d = none (hasLine (b .nvic .nirq) j)
+    by true d =
+        not-named (hasLine (b .nvic .nirq) j) true (timerAt b k) j
+        (λ y. z (sym (o i k few (ltb-true k (b .counts .timers) d) (sym (y ∙ e)) (subst (λ (x : ℕ). x < b .nvic .nirq) e l))))
+
+absent-line : (n : Nvic) (j : ℕ) → hasLine (n .nirq) j ≡ false → lineAt n j ≡ idle
+unfolding lineAt
+absent-line n j h = rw h
+
+-- of every line, with the line count
+pub record Moved (b : Board) (n : Nvic) (ls : (ℕ → RustLine) → ℕ → RustLine) : Type 0 where
+  pub pends : (irq : ℕ) → Rises (lineAt (b .nvic) irq) (lineAt n irq)
+  pub bares : OneEach b → (irq : ℕ) → bare (lineAt n irq) ≡ ls (λ j. bare (lineAt (b .nvic) j)) irq
+
+moved-none : (b : Board) → Moved b (b .nvic) (λ ls. ls)
+moved-none b = record { pends = λ irq. rises-same (lineAt (b .nvic) irq); bares = λ o irq. refl }
+
+moved-cleared : (b : Board) (irq : ℕ) → Wished b → Moved b (N.clearPending (b .nvic) irq) (λ ls j. cond (eqb j irq) (rustCleared (ls j)) (ls j))
+moved-cleared b irq h = record {
+  pends = λ j.
+      rw (line-on lineCleared (b .nvic) irq j (h .room))
+      (either (Rises (lineAt (b .nvic) j)) (eqb j irq && hasLine (b .nvic .nirq) irq) (rises-cleared (lineAt (b .nvic) j)) (rises-same (lineAt (b .nvic) j)));
+  bares = λ o j. rw (line-on lineCleared (b .nvic) irq j (h .room)) (by j (eqb j irq) refl (hasLine (b .nvic .nirq) irq) refl);
+}
+  where
+    by : (j : ℕ) (q : Bool) → eqb j irq ≡ q → (v : Bool) → hasLine (b .nvic .nirq) irq ≡ v
+        → bare (cond (q && v) (lineCleared (lineAt (b .nvic) j)) (lineAt (b .nvic) j)) ≡ cond q (rustCleared (bare (lineAt (b .nvic) j))) (bare (lineAt (b .nvic) j))
+    by j false d v g = refl
+    by j true d true g = refl
+    by j true d false g = rw (absent-line (b .nvic) j (ap (hasLine (b .nvic .nirq)) (eqb-true j irq d) ∙ g))
+
+moved-set : (b : Board) (i : ℕ) (t : Timer) → t .inst ≡ timerAt b i .inst → i < b .counts .timers → Sound b → Wished b
+    → Moved b (N.setLine (b .nvic) (t .inst .irq) i (wantsLine t)) (rustSettled (b .nvic .nirq) t)
+moved-set b i t n few s h = record {
+  pends = λ j.
+      rw (line-on (λ l. lineSet l i (wantsLine t)) (b .nvic) (t .inst .irq) j (h .room))
+      (either (Rises (lineAt (b .nvic) j)) (eqb j (t .inst .irq) && hasLine (b .nvic .nirq) (t .inst .irq)) (rises-set (lineAt (b .nvic) j) i (wantsLine t)) (rises-same (lineAt (b .nvic) j)));
+  bares = λ o j. rw (line-on (λ l. lineSet l i (wantsLine t)) (b .nvic) (t .inst .irq) j (h .room)) (by o j (eqb j (t .inst .irq)) refl (hasLine (b .nvic .nirq) j) refl);
+}
+  where
+    by : OneEach b → (j : ℕ) (q : Bool) → eqb j (t .inst .irq) ≡ q → (v : Bool) → hasLine (b .nvic .nirq) j ≡ v
+        → bare (cond (q && hasLine (b .nvic .nirq) (t .inst .irq)) (lineSet (lineAt (b .nvic) j) i (wantsLine t)) (lineAt (b .nvic) j))
+        ≡ cond (q && v) (rustSet (bare (lineAt (b .nvic) j)) (wantsLine t)) (bare (lineAt (b .nvic) j))
+    by o j false d v g = refl
+    by o j true d false g = rw (ap (hasLine (b .nvic .nirq)) (sym (eqb-true j (t .inst .irq) d)) ∙ g)
+    by o j true d true g =
+        let e : j ≡ t .inst .irq = eqb-true j (t .inst .irq) d in
+        rw (ap (hasLine (b .nvic .nirq)) (sym e) ∙ g)
+        (bare-set (lineAt (b .nvic) j) i (wantsLine t) (omega (arith, few, s .few-timers, h .line j .sized))
+        (λ k z. h .line j .is k ∙ others b i j k o few (e ∙ ap (λ (x : Inst). x .irq) n) (ltb-true j (b .nvic .nirq) g) z))
+
+settled-moves : (b a : Board) (i : ℕ) (t : Timer) → t .inst ≡ timerAt b i .inst → i < b .counts .timers → Sound b → Wished b
+    → a .nvic ≡ N.setLine (b .nvic) (t .inst .irq) i (wantsLine t) → timerAt a i ≡ t → Moved b (a .nvic) (rustSettled (a .nvic .nirq) (timerAt a i))
+settled-moves b a i t n few s h e f =
+    let m = N.setLine (b .nvic) (t .inst .irq) i (wantsLine t) in
+    subst (λ (k : Nvic). Moved b k (rustSettled (k .nirq) (timerAt a i))) (sym e)
+    (subst (λ (u : Timer). Moved b m (rustSettled (m .nirq) u)) (sym f)
+    (subst (λ (k : ℕ). Moved b m (rustSettled k t)) (sym (nirq-on (λ l. lineSet l i (wantsLine t)) (b .nvic) (t .inst .irq))) (moved-set b i t n few s h)))
+
+-- a write
+followed-nvic : (b : Board) (i cycle : ℕ) (w : Written)
+    → followed b i cycle w .board .nvic ≡ cond (w .line) (N.setLine (b .nvic) (w .timer .inst .irq) i (wantsLine (w .timer))) (b .nvic)
+unfolding followed lineSettled rebooked
+followed-nvic b i cycle w = go (w .line) (w .book)
+  where
+    go : (l k : Bool) → followed b i cycle (record { timer = w .timer; drive = w .drive; cnt = w .cnt; line = l; book = k }) .board .nvic
+        ≡ cond l (N.setLine (b .nvic) (w .timer .inst .irq) i (wantsLine (w .timer))) (b .nvic)
+    go true true = refl
+    go true false = refl
+    go false true = refl
+    go false false = refl
+
+followed-timer : (b : Board) (i cycle : ℕ) (w : Written) → i < length (b .timers) → timerAt (followed b i cycle w .board) i ≡ w .timer
+unfolding followed lineSettled rebooked
+followed-timer b i cycle w h = go (w .line) (w .book)
+  where
+    go : (l k : Bool) → timerAt (followed b i cycle (record { timer = w .timer; drive = w .drive; cnt = w .cnt; line = l; book = k }) .board) i ≡ w .timer
+    go true true = getD-set-same (b .timers) i (w .timer) noTimer h
+    go true false = getD-set-same (b .timers) i (w .timer) noTimer h
+    go false true = getD-set-same (b .timers) i (w .timer) noTimer h
+    go false false = getD-set-same (b .timers) i (w .timer) noTimer h
+
+-- a reset, and a delivery
+reset-moves : (b : Board) (i cycle : ℕ) → i < b .counts .timers → Sound b → Wished b
+    → Moved b (timerReset b i cycle .board .nvic) (rustSettled (timerReset b i cycle .board .nvic .nirq) (timerAt (timerReset b i cycle .board) i))
+unfolding timerReset lineSettled
+reset-moves b i cycle few s h =
+    let t = C.resetState (timerAt b i .inst) (dividerOf b (timerAt b i)) in
+    settled-moves b (timerReset b i cycle .board) i t (inst-reset (timerAt b i .inst) (dividerOf b (timerAt b i))) few s h refl
+    (getD-set-same (b .timers) i t noTimer (omega (arith, few, s .few-timers, s .timers)))
+
+delivery-moves : (b : Board) (i cycle places : ℕ) → i < b .counts .timers → Sound b → Wished b
+    → Moved b (deliveredTo b i cycle places .board .nvic) (rustSettled (deliveredTo b i cycle places .board .nvic .nirq) (timerAt (deliveredTo b i cycle places .board) i))
+unfolding deliveredTo afterDelivery rebooked lineSettled
+delivery-moves b i cycle places few s h =
+    let t = delivered b i cycle places .timer in
+    settled-moves b (deliveredTo b i cycle places .board) i t (delivered-inst b i cycle places s) few s h refl
+    (getD-set-same (b .timers) i t noTimer (omega (arith, few, s .few-timers, s .timers)))
+
+retimed-nvic : (n i cycle : ℕ) (b : Board) → allRetimed n i cycle b .nvic ≡ b .nvic
+unfolding allRetimed timerRetimed rebooked
+retimed-nvic zero i cycle b = refl
+retimed-nvic (suc n) i cycle b =
+    retimed-nvic n (i + 1) cycle (timerRetimed i cycle b)
+    ∙ either (λ (c : Board). c .nvic ≡ b .nvic) (C.retimed (timerAt b i) cycle (dividerOf b (timerAt b i)) .count .running) refl refl
+
+tree-nvic : (b : Board) (t : ClockTree) (cycle : ℕ) → treeSet b t cycle .nvic ≡ b .nvic
+unfolding treeSet
+tree-nvic b t cycle = either (λ (c : Board). c .nvic ≡ b .nvic) (differing (b .clocks .tree) t) (retimed-nvic (b .counts .timers) 0 cycle _) refl
+
+moved-written : (b : Board) (i cycle : ℕ) (w : Written) → w .timer .inst ≡ timerAt b i .inst → i < b .counts .timers → Sound b → Wished b → (q : Bool)
+    → Moved b (cond q (followed b i cycle w) (served 0 (withLast b cycle)) .board .nvic)
+    (λ ls. cond (q && w .line) (rustSettled (cond q (followed b i cycle w) (served 0 (withLast b cycle)) .board .nvic .nirq) (timerAt (cond q (followed b i cycle w) (served 0 (withLast b cycle)) .board) i) ls) ls)
+moved-written b i cycle w n few s h false = moved-none b
+moved-written b i cycle w n few s h true = go (w .line) refl
+  where
+    a : Board
+    a = followed b i cycle w .board
+
+    go : (v : Bool) → w .line ≡ v → Moved b (a .nvic) (λ ls. cond v (rustSettled (a .nvic .nirq) (timerAt a i) ls) ls)
+    go true e =
+        settled-moves b a i (w .timer) n few s h (followed-nvic b i cycle w ∙ rw e) (followed-timer b i cycle w (omega (arith, few, s .few-timers, s .timers)))
+    go false e = subst (λ (k : Nvic). Moved b k (λ ls. ls)) (sym (followed-nvic b i cycle w ∙ rw e)) (moved-none b)
+
+moved-performed : (b : Board) (c : Call) → isSetUp c ≡ false → Sound b → Wished b → applies (refusals b c) ≡ false
+    → Moved b (performed b c .board .nvic) (rustServed b (performed b c .board) c)
+unfolding performed refusals
+moved-performed b (setUp u) z s h a = absurd (false≢true (sym z))
+moved-performed b (clockTree t cycle) z s h a = subst (λ (k : Nvic). Moved b k (λ ls. ls)) (sym (tree-nvic b t cycle)) (moved-none b)
+moved-performed b (enable word value) z s h a = moved-none b
+moved-performed b (clearPending irq) z s h a = moved-cleared b irq h
+moved-performed b (ask q) z s h a = moved-none b
+moved-performed b (lend (pinSetting pin mode od out pu pd f) cycle places) z s h a = moved-none b
+moved-performed b (lend (outsideDrive pin e) cycle places) z s h a = moved-none b
+moved-performed b (lend pinReset cycle places) z s h a = moved-none b
+moved-performed b (lend (writing timer offset size value) cycle places) z s h a =
+    moved-written b timer cycle (written b (timerAt b timer) offset size value cycle) (inst-written b (timerAt b timer) offset size value cycle)
+    (here timer (b .counts .timers) _ a) s h (clockOn b (timerAt b timer))
+moved-performed b (lend (resetting timer) cycle places) z s h a = reset-moves b timer cycle (here timer (b .counts .timers) _ a) s h
+moved-performed b (lend (delivery timer) cycle places) z s h a = delivery-moves b timer cycle places (here timer (b .counts .timers) _ a) s h
+
+moved-step : (b : Board) (c : Call) → isSetUp c ≡ false → Sound b → Wished b → Moved b (step b c .board .nvic) (rustAfter b c)
+moved-step b c z s h = go (answered b c)
+  where
+    Goes : Outcome → Type 0
+    Goes o = Moved b (o .board .nvic) (λ ls. cond (isRefusal (o .number)) ls (rustServed b (o .board) c ls))
+
+    go : Verdict (refusals b c) b (performed b c) → Goes (step b c)
+    go (refuses n l u f a g) =
+        subst Goes (sym (step-given b c ∙ g)) (subst (λ (v : Bool). Moved b (b .nvic) (λ ls. cond v ls (rustServed b b c ls))) (sym u) (moved-none b))
+    go (passes f a g) =
+        let p = performed b c in
+        subst Goes (sym (step-given b c ∙ g))
+        (subst (λ (v : Bool). Moved b (p .board .nvic) (λ ls. cond v ls (rustServed b (p .board) c ls))) (sym (performed-served b c)) (moved-performed b c z s h a))
+
+-- set-up starts all low
+set-up-bare : (b : Board) (u : Setup) (irq : ℕ) → bare (lineAt (step b (setUp u) .board .nvic) irq) ≡ rustAfter b (setUp u) (λ j. bare (lineAt (b .nvic) j)) irq
+unfolding performed freshBoard
+set-up-bare b u irq = go (answered b (setUp u))
+  where
+    go : Verdict (refusals b (setUp u)) b (performed b (setUp u)) → bare (lineAt (step b (setUp u) .board .nvic) irq) ≡ rustAfter b (setUp u) (λ j. bare (lineAt (b .nvic) j)) irq
+    go (refuses n l v f a g) = rw (step-given b (setUp u) ∙ g, v)
+    go (passes f a g) = rw (step-given b (setUp u) ∙ g) (ap bare (idle-lines (u .lines) 256 irq))
+
+first-idle : (irq : ℕ) → lineAt (firstBoard .nvic) irq ≡ idle
+unfolding freshBoard
+first-idle irq = idle-lines 0 256 irq
+
+bare-step : (b : Board) (c : Call) → Sound b → Wished b → OneEach b → (irq : ℕ)
+    → bare (lineAt (step b c .board .nvic) irq) ≡ rustAfter b c (λ j. bare (lineAt (b .nvic) j)) irq
+bare-step b (setUp u) s h o irq = set-up-bare b u irq
+bare-step b (clockTree t cycle) s h o irq = moved-step b (clockTree t cycle) refl s h .bares o irq
+bare-step b (enable word value) s h o irq = moved-step b (enable word value) refl s h .bares o irq
+bare-step b (clearPending n) s h o irq = moved-step b (clearPending n) refl s h .bares o irq
+bare-step b (ask q) s h o irq = moved-step b (ask q) refl s h .bares o irq
+bare-step b (lend k cycle places) s h o irq = moved-step b (lend k cycle places) refl s h .bares o irq
+
+bare-run : (cs : List Call) (b : Board) → Sound b → Wished b → OneEachAlong b cs → (irq : ℕ)
+    → bare (lineAt (boardAfter b cs .nvic) irq) ≡ rustLines b cs (λ j. bare (lineAt (b .nvic) j)) irq
+unfolding boardAfter rustLines OneEachAlong
+bare-run [] b s h o irq = refl
+bare-run (c ∷ cs) b s h o irq =
+    bare-run cs (step b c .board) (sound-step b c s) (wished-step b c s h) (o .1) irq
+    ∙ ap (λ (ls : ℕ → RustLine). rustLines (step b c .board) cs ls irq) (fun-ext (λ j. bare-step b c s h (o .0) j))
+
+pub two-timers : TwoTimers
+two-timers = record {
+  lines = λ cs. lines-of (boardAfter firstBoard cs) (sound-after cs) (wished-after cs);
+  pends = λ cs c irq z. moved-step (boardAfter firstBoard cs) c z (sound-after cs) (wished-after cs) .pends irq;
+  as-before = λ cs o irq.
+      bare-run cs firstBoard sound-first wished-first o irq
+      ∙ ap (λ (ls : ℕ → RustLine). rustLines firstBoard cs ls irq) (fun-ext (λ j. ap bare (first-idle j)));
+}
