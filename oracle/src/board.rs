@@ -1,6 +1,6 @@
 //! The board: document 01's refusals, with 11 of document 02, and the lent book in front of the published Rust. Every refusal is decided
 //! before the Rust is entered, so a refused call cannot have changed anything. Behind the Rust, of document 02: a pulse that
-//! ends in manual mode clears CEN (F-2).
+//! ends in manual mode clears CEN (F-2), and a line that several timers name follows all of them (F-7).
 
 use mcs_core::arm::device::{Enable, TimerInstance};
 use mcs_sim::arm::bus::{Cx, Mmio};
@@ -45,6 +45,8 @@ type Outcome = Result<(u8, u64), u8>;
 pub struct Board {
     sys: ArmSys,
     nvic: Nvic,
+    /// For each timer an interrupt part that it alone talks to where others name its line: its latest `set_line` stands there.
+    own: Vec<Nvic>,
     sched: Scheduler,
     timers: Vec<Timer>,
     specs: Vec<TimerSpec>,
@@ -77,10 +79,14 @@ impl Board {
         for &(i, signal) in &s.signals {
             sys.af[i as usize / 16][i as usize % 16] = signal as u16;
         }
-        let mut nvic = Nvic::new(s.lines, 4);
-        nvic.nirq = s.lines; // `new` cuts at 240, document 01 takes 256
+        let nvic = || {
+            let mut nvic = Nvic::new(s.lines, 4);
+            nvic.nirq = s.lines; // `new` cuts at 240, document 01 takes 256
+            nvic
+        };
         let timers = s.timers.iter().map(|t| Timer::new(&instance(t))).collect();
-        Self { sys, nvic, sched: Scheduler::new(), timers, specs: s.timers.clone(), manual: s.manual, last: 0 }
+        let own = s.timers.iter().map(|_| nvic()).collect();
+        Self { sys, nvic: nvic(), own, sched: Scheduler::new(), timers, specs: s.timers.clone(), manual: s.manual, last: 0 }
     }
 
     pub fn call(&mut self, call: &Call) -> Answer {
@@ -233,8 +239,13 @@ impl Board {
         if irq >= self.nvic.nirq {
             return 0;
         }
-        let bit = |words: &[u32; 8]| (words[irq as usize / 32] >> (irq % 32) & 1) as u64;
-        bit(&self.nvic.lines) + 2 * bit(&self.nvic.pending)
+        bit(&self.nvic.lines, irq) as u64 + 2 * bit(&self.nvic.pending, irq) as u64
+    }
+
+    /// Another timer names timer `t`'s line.
+    pub fn is_shared(&self, t: usize) -> bool {
+        let irq = self.specs[t].irq;
+        irq < self.nvic.nirq && self.specs.iter().filter(|s| s.irq == irq).count() > 1
     }
 
     /// Refusal 7: after this ungated write the timer would run upward with its counter above the active
@@ -298,9 +309,17 @@ impl Board {
 
     // ---- inside, also for whoever aims calls at a board -------------------------------------
 
+    /// Timer `t` with the board around it. A line of several timers is then set to whether one of them asked for it last.
     fn at<R>(&mut self, t: usize, cycle: u64, f: impl FnOnce(&mut Timer, &mut Cx) -> R) -> R {
-        let Board { sys, nvic, sched, timers, .. } = self;
-        f(&mut timers[t], &mut Cx { cycles: cycle, nvic, sched, owner: t as u8, sys })
+        let shared = self.is_shared(t);
+        let Board { sys, nvic, own, sched, timers, .. } = self;
+        let part = if shared { &mut own[t] } else { &mut *nvic };
+        let given = f(&mut timers[t], &mut Cx { cycles: cycle, nvic: part, sched, owner: t as u8, sys });
+        if shared {
+            let irq = self.specs[t].irq;
+            nvic.set_line(irq, own.iter().any(|n| bit(&n.lines, irq)));
+        }
+        given
     }
 
     fn peek(&mut self, t: usize, offset: u32, cycle: u64) -> u32 {
@@ -374,6 +393,10 @@ impl Board {
     pub fn clock_on(&self, t: usize) -> bool {
         self.sys.clock_on(self.specs[t].word as u8, self.specs[t].bit as u8)
     }
+}
+
+fn bit(words: &[u32; 8], i: u32) -> bool {
+    words[i as usize / 32] >> (i % 32) & 1 != 0
 }
 
 fn index(i: u32, len: usize) -> Result<usize, u8> {

@@ -28,7 +28,7 @@ const REGISTERS: [(&str, u32); 16] = [
 ];
 
 /// Single cases that must occur.
-const CASES: [&str; 53] = [
+const CASES: [&str; 55] = [
     "7 by CR1",
     "7 by CNT",
     "7 by ARR",
@@ -78,6 +78,8 @@ const CASES: [&str; 53] = [
     "function above 15",
     "line high and pending",
     "line high, not pending",
+    "shared line high, one timer does not ask",
+    "shared line high, not pending",
     "line low, pending",
     "line above 239 high",
     "cycle 2^62 served",
@@ -194,6 +196,12 @@ impl Reach {
                 self.case("line high, not pending", answer.value == 1);
                 self.case("line low, pending", answer.value == 2);
                 self.case("line above 239 high", *irq > 239 && answer.value & 1 == 1);
+                let shared: Vec<usize> = (0..board.specs().len()).filter(|&t| board.specs()[t].irq == *irq && board.is_shared(t)).collect();
+                let cycle = board.last();
+                let mut flags = |t: usize, offset| board.call(&Call::Peek { timer: t as u32, offset, cycle }).value;
+                let idle = shared.iter().any(|&t| flags(t, 0x10) & flags(t, 0xc) & 0x1f == 0);
+                self.case("shared line high, one timer does not ask", idle && answer.value & 1 == 1);
+                self.case("shared line high, not pending", !shared.is_empty() && answer.value == 1);
             }
             Call::Time { cycle } => self.case("time above 2^53", *cycle > 1 << 53),
             _ => {}

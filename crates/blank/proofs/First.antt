@@ -5,7 +5,7 @@ use Prim.Native.Nat.{ℕ}
 use lib.Ieee.{Float}
 use Rattle.tim.specs.declared.Timer.{Timer}
 use Rattle.gpio.specs.declared.Gpio.{Gpio}
-use Rattle.nvic.specs.declared.Line.{Line}
+use Rattle.nvic.specs.Nvic.{Line}
 use Rattle.nvic.specs.Nvic.{idle}
 use Rattle.scheduler.specs.Booking.{never}
 use Rattle.codec.specs.Codec.{decodeTimer}

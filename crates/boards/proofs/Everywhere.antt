@@ -67,7 +67,7 @@ module _ (P : Timer â†’ Type 0) (none : P noTimer) (reset : (i : Inst) (div : â„
       let t = w .timer in
       let q = cond (w .drive) (Sys.driveOutputs t (w .cnt) (b .pads) .pads) (b .pads) in
       let c = withPads (withTimer b i t) q in
-      let m = cond (w .line) (lineSettled t c) c in
+      let m = cond (w .line) (lineSettled i t c) c in
       let e : Every c = all-set (b .timers) i t h p in
       let k : Every m = either Every (w .line) e e in
       let z : Every (cond (w .book) (rebooked i t cycle m) m) = either Every (w .book) k k in

@@ -116,7 +116,7 @@ module _ (b : Board) (s : Sound b) (h : Timers b) where
       let t = w .timer in
       let p = cond (w .drive) (Sys.driveOutputs t (w .cnt) (b .pads) .pads) (b .pads) in
       let c = withPads (withTimer b i t) p in
-      let l = cond (w .line) (lineSettled t c) c in
+      let l = cond (w .line) (lineSettled i t c) c in
       let kl : By cycle l = either (By cycle) (w .line) k k in
       let kb : By cycle (cond (w .book) (rebooked i t cycle l) l) = either (By cycle) (w .book) kl kl in
       kb

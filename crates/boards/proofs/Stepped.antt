@@ -98,7 +98,7 @@ module _ (b : Board) (s : Sound b) (i cycle : ℕ) (l : i < b .counts .timers) w
       let t = w .timer in
       let q = cond (w .drive) (Sys.driveOutputs t (w .cnt) (b .pads) .pads) (b .pads) in
       let c = withPads (withTimer b i t) q in
-      let m = cond (w .line) (lineSettled t c) c in
+      let m = cond (w .line) (lineSettled i t c) c in
       let e : timerAt c i ≡ t = at-place b i t (s .timers) (s .few-timers) l in
       let k : timerAt m i ≡ t = either (λ (x : Board). timerAt x i ≡ t) (w .line) e e in
       let z : timerAt (cond (w .book) (rebooked i t cycle m) m) i ≡ t = either (λ (x : Board). timerAt x i ≡ t) (w .book) k k in

@@ -43,21 +43,22 @@ pub fn divider(words: &[u64; WORDS], reals: &[f64; REALS], t: Timer) -> u32
     tree.timer_div(t.inst.apb)
 }
 
-// Timer t's interrupt line follows SR & DIER & 1f.
-pub fn settle_line(words: &mut [u64; WORDS], t: Timer)
-    ensures { λ _. ⌜ ((x : List Float) → view (now (words .exit)) x ≡ lineSettled t (view (now (words .entry)) x)) ⌝ }
+// Timer t's interrupt line follows SR & DIER & 1f of it, the board's timer i, and the wishes of the other timers.
+pub fn settle_line(words: &mut [u64; WORDS], i: usize, t: Timer)
+    requires { ⌜ i < 8 ⌝ }
+    ensures { λ _. ⌜ ((x : List Float) → view (now (words .exit)) x ≡ lineSettled i t (view (now (words .entry)) x)) ⌝ }
 {
     let on = (t.regs.sr & t.regs.dier) % 32 != 0;
-    state::set_line(words, t.inst.irq, on);
+    state::set_line(words, t.inst.irq, i, on);
 }
 
 // The line of timer i.
 pub fn settle_line_at(words: &mut [u64; WORDS], i: usize)
     requires { ⌜ i < 8 ⌝ }
-    ensures { λ _. ⌜ ((x : List Float) → view (now (words .exit)) x ≡ lineSettled (timerAt (view (now (words .entry)) x) i) (view (now (words .entry)) x)) ⌝ }
+    ensures { λ _. ⌜ ((x : List Float) → view (now (words .exit)) x ≡ lineSettled i (timerAt (view (now (words .entry)) x) i) (view (now (words .entry)) x)) ⌝ }
 {
     let timer = state::load_timer(words, i);
-    settle_line(words, timer);
+    settle_line(words, i, timer);
 }
 
 fn later(a: u64, b: u64) -> u64

@@ -297,7 +297,7 @@ module _ (b b₁ b₂ b₃ b₄ : Board) (i cycle div places : ℕ) (t : Timer) 
   pub delivers : (u u₁ : Lent)
       → Ends (run mostEvents cycle div places t (b .pads)) b b₁ (book u 0) (book u₁ (r .count)) r
       → Room (r .count) u
-      → b₂ ≡ cond (eqb (r .events) 0) b₁ (withTimer b₁ i (withInst (r .timer) (timerAt b₁ i .inst))) → b₃ ≡ lineSettled (r .timer) b₂ → b₄ ≡ rebooked i (r .timer) cycle b₃
+      → b₂ ≡ cond (eqb (r .events) 0) b₁ (withTimer b₁ i (withInst (r .timer) (timerAt b₁ i .inst))) → b₃ ≡ lineSettled i (r .timer) b₂ → b₄ ≡ rebooked i (r .timer) cycle b₃
       → Delivers (delivered b i cycle places) b i cycle b₄ (record { number = r .number; events = r .events; count = r .count }) u u₁
   unfolding afterDelivery
   delivers u u₁ e′ x store′ line book′ =
@@ -310,7 +310,7 @@ module _ (b b₁ b₂ b₃ b₄ : Board) (i cycle div places : ℕ) (t : Timer) 
       record {
         number = e .number;
         events = e .events;
-        board = book′ ∙ ap (rebooked i (r .timer) cycle) (line ∙ ap (lineSettled (r .timer)) (store ∙ ap (λ (u : Board). withTimer u i (r .timer)) (e .board)))
-            ∙ ap (λ (u : Timer). rebooked i u cycle (lineSettled u (withPads (withTimer b i u) (o .pads)))) (e .timer);
+        board = book′ ∙ ap (rebooked i (r .timer) cycle) (line ∙ ap (lineSettled i (r .timer)) (store ∙ ap (λ (u : Board). withTimer u i (r .timer)) (e .board)))
+            ∙ ap (λ (u : Timer). rebooked i u cycle (lineSettled i u (withPads (withTimer b i u) (o .pads)))) (e .timer);
         entries = holds (o .entries) u u₁ (r .count) (e .entries) x;
       }

@@ -295,7 +295,7 @@ pub fn deliver(
     let s = r.timer;
     let due = r.due;
     store(words, i, s, r.events);
-    context::settle_line(words, s);
+    context::settle_line(words, i, s);
     context::book_due(words, i, due, cycle);
     Delivered {
         number: r.number,

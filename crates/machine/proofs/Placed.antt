@@ -183,7 +183,7 @@ followed-placed b i cycle w h =
     let k : Kept (b .pads) q = either (Kept (b .pads)) (w .drive) (drive-moves (w .timer) (w .cnt) (b .pads) (h .wired) .kept) (record { route = refl; size = refl }) in
     let p = timer-placed b i (w .timer) q h k in
     let c : Placed (withPads (withTimer b i (w .timer)) q) = p in
-    let l : Placed (cond (w .line) (lineSettled (w .timer) (withPads (withTimer b i (w .timer)) q)) (withPads (withTimer b i (w .timer)) q)) =
+    let l : Placed (cond (w .line) (lineSettled i (w .timer) (withPads (withTimer b i (w .timer)) q)) (withPads (withTimer b i (w .timer)) q)) =
     either Placed (w .line) (record { timers = c .timers; pins = c .pins; wired = c .wired }) c in
     let z = either Placed (w .book) (record { timers = l .timers; pins = l .pins; wired = l .wired }) l in
     record { timers = z .timers; pins = z .pins; wired = z .wired }

@@ -72,11 +72,11 @@ unfolding C.generated C.recomputedAfterUpdate C.restarted
 inst-generated t now div =
     either (λ (u : Timer). u .inst ≡ t .inst) (URS (t .regs .cr1)) refl (either (λ (u : Timer). u .inst ≡ t .inst) (UDIS (t .regs .cr1)) refl refl)
 
-inst-retimed : (t : Timer) (now div : ℕ) → C.retimed t now div .inst ≡ t .inst
+pub inst-retimed : (t : Timer) (now div : ℕ) → C.retimed t now div .inst ≡ t .inst
 unfolding C.retimed
 inst-retimed t now div = inst-synced t now
 
-inst-reset : (i : Inst) (div : ℕ) → C.resetState i div .inst ≡ i
+pub inst-reset : (i : Inst) (div : ℕ) → C.resetState i div .inst ≡ i
 unfolding C.resetState
 inst-reset i div = refl
 
@@ -359,7 +359,7 @@ sound-followed b i cycle w e h =
     let far : Beyond (b .counts .pins) p =
     either (Beyond (b .counts .pins)) (w .drive) (beyond-on (b .counts .pins) (b .pads) (d .pads) (sigs-outputs t (w .cnt) (b .pads)) (h .beyond)) (h .beyond) in
     let hc : Sound c = sound-pads (withTimer b i t) p (sound-timer b i t e h) far hp in
-    let l = cond (w .line) (lineSettled t c) c in
+    let l = cond (w .line) (lineSettled i t c) c in
     let hl : Sound l = either Sound (w .line) (sound-nvic c _ hc) hc in
     sound-last (cond (w .book) (rebooked i t cycle l) l) cycle (either Sound (w .book) (sound-booking l _ hl) hl)
 
@@ -419,6 +419,11 @@ unfolding afterDelivery rebooked lineSettled
 sound-settled b i now t p k e h =
     sound-booking _ _ (sound-nvic _ _
     (sound-pads (withTimer b i t) p (sound-timer b i t (k .inst) h) (beyond-on (b .counts .pins) (b .pads) p e (h .beyond)) (k .pads)))
+
+pub delivered-inst : (b : Board) (i cycle places : ℕ) → Sound b → delivered b i cycle places .timer .inst ≡ timerAt b i .inst
+unfolding delivered
+delivered-inst b i cycle places h =
+    run-good mostEvents cycle (dividerOf b (timerAt b i)) places (timerAt b i .inst) (timerAt b i) (b .pads) (record { inst = refl; pads = h .pads }) .inst
 
 sound-delivered : (b : Board) (i cycle places : ℕ) → Sound b → Good (deliveredTo b i cycle places)
 unfolding deliveredTo delivered
@@ -652,10 +657,10 @@ wired-on b i ch s p c w r =
 module _ (b : Board) (i s p : ℕ) where
   -- the line and the booking after it
   past-followed : (j cycle : ℕ) (t : Timer) (line book : Bool) (c : Board) → Past i s p b c
-      → Past i s p b (withLast (cond book (rebooked j t cycle (cond line (lineSettled t c) c)) (cond line (lineSettled t c) c)) cycle)
+      → Past i s p b (withLast (cond book (rebooked j t cycle (cond line (lineSettled j t c) c)) (cond line (lineSettled j t c) c)) cycle)
   unfolding lineSettled rebooked
   past-followed j cycle t line book c h =
-      let l = cond line (lineSettled t c) c in
+      let l = cond line (lineSettled j t c) c in
       let k : Past i s p b l = either (Past i s p b) line (past-nvic i s p b c _ h) h in
       past-last i s p b (cond book (rebooked j t cycle l) l) cycle (either (Past i s p b) book (past-booking i s p b l _ k) k)
 

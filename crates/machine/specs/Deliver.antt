@@ -31,8 +31,8 @@ dividerOf b t = timerDiv (b .clocks .tree) (t .inst .apb)
 abbrev pub wantsLine : Timer → Bool
 wantsLine t = not (eqb (bitAnd (t .regs .sr) (t .regs .dier) % 32) 0)
 
-unfoldable pub lineSettled : Timer → Board → Board
-lineSettled t b = withNvic b (setLine (b .nvic) (t .inst .irq) (wantsLine t))
+unfoldable pub lineSettled : ℕ → Timer → Board → Board
+lineSettled i t b = withNvic b (setLine (b .nvic) (t .inst .irq) i (wantsLine t))
 
 -- "the next event is booked no earlier than now"; nothing when the timer is stopped
 abbrev pub bookingOf : Due → ℕ → ℕ
@@ -104,4 +104,4 @@ unfoldable pub delivered : Board → ℕ → ℕ → ℕ → Run
 delivered b i now places = handled mostEvents now (dividerOf b (timerAt b i)) places (timerAt b i) (b .pads)
 
 unfoldable pub afterDelivery : Board → ℕ → ℕ → Timer → Pads → Board
-afterDelivery b i now t p = rebooked i t now (lineSettled t (withPads (withTimer b i t) p))
+afterDelivery b i now t p = rebooked i t now (lineSettled i t (withPads (withTimer b i t) p))

@@ -100,7 +100,7 @@ followed b i cycle w =
     let d = Sys.driveOutputs t (w .cnt) (b .pads) in
     let p = cond (w .drive) (d .pads) (b .pads) in
     let c = withPads (withTimer b i t) p in
-    let l = cond (w .line) (lineSettled t c) c in
+    let l = cond (w .line) (lineSettled i t c) c in
     let k = cond (w .book) (rebooked i t cycle l) l in
     record { number = 0; value = 0; entries = cond (w .drive) (entriesOf cycle (d .changes)) []; board = withLast k cycle }
 
@@ -109,7 +109,7 @@ unfoldable pub timerReset : Board → ℕ → ℕ → Outcome
 timerReset b i cycle =
     let t = resetState (timerAt b i .inst) (dividerOf b (timerAt b i)) in
     let d = Sys.driveOutputs t 0 (b .pads) in
-    let c = lineSettled t (withPads (withTimer b i t) (d .pads)) in
+    let c = lineSettled i t (withPads (withTimer b i t) (d .pads)) in
     record {
       number = 0;
       value = 0;

@@ -119,7 +119,7 @@ drives-off on t cnt cycle b k o = rw o (record { board = refl; entries = refl })
 drive-there : (on : Bool) (t : Timer) (i cnt cycle : ℕ) (b b₁ : Board) (k k₁ : Book) → DrivenIf on t cnt cycle b b₁ k k₁ → timerAt b₁ i ≡ timerAt b i
 drive-there on t i cnt cycle b b₁ k k₁ d = ap (λ (y : Board). timerAt y i) (d .board)
 
-line-there : (line : Bool) (t : Timer) (i : ℕ) (b b₁ : Board) → b₁ ≡ cond line (lineSettled t b) b → timerAt b₁ i ≡ timerAt b i
+line-there : (line : Bool) (t : Timer) (i : ℕ) (b b₁ : Board) → b₁ ≡ cond line (lineSettled i t b) b → timerAt b₁ i ≡ timerAt b i
 unfolding lineSettled
 line-there line t i b b₁ e = ap (λ (y : Board). timerAt y i) e ∙ either (λ (y : Board). timerAt y i ≡ timerAt b i) line refl refl
 
@@ -132,7 +132,7 @@ same-timer : (b : Board) (i : ℕ) → b ≡ withTimer b i (timerAt b i)
 same-timer b i = sym (ap (withTimers b) (set-getD (b .timers) i noTimer))
 
 pub follows : (b b₂ b₃ b₄ b₅ : Board) (i cycle cnt : ℕ) (driven lined booked : Bool) (k k₁ : Book) → DrivenIf driven (timerAt b i) cnt cycle b b₂ k k₁
-    → b₃ ≡ cond lined (lineSettled (timerAt b₂ i) b₂) b₂ → b₄ ≡ cond booked (rebooked i (timerAt b₃ i) cycle b₃) b₃ → b₅ ≡ withLast b₄ cycle
+    → b₃ ≡ cond lined (lineSettled i (timerAt b₂ i) b₂) b₂ → b₄ ≡ cond booked (rebooked i (timerAt b₃ i) cycle b₃) b₃ → b₅ ≡ withLast b₄ cycle
     → Leaves (after b i cycle driven cnt lined booked) b₅ k k₁
 unfolding followed
 follows b b₂ b₃ b₄ b₅ i cycle cnt driven lined booked k k₁ d e₃ e₄ e₅ =
@@ -144,7 +144,7 @@ follows b b₂ b₃ b₄ b₅ i cycle cnt driven lined booked k k₁ d e₃ e₄
     record {
       board = e₅ ∙ ap (λ (y : Board). withLast y cycle) (e₄ ∙ ap (λ (y : Timer). cond booked (rebooked i y cycle b₃) b₃) last
           ∙ ap (λ (y : Board). cond booked (rebooked i t cycle y) y)
-          (e₃ ∙ ap (λ (y : Timer). cond lined (lineSettled y b₂) b₂) there ∙ ap (λ (y : Board). cond lined (lineSettled t y) y) e₂));
+          (e₃ ∙ ap (λ (y : Timer). cond lined (lineSettled i y b₂) b₂) there ∙ ap (λ (y : Board). cond lined (lineSettled i t y) y) e₂));
       entries = d .entries;
     }
 

@@ -154,7 +154,7 @@ fn drive(
 
 fn settle_line_if(words: &mut [u64; WORDS], on: bool, i: usize)
     requires { ⌜ i < 8 ⌝ }
-    ensures { λ _. ⌜ ((x : List Float) → view (now (words .exit)) x ≡ cond on (lineSettled (timerAt (view (now (words .entry)) x) i) (view (now (words .entry)) x)) (view (now (words .entry)) x)) ⌝ }
+    ensures { λ _. ⌜ ((x : List Float) → view (now (words .exit)) x ≡ cond on (lineSettled i (timerAt (view (now (words .entry)) x) i) (view (now (words .entry)) x)) (view (now (words .entry)) x)) ⌝ }
 {
     if on {
         context::settle_line_at(words, i);

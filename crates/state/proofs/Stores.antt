@@ -11,8 +11,7 @@ use lib.Seq.{getD-set-same, getD-set-other, paste}
 use lib.Ieee.{Float, nan}
 use Rattle.tim.specs.declared.Timer.{Timer}
 use Rattle.clk.specs.declared.ClockTree.{ClockTree}
-use Rattle.nvic.specs.declared.Line.{Line}
-use Rattle.nvic.specs.Nvic.{lineOf, onLine}
+use Rattle.nvic.specs.Nvic.{Line, lineOf, onLine}
 use Rattle.nvic.proofs.Laws.{stored, no-line}
 use Rattle.gpio.specs.declared.Gpio.{Gpio}
 use Rattle.codec.specs.Codec.{decodeTimer}

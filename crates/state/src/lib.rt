@@ -382,15 +382,16 @@ fn has_line(words: &[u64; WORDS], irq: usize) -> bool
     (irq as u64) < words[LINE_COUNT]
 }
 
-// Drives line irq; without such a line nothing changes.
-pub fn set_line(words: &mut [u64; WORDS], irq: u32, level: bool)
-    ensures { λ _. ⌜ ((x : List Float) → view (now (words .exit)) x ≡ withNvic (view (now (words .entry)) x) (setLine ((view (now (words .entry)) x) .nvic) irq level)) ⌝ }
+// Timer i drives line irq; without such a line nothing changes.
+pub fn set_line(words: &mut [u64; WORDS], irq: u32, i: usize, level: bool)
+    requires { ⌜ i < 8 ⌝ }
+    ensures { λ _. ⌜ ((x : List Float) → view (now (words .exit)) x ≡ withNvic (view (now (words .entry)) x) (setLine ((view (now (words .entry)) x) .nvic) irq i level)) ⌝ }
 {
     sized(words);
     let n = irq as usize;
     if has_line(words, n) {
         let at = LINES + n;
-        words[at] = nvic::driven(words[at], level);
+        words[at] = nvic::driven(words[at], i, level);
     }
 }
 
@@ -402,8 +403,7 @@ pub fn clear_pending(words: &mut [u64; WORDS], irq: u32)
     let n = irq as usize;
     if has_line(words, n) {
         let at = LINES + n;
-        let was = nvic::line_of(words[at]);
-        words[at] = nvic::word_of(was.clear_pending());
+        words[at] = nvic::cleared(words[at]);
     }
 }
 
@@ -413,7 +413,7 @@ pub fn line_state(words: &[u64; WORDS], irq: u32) -> u64
 {
     let n = irq as usize;
     if has_line(words, n) {
-        return nvic::line_of(words[LINES + n]).state();
+        return nvic::state(words[LINES + n]);
     }
     0
 }

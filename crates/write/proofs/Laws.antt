@@ -176,13 +176,13 @@ module _ (w : List ℕ) (x : List Float) (i v cycle : ℕ) where
   unfolding followed
   sr-entries = ap (λ (o : Outcome). o .entries) sr-by
 
-  module _ (b₁ b₂ : Board) (w₁ : List ℕ) (l : i < length (view w x .timers)) (e₂ : b₂ ≡ lineSettled (timerAt b₁ i) b₁) (e₃ : view w₁ x ≡ withLast b₂ cycle) where
+  module _ (b₁ b₂ : Board) (w₁ : List ℕ) (l : i < length (view w x .timers)) (e₂ : b₂ ≡ lineSettled i (timerAt b₁ i) b₁) (e₃ : view w₁ x ≡ withLast b₂ cycle) where
     lined-gives : (u : Timer) → b₁ ≡ withTimer (view w x) i u → Answers (followed (view w x) i cycle (R.lined u)) (answerOf 0) w w₁ x x
     unfolding followed
     lined-gives u e₁ =
         gives (followed (view w x) i cycle (R.lined u)) (answer 0 0 0) w w₁ x x refl refl refl
         (e₃ ∙ ap (λ (y : Board). withLast y cycle)
-        (e₂ ∙ ap (λ (y : Timer). lineSettled y b₁) (stored-there (view w x) b₁ i u l e₁) ∙ ap (lineSettled u) e₁))
+        (e₂ ∙ ap (λ (y : Timer). lineSettled i y b₁) (stored-there (view w x) b₁ i u l e₁) ∙ ap (lineSettled i u) e₁))
         refl
 
     pub dier-gives : (m : ℕ) → m ≡ keptMask 3 → b₁ ≡ withTimer (view w x) i (withReg (timerAt (view w x) i) 3 (bitAnd v m))

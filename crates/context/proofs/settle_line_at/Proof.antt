@@ -14,7 +14,7 @@ settle-line-requires : tie.Need-settle-line-requires
 settle-line-requires c κs = search needs
 
 returns : tie.Need-returns
-returns c = λ x. c .settle-line .ensures x ∙ ap (λ (t : Timer). lineSettled t (view (c .before .before .before .before .args .words .now) x)) (c .before .before .load-timer .ensures x)
+returns c = λ x. c .settle-line .ensures x ∙ ap (λ (t : Timer). lineSettled (c .before .before .before .before .args .i) t (view (c .before .before .before .before .args .words .now) x)) (c .before .before .load-timer .ensures x)
 
 pub settle-line-at-spec : {M : Type 1} → statement M
 settle-line-at-spec = tie.close (tie.spec load-timer-requires settle-line-requires returns)

@@ -12,6 +12,10 @@ store-requires : tie.Need-store-requires
 store-requires c κs =
     (c .before .before .before .before .before .before .before .before .before .before .before .before .before .before .before .before .before .before .before .before .before .before .pre .0, c .before .before .before .before .before .before .before .before .run .ensures .1 .0)
 
+settle-line-requires : tie.Need-settle-line-requires
+settle-line-requires c κs =
+    c .before .before .before .before .before .before .before .before .before .before .before .before .before .before .before .before .before .before .before .before .before .before .before .before .pre .0
+
 book-due-requires : tie.Need-book-due-requires
 book-due-requires c κs =
     c .before .before .before .before .before .before .before .before .before .before .before .before .before .before .before .before .before .before .before .before .before .before .before .before .before .before .pre .0
@@ -23,5 +27,5 @@ returns c =
 pub deliver-spec : {M : Type 1} → statement M
 deliver-spec =
     tie.close
-    (tie.spec (λ c κs. search needs) (λ c κs. search needs) run-requires store-requires (λ c κs. search needs) book-due-requires
+    (tie.spec (λ c κs. search needs) (λ c κs. search needs) run-requires store-requires settle-line-requires book-due-requires
     (λ c. search needs) (λ c. search needs) (λ c. search needs) returns)

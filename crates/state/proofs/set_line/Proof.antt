@@ -15,11 +15,11 @@ element-write-words c =
 
 returns : tie.Need-returns
 returns c =
-    λ x. line-set (c .before .before .before .before .before .before .before .args .words .now) x (c .before .before .before .before .before .sized .ensures) (λ l. lineSet l (c .before .before .before .before .before .before .before .args .level)) (c .before .before .before .before .before .before .before .args .irq) (c .driven .result) (line-there (c .before .before .before .before .before .before .before .args .words .now) (c .before .before .before .before .before .before .before .args .irq) (c .before .before .before .has-line .result) (c .before .before .before .has-line .ensures) x (c .before .before .if1 .taken)) (c .driven .ensures)
+    λ x. line-set (c .before .before .before .before .before .before .before .args .words .now) x (c .before .before .before .before .before .sized .ensures) (λ l. lineSet l (c .before .before .before .before .before .before .before .args .i) (c .before .before .before .before .before .before .before .args .level)) (c .before .before .before .before .before .before .before .args .irq) (c .driven .result) (line-there (c .before .before .before .before .before .before .before .args .words .now) (c .before .before .before .before .before .before .before .args .irq) (c .before .before .before .has-line .result) (c .before .before .before .has-line .ensures) x (c .before .before .if1 .taken)) (c .driven .ensures)
 
 returns-2 : tie.Need-returns-2
 returns-2 c =
-    λ x. line-none (c .before .before .before .before .before .args .words .now) x (c .before .before .before .sized .ensures) (λ l. lineSet l (c .before .before .before .before .before .args .level)) (c .before .before .before .before .before .args .irq) (line-absent (c .before .before .before .before .before .args .words .now) (c .before .before .before .before .before .args .irq) (c .before .has-line .result) (c .before .has-line .ensures) x (c .if1 .left))
+    λ x. line-none (c .before .before .before .before .before .args .words .now) x (c .before .before .before .sized .ensures) (λ l. lineSet l (c .before .before .before .before .before .args .i) (c .before .before .before .before .before .args .level)) (c .before .before .before .before .before .args .irq) (line-absent (c .before .before .before .before .before .args .words .now) (c .before .before .before .before .before .args .irq) (c .before .has-line .result) (c .before .has-line .ensures) x (c .if1 .left))
 
 pub set-line-spec : {M : Type 1} → statement M
 set-line-spec =
