@@ -172,6 +172,7 @@ module _ (a : Aim) (t : Timer) (f : Fixed a t) where
     enabled = f .enabled;
     polarity = f .polarity;
     mode = f .mode;
+    above-zero = f .above-zero;
   }
 
   fixed-reloaded : Fixed a (C.reloaded t)
@@ -198,6 +199,7 @@ module _ (a : Aim) (t : Timer) (f : Fixed a t) where
         enabled = f .enabled;
         polarity = f .polarity;
         mode = f .mode;
+        above-zero = f .above-zero;
       })
       f
 
@@ -223,6 +225,7 @@ module _ (a : Aim) (t : Timer) (f : Fixed a t) where
     enabled = f .enabled;
     polarity = f .polarity;
     mode = f .mode;
+    above-zero = f .above-zero;
   }
 
   -- one-pulse is clear, so nothing ends

@@ -86,6 +86,7 @@ module _ (a : Aim) (t : Timer) (w x y z : ℕ) where
     enabled = f .enabled;
     polarity = f .polarity;
     mode = f .mode;
+    above-zero = f .above-zero;
   }
 
   steps-quiet : nextSteps (quieted t w x y z) ≡ nextSteps t
