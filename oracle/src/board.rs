@@ -1,6 +1,6 @@
 //! The board: document 01's refusals, with 11 of document 02, and the lent book in front of the published Rust. Every refusal is decided
 //! before the Rust is entered, so a refused call cannot have changed anything. Behind the Rust, of document 02: a pulse that
-//! ends in manual mode clears CEN (F-2).
+//! ends in manual mode clears CEN (F-2). In it, by three added lines (oracle/mcs-sim/build.rs): in manual mode a reload of 0 blocks (F-6).
 
 use mcs_core::arm::device::{Enable, TimerInstance};
 use mcs_sim::arm::bus::{Cx, Mmio};
@@ -238,7 +238,7 @@ impl Board {
     }
 
     /// Refusal 7: after this ungated write the timer would run upward with its counter above the active
-    /// reload + 1. Foretold, because the Rust's own sum would go below 0.
+    /// reload + 1; in manual mode never with a reload of 0 (F-6). Foretold, because the Rust's own sum would go below 0.
     fn astray(&mut self, t: usize, offset: u32, size: u8, value: u32, cycle: u64) -> bool {
         let v = seen::lane_write(self.peek(t, offset, cycle), offset, size, value);
         let View { mut running, mut cr1, mut counter, mut reload, max, channels, .. } = self.view(t, cycle);
@@ -254,7 +254,8 @@ impl Board {
             _ => return false,
         }
         let down = channels > 0 && cr1 & DIR != 0;
-        running && !down && counter > reload + 1
+        let blocked = self.is_manual(t) && reload == 0;
+        running && !blocked && !down && counter > reload + 1
     }
 
     // ---- refusals -------------------------------------------------------------------------
@@ -299,6 +300,7 @@ impl Board {
     // ---- inside, also for whoever aims calls at a board -------------------------------------
 
     fn at<R>(&mut self, t: usize, cycle: u64, f: impl FnOnce(&mut Timer, &mut Cx) -> R) -> R {
+        seen::manual(self.is_manual(t));
         let Board { sys, nvic, sched, timers, .. } = self;
         f(&mut timers[t], &mut Cx { cycles: cycle, nvic, sched, owner: t as u8, sys })
     }
@@ -363,6 +365,7 @@ impl Board {
     }
 
     pub fn view(&self, t: usize, cycle: u64) -> View {
+        seen::manual(self.is_manual(t));
         self.timers[t].seen(cycle)
     }
 
