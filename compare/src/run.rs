@@ -31,6 +31,8 @@ pub struct Stats {
     /// Pulses that ended in manual mode, and those of them that were a timer's second one or a later one.
     pub pulses: u64,
     pub again: u64,
+    /// Calls that left a manual timer running and blocked by a reload of 0.
+    pub blocked: u64,
     /// By call and number.
     pub answers: [[u64; 12]; KINDS.len()],
 }
@@ -48,10 +50,10 @@ pub fn list(port: &mut Port, seed: u64, n: u64, stats: &mut Stats) -> Result<(),
     list_of(port, Gen::new(seed), seed, n, stats)
 }
 
-/// The same with timers in manual mode: where the seed is odd without one-pulse, and held to the published Rust alone.
+/// The same with timers in manual mode: where the seed is odd without one-pulse and reload 0, and held to the published Rust alone.
 pub fn manual_list(port: &mut Port, seed: u64, n: u64, stats: &mut Stats) -> Result<(), Box<Failure>> {
     let gen = Gen::new(seed).with_manual(seed);
-    list_of(port, if seed.is_multiple_of(2) { gen } else { gen.without_one_pulse() }, seed, n, stats)
+    list_of(port, if seed.is_multiple_of(2) { gen } else { gen.as_published() }, seed, n, stats)
 }
 
 fn list_of(port: &mut Port, mut gen: Gen, seed: u64, n: u64, stats: &mut Stats) -> Result<(), Box<Failure>> {
@@ -84,6 +86,13 @@ fn list_of(port: &mut Port, mut gen: Gen, seed: u64, n: u64, stats: &mut Stats) 
                 }
             }
             _ => {}
+        }
+        if let Call::Write { timer, cycle, .. } | Call::Deliver { timer, cycle, .. } = *call {
+            let (t, b) = (timer as usize, gen.board());
+            if answer.number == 0 && b.is_manual(t) {
+                let v = b.view(t, cycle);
+                stats.blocked += (v.running && v.reload == 0) as u64;
+            }
         }
         if i % INTERVAL == 0 || i == n {
             if let Err(asked) = look(&mut gen, port, &mut rng, stats) {

@@ -25,7 +25,7 @@ fn random_lists() {
     assert!(met.iter().all(|&n| n > 100), "{met:?}");
 }
 
-/// Timers in manual mode: whole lists, the end of a pulse in front of the published Rust (oracle/src/board.rs); lists without one-pulse, the Rust alone.
+/// Timers in manual mode: whole lists, the end of a pulse in front of the published Rust (oracle/src/board.rs); lists without one-pulse and reload 0, the Rust alone.
 #[test]
 fn random_lists_in_manual_mode() {
     let mut port = Port::new();
@@ -36,6 +36,7 @@ fn random_lists_in_manual_mode() {
         }
     }
     assert!(stats.pulses > 1_000 && stats.again > 200, "{} pulses, {} again", stats.pulses, stats.again);
+    assert!(stats.blocked > 1_000, "{} calls of a blocked timer", stats.blocked);
 }
 
 /// The safe board gives what the oracle gives, lent a book of its places, and says of each refusal what it is about.

@@ -30,7 +30,7 @@ fn random_lists() {
     }
 }
 
-/// Timers in manual mode: one-pulse is the manual's, and a case only of the timers beside them that are not in it.
+/// Timers in manual mode: one-pulse and a reload of 0 are the manual's, and cases only of the timers beside them that are not in it.
 #[test]
 fn random_lists_in_manual_mode() {
     let (mut port, mut tables) = (Port::new(), [Table::default(), Table::default()]);
@@ -41,4 +41,6 @@ fn random_lists_in_manual_mode() {
     }
     let pulses = |t: &Table| t.pulses;
     assert!(tables.iter().map(pulses).all(|n| n > 100), "{:?}", tables.each_ref().map(pulses));
+    let blocked = |t: &Table| t.blocked;
+    assert!(tables.iter().map(blocked).all(|n| n > 100), "{:?}", tables.each_ref().map(blocked));
 }

@@ -15,6 +15,14 @@ const STOP: &str = "            if crate::seen::full(cx.sys.changed.len()) { bre
 const AFTER: &str = "        self.update_irq(cx);\n        self.reschedule(cx);\n    }\n";
 const HANDLED: &str = "        crate::seen::handled(guard as u64); // added: the number of events handled\n";
 
+/// Added where a running counter is counted on, synchronized and asked for its next event: document 02's block by a reload of 0.
+const COUNTS: &str = "        let ticks = c.saturating_sub(self.base) / self.tick;\n";
+const KEEPS: &str = "        if crate::seen::blocks(self.arr_act) { return self.cnt0; } // added: blocked, its number stays\n";
+const SYNCS: &str = "            let ticks = now.saturating_sub(self.base) / self.tick;\n";
+const WAITS: &str = "            if crate::seen::blocks(self.arr_act) { self.base = now; return; } // added: blocked, no part of a step is kept\n";
+const SEEKS: &str = "        let steps_to_update = if down {";
+const NONE: &str = "        if crate::seen::blocks(self.arr_act) { return None; } // added: blocked, no event comes\n";
+
 /// Added at the end of the file.
 const VIEW: &str = "
 impl Timer { // added: a view of the private fields, and manual mode
@@ -37,6 +45,9 @@ fn main() {
     let tim = read(&root.join("tim.rs"));
     let tim = before(&tim, COUNT, STOP);
     let tim = before(&tim, AFTER, HANDLED);
+    let tim = before(&tim, COUNTS, KEEPS);
+    let tim = before(&tim, SYNCS, WAITS);
+    let tim = before(&tim, SEEKS, NONE);
     // Wrapped in its module, because the file's `//!` lines may only open one.
     fs::write(out.join("tim.rs"), format!("pub mod tim {{ // added: a module of its own\n{tim}{VIEW}}} // added\n")).unwrap();
 }

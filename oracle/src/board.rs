@@ -1,6 +1,7 @@
 //! The board: document 01's refusals, with 11 of document 02, and the lent book in front of the published Rust. Every refusal is decided
 //! before the Rust is entered, so a refused call cannot have changed anything. Behind the Rust, of document 02: a pulse that
-//! ends in manual mode clears CEN (F-2), and a line that several timers name follows all of them (F-7).
+//! ends in manual mode clears CEN (F-2), and a line that several timers name follows all of them (F-7). In it, by three added lines
+//! (oracle/mcs-sim/build.rs): in manual mode a reload of 0 blocks (F-6).
 
 use mcs_core::arm::device::{Enable, TimerInstance};
 use mcs_sim::arm::bus::{Cx, Mmio};
@@ -249,7 +250,7 @@ impl Board {
     }
 
     /// Refusal 7: after this ungated write the timer would run upward with its counter above the active
-    /// reload + 1. Foretold, because the Rust's own sum would go below 0.
+    /// reload + 1; in manual mode never with a reload of 0 (F-6). Foretold, because the Rust's own sum would go below 0.
     fn astray(&mut self, t: usize, offset: u32, size: u8, value: u32, cycle: u64) -> bool {
         let v = seen::lane_write(self.peek(t, offset, cycle), offset, size, value);
         let View { mut running, mut cr1, mut counter, mut reload, max, channels, .. } = self.view(t, cycle);
@@ -265,7 +266,8 @@ impl Board {
             _ => return false,
         }
         let down = channels > 0 && cr1 & DIR != 0;
-        running && !down && counter > reload + 1
+        let blocked = self.is_manual(t) && reload == 0;
+        running && !blocked && !down && counter > reload + 1
     }
 
     // ---- refusals -------------------------------------------------------------------------
@@ -311,6 +313,7 @@ impl Board {
 
     /// Timer `t` with the board around it. A line of several timers is then set to whether one of them asked for it last.
     fn at<R>(&mut self, t: usize, cycle: u64, f: impl FnOnce(&mut Timer, &mut Cx) -> R) -> R {
+        seen::manual(self.is_manual(t));
         let shared = self.is_shared(t);
         let Board { sys, nvic, own, sched, timers, .. } = self;
         let part = if shared { &mut own[t] } else { &mut *nvic };
@@ -382,6 +385,7 @@ impl Board {
     }
 
     pub fn view(&self, t: usize, cycle: u64) -> View {
+        seen::manual(self.is_manual(t));
         self.timers[t].seen(cycle)
     }
 

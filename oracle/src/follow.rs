@@ -32,6 +32,8 @@ pub struct Table {
     pub met: BTreeMap<&'static str, [u64; 2]>,
     /// Pulses that ended in manual mode.
     pub pulses: u64,
+    /// Deliveries to a timer in manual mode that is blocked by a reload of 0.
+    pub blocked: u64,
     /// Times that a timer was followed no more, up to its reset: a delivery answered 8, or steps too many.
     pub left: u64,
 }
@@ -306,6 +308,8 @@ impl Follow {
                     return Ok(());
                 }
                 let done = self.deliver(t, cycle, table)?;
+                let line = &self.timers[t].line;
+                table.blocked += (line.t.on && line.t.blocked(&line.rules)) as u64;
                 table.look(|| "events".into(), answer.value, done.events())?;
                 self.edges(t, answer, &done.edges, table)?;
                 self.look(t, cycle, ask, table)?;

@@ -3,6 +3,8 @@
 
 use std::collections::VecDeque;
 
+use mcs_sim::seen::lane_write;
+
 use crate::board::{Board, LIMIT};
 use crate::calls::{Answer, Call, Setup, TimerSpec};
 use crate::rng::Rng;
@@ -40,15 +42,15 @@ pub struct Gen {
     in_time: bool,
     /// Set-ups have timers in manual mode, and those are fired now and then. A generator of its own: without it a seed's list is what it was.
     modes: Option<Rng>,
-    /// OPM is never set, and the board knows nothing of manual mode.
-    no_pulse: bool,
+    /// OPM is never set, a manual timer's reload never 0, and the board knows nothing of manual mode.
+    published: bool,
 }
 
 impl Gen {
     pub fn new(seed: u64) -> Self {
         let mut rng = Rng::new(seed);
         let left = rng.below(8); // a few calls meet the blank board
-        Self { rng, board: Board::new(), setup: Setup::default(), plan: VecDeque::new(), left, start: 0, few: false, in_time: false, modes: None, no_pulse: false }
+        Self { rng, board: Board::new(), setup: Setup::default(), plan: VecDeque::new(), left, start: 0, few: false, in_time: false, modes: None, published: false }
     }
 
     /// The same with each timer in manual mode or not, by chance.
@@ -56,9 +58,9 @@ impl Gen {
         Self { modes: Some(Rng::new(seed ^ 0xf2)), ..self }
     }
 
-    /// The same with OPM never set. Then manual mode changes nothing, so the answers are the published Rust's alone.
-    pub fn without_one_pulse(self) -> Self {
-        Self { no_pulse: true, ..self }
+    /// The same with OPM never set and no reload of 0 in manual mode. Then the mode changes nothing, so the answers are the published Rust's alone.
+    pub fn as_published(self) -> Self {
+        Self { published: true, ..self }
     }
 
     /// Lists for a machine that is stepped clock by clock: one or two timers, a pin to each channel, small prescalers, cycles near
@@ -77,12 +79,15 @@ impl Gen {
     pub fn step(&mut self) -> (Call, Answer) {
         let mut call = self.choose();
         match &mut call {
-            Call::Write { offset, value, .. } if self.no_pulse && *offset & !3 == CR1 => *value &= !8,
+            Call::Write { offset, value, .. } if self.published && *offset & !3 == CR1 => *value &= !8,
+            Call::Write { timer, offset, size, value, .. } if self.published && *offset & !3 == ARR && self.zeroes(*timer, *offset, *size, *value) => {
+                (*offset, *size, *value) = (ARR, 4, 1);
+            }
             Call::Setup(s) => s.manual = self.modes.as_mut().map_or(0, |rng| rng.small(1 << s.timers.len())),
             _ => {}
         }
         let answer = match &call {
-            Call::Setup(s) if self.no_pulse => self.board.call(&Call::Setup(Setup { manual: 0, ..s.clone() })),
+            Call::Setup(s) if self.published => self.board.call(&Call::Setup(Setup { manual: 0, ..s.clone() })),
             call => self.board.call(call),
         };
         if self.in_time {
@@ -197,7 +202,18 @@ impl Gen {
         }
     }
 
-    /// A manual timer is fired, or its run made a pulse, once in eight calls.
+    /// This write of ARR leaves a manual timer's reload 0.
+    fn zeroes(&mut self, timer: u32, offset: u32, size: u32, value: u32) -> bool {
+        let (t, cycle) = (timer as usize, self.board.last());
+        if t >= self.setup.timers.len() || self.setup.manual >> t & 1 == 0 || !matches!(size, 1 | 2 | 4) {
+            return false;
+        }
+        let old = self.board.call(&Call::Peek { timer, offset: ARR, cycle }).value as u32;
+        let max = if self.setup.timers[t].width == 32 { u32::MAX } else { 0xffff };
+        lane_write(old, offset, size as u8, value) & max == 0
+    }
+
+    /// A manual timer is fired, or its run made a pulse, once in eight calls; of these, one in three writes its reload instead, often 0.
     fn fire(&mut self) -> Option<Call> {
         let rng = self.modes.as_mut()?;
         if !rng.one_in(8) {
@@ -205,6 +221,10 @@ impl Gen {
         }
         let timer = rng.small(self.board.specs().len() as u32);
         let t = Some(timer as usize).filter(|&t| t < self.setup.timers.len() && self.setup.manual >> t & 1 != 0)?;
+        if rng.one_in(3) {
+            let value = rng.pick(&[0, 0, 0, 1, 3, 9, 40]);
+            return Some(Call::Write { timer, offset: ARR, size: 4, value, cycle: self.when(), book: self.book() });
+        }
         let v = self.board.view(t, self.board.last());
         let more = rng.pick(&[0, 0, 0, 0x10, 0x80, 4, 2]);
         let more = if v.running { 0 } else { more };

@@ -3,8 +3,7 @@
 //! rules of a disagreement stand at the one place that it concerns. Sentences in quotation marks paraphrase the manual,
 //! from memory of its text or as documents 01 and 02 give it; F-n is a request of document 02.
 //!
-//! Where it is not the definitions: `answered` keeps the part of the step where `overrun` wraps, and `overrun` asks whether the counter is
-//! blocked (docs/DECISIONS.md, "Known and not mended"); a write of EGR without UG and one of ARR with ARPE can turn a centre-aligned
+//! Where it is not the definitions: `answered` keeps the part of the step where `overrun` wraps (docs/DECISIONS.md, "Known and not mended"); a write of EGR without UG and one of ARR with ARPE can turn a centre-aligned
 //! counter (F-8); CCMR has `ccs-locked`; the count that is read is kept beside the counter (`shown`, `clamp-down`).
 
 pub mod cases;
@@ -81,9 +80,9 @@ impl Rules {
         Self::all(false)
     }
 
-    /// What the port follows: the Rust's rules, and in manual mode the manual's of each request that is there. So far that is F-2.
+    /// What the port follows: the Rust's rules, and in manual mode the manual's of each request that is there. So far these are F-2 and F-6.
     pub const fn port(manual: bool) -> Self {
-        Self { one_pulse: manual, ..Self::rust() }
+        Self { one_pulse: manual, reload_zero: manual, ..Self::rust() }
     }
 
     /// Document 02's manual mode: F-2, F-6, F-8 and F-11 by the manual, all else by the Rust.

@@ -1,15 +1,18 @@
 -- The programmed pilot, and how far a timer that runs it has come.
 use Prim.Native.Nat.{ℕ, _+_, _-_, _*_, _≤_, _<_, min}
-use mathlib.Core.Path.{_≡_}
-use mathlib.Core.Bool.{true, false}
+use mathlib.Core.Path.{_≡_, refl}
+use mathlib.Core.Bool.{Bool, true, false, _&&_}
 use mathlib.Core.List.{[]}
-use lib.Dec.{ltb}
+use native.Mathlib.Omega.{arith}
+use lib.Dec.{eqb, ltb}
+use borrow.Author.Tests.{ne-eqb}
 use lib.ListN.{getD}
 use Rattle.rm0440.specs.Bits.{OPM}
 use Rattle.rm0440.specs.Counter.{stepCycles}
 use Rattle.rm0440.specs.Output as Out
 use Rattle.tim.specs.declared.Timer.{Timer}
 use Rattle.tim.specs.Timer.{down, isOutput, ocMode, ccrAct}
+use Rattle.tim.specs.Count.{counts}
 use Rattle.tim.specs.Next.{nextSteps}
 use Rattle.sig.specs.Signal.{timSignal}
 use Rattle.gpio.specs.Gpio.{bit}
@@ -66,10 +69,19 @@ pub record Programmed (a : Aim) (t : Timer) : Type 0 where
   pub enabled : Out.CCxE (a .ch) (t .regs .ccer) ≡ true
   pub polarity : Out.CCxP (a .ch) (t .regs .ccer) ≡ false
   pub mode : ocMode t (a .ch) ≡ Out.pwmMode1
+  pub above-zero : t .inst .manual ≡ true → 0 < a .reload
 
 -- of the frame, so that what leaves it leaves this, by computation
 abbrev pub Fixed : Aim → Timer → Type 0
 Fixed a t = Programmed a (frame t)
+
+-- so it counts
+pub counting : (a : Aim) (t : Timer) → Fixed a t → counts t ≡ true
+counting a t f = rw (free (t .inst .manual) (f .above-zero), f .running)
+  where
+    free : (m : Bool) → (m ≡ true → 0 < a .reload) → m && eqb (t .count .«arr_act») 0 ≡ false
+    free false h = refl
+    free true h = ne-eqb (t .count .«arr_act») 0 (λ e. omega (arith, h refl, f .arr-act, e))
 
 -- the next event's cycle
 abbrev pub due : Timer → ℕ

@@ -2,7 +2,7 @@
 -- first board on.
 use Prim.Native.Nat.{ℕ, _+_, _-_, _*_}
 use mathlib.Core.Path.{_≡_, refl, ap, _∙_}
-use mathlib.Core.Bool.{Bool, true, false, not, _&&_}
+use mathlib.Core.Bool.{Bool, true, false, not, _&&_, _||_, false≢true}
 use mathlib.Core.List.{List, [], _∷_, _++_}
 use lib.Dec.{eqb, ltb, leb}
 use borrow.Author.Tests.{eqb-true, ltb-true, leb-true, not-true}
@@ -26,15 +26,18 @@ use Rattle.accuracy.proofs.Quick.{delivery, few, suffice, joined-last, 
 -- ---- lists of calls
 
 -- a timer of 32 bits and four channels, and two pins whose function 0 is its channel 0; 1 Hz, 1 volt
-abbrev pub setup : ℕ → Setup
-setup n = record {
+abbrev pub setupBy : Bool → ℕ → Setup
+setupBy manual n = record {
   hz = one;
   vcc = one;
   pins = 2;
   lines = 0;
-  timers = record { n = n; width = 32; channels = 4; apb = 1; irq = 28; «en_reg» = 0; «en_bit» = 0; manual = false } ∷ [];
+  timers = record { n = n; width = 32; channels = 4; apb = 1; irq = 28; «en_reg» = 0; «en_bit» = 0; manual = manual } ∷ [];
   table = (timSignal n 0 ∷ replicate 15 0) ++ (timSignal n 0 ∷ replicate 15 0);
 }
+
+abbrev pub setup : ℕ → Setup
+setup n = setupBy false n
 
 -- a pin set to function 0, push-pull (0) or open drain (1), at a cycle
 abbrev pub wire : ℕ → ℕ → ℕ → Call
@@ -109,7 +112,8 @@ testsBy π since =
     ∷ eqb (g .cfg .mode) alternateMode
     ∷ not (g .cfg .«open_drain»)  -- 15: push-pull
     ∷ eqb (g .sig) (signal π)
-    ∷ since  -- 17: since
+    ∷ (not (t .inst .manual) || ltb 0 (t .regs .arr))  -- 17: above 0
+    ∷ since  -- 18: since
     ∷ []
 
 abbrev pub tests : Pilot → List Bool
@@ -117,7 +121,7 @@ tests π = testsBy π (steady (π .timer) (π .pin) (board₁ π) (π .after))
 
 -- all of them passed
 abbrev pub passed : List Bool
-passed = replicate 18 true
+passed = replicate 19 true
 
 pub steady-by : (π : Pilot) → tests π ≡ passed → Steady π
 unfolding testsBy
@@ -141,9 +145,14 @@ steady-by π e =
         alternate = eqb-true (g .cfg .mode) alternateMode (at 14);
         push-pull = not-true _ (at 15);
         set-to = eqb-true (g .sig) (signal π) (at 16);
+        above-zero = λ m. ltb-true 0 (t .regs .arr) (only (t .inst .manual) (ltb 0 (t .regs .arr)) m (at 17));
       };
-      since = at 17;
+      since = at 18;
     }
+  where
+    only : (m z : Bool) → m ≡ true → not m || z ≡ true → z ≡ true
+    only true z e h = h
+    only false z e h = absurd (false≢true e)
 
 -- ---- a window
 

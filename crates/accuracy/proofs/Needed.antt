@@ -1,4 +1,4 @@
--- Eleven lists of calls in each of which one single condition of the claim fails, and with it the bound. By computation from the first
+-- Twelve lists of calls in each of which one single condition of the claim fails, and with it the bound. By computation from the first
 -- board on. That another pin took the channel is no condition any more: such a setting is refused (11).
 use Prim.Native.Nat.{ℕ, _+_, _-_, _*_}
 use mathlib.Core.Path.{_≡_, refl, sym, ap, _∙_}
@@ -7,13 +7,13 @@ use mathlib.Core.List.{List, [], _∷_, map}
 use lib.Dec.{leb}
 use borrow.Author.Tests.{le-leb}
 use lib.ListN.{getD, replicate, set, drop}
-use Rattle.machine.specs.Call.{Call, write}
+use Rattle.machine.specs.Call.{Call, setUp, enable, write}
 use Rattle.machine.specs.Step.{step}
 use Rattle.accuracy.specs.Claim.{WithinBound, steady, board₁}
 use Rattle.accuracy.proofs.Computed.{computed}
 use Rattle.accuracy.proofs.Tests.{never}
 use Rattle.accuracy.proofs.Quick.{suffice}
-use Rattle.accuracy.proofs.Bench.{wire, prepared, plain, usual, bench, Trial, pilot, testsBy, tests, passed, Seen, seenBy, seen, board₂, entries, trial-tests, trial-seen}
+use Rattle.accuracy.proofs.Bench.{setupBy, wire, prepared, plain, usual, bench, Trial, pilot, testsBy, tests, passed, Seen, seenBy, seen, board₂, entries, trial-tests, trial-seen}
 
 -- the failing test by its number, the calls, a window in the span, and the window's highs
 pub record Case : Type 0 where
@@ -38,7 +38,7 @@ cases =
     ∷ case 12 (prepared 2 plain 0 0x60 3) 1 [] 120 113 4 4  -- CC1P set: high for 7 cycles of 10
     ∷ case 13 (prepared 2 plain 0 0x70 1) 1 [] 120 113 4 4  -- PWM mode 2: high for 7 cycles of 10
     ∷ case 15 (prepared 2 (wire 0 1 0 ∷ []) 0 0x60 1) 1 [] 120 110 8 0  -- open drain, with nothing that pulls up: the pin stays low
-    ∷ case 17 usual 1 (write 0 0x34 4 7 101 4 ∷ []) 120 110 4 4  -- the compare is written after the start: high for 7 cycles of 10
+    ∷ case 18 usual 1 (write 0 0x34 4 7 101 4 ∷ []) 120 110 4 4  -- the compare is written after the start: high for 7 cycles of 10
     ∷ []
 
 -- every condition but one holds, the window lies in the span, and its highs are these; the period is 10, high for 3
@@ -78,14 +78,30 @@ pub cases-hold : map outcome cases ≡ map expected cases
 unfolding computed cases testsBy seenBy
 cases-hold = all-by cases refl
 
+-- the bound as a test, of the figures
+abbrev pub keeps : ℕ → ℕ → ℕ → ℕ → Bool
+keeps H W P D = leb (H * P) (W * D + D * (P - D)) && leb (W * D) (H * P + D * (P - D))
+
+-- the twelfth: in manual mode a reload of 0, counter 5 and compare 3. The counter is blocked and the pin stays low, where a period of one step that
+-- is high throughout would ask for W highs
+abbrev pub held : Trial
+held = record {
+  before =
+      setUp (setupBy true 2) ∷ enable 0 1 ∷ wire 0 0 0 ∷ write 0 0x18 4 0x60 0 4 ∷ write 0 0x20 4 1 0 4 ∷ write 0 0x2c 4 0 0 4 ∷ write 0 0x34 4 3 0 4 ∷ write 0 0x24 4 5 0 4 ∷ [];
+  cr1 = 1;
+  since = [];
+  last = 120;
+}
+
+pub held-fails : (tests (pilot held) ≡ set passed 17 false) × (seen (pilot held) 110 8 ≡ record { inside = true; highs-are = 0; period-is = 1; high-is = 1 })
+    × (keeps 0 8 1 1 ≡ false)
+unfolding computed testsBy seenBy
+held-fails = (trial-tests held, trial-seen held refl 110 8, refl)
+
 -- another pin asks for the bench pilot's channel after the start
 pub another-pin : step (board₁ (pilot bench)) (wire 1 0 101) .number ≡ 11
 unfolding computed
 another-pin = refl
-
--- the bound as a test, of the figures
-abbrev pub keeps : ℕ → ℕ → ℕ → ℕ → Bool
-keeps H W P D = leb (H * P) (W * D + D * (P - D)) && leb (W * D) (H * P + D * (P - D))
 
 pub cases-fail : map (λ (c : Case). keeps (c .H) (c .W) 10 3) cases ≡ replicate 11 false
 unfolding cases

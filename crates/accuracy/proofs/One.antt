@@ -178,6 +178,7 @@ module _ (a : Aim) (t : Timer) (f : Fixed a t) where
         enabled = f .enabled;
         polarity = f .polarity;
         mode = f .mode;
+        above-zero = f .above-zero;
       })
       f
 
@@ -203,6 +204,7 @@ module _ (a : Aim) (t : Timer) (f : Fixed a t) where
     enabled = f .enabled;
     polarity = f .polarity;
     mode = f .mode;
+    above-zero = f .above-zero;
   }
 
   -- one-pulse is clear, so nothing ends

@@ -12,6 +12,7 @@ use Rattle.tim.specs.declared.Timer.{Timer}
 use Rattle.tim.specs.declared.Next.{Next}
 use Rattle.tim.specs.declared.Due.{Due}
 use Rattle.tim.specs.Change.{output}
+use Rattle.tim.specs.Count.{counts}
 use Rattle.tim.specs.Next.{nextSteps, nextEvent}
 use Rattle.stepping.proofs.Nearest.{event-runs}
 use Rattle.sig.specs.Signal.{timSignal}
@@ -24,7 +25,7 @@ use Rattle.machine.proofs.Routing.{by-test}
 use Rattle.book.specs.Level.{levelAt}
 use Rattle.accuracy.proofs.Wave.{wave}
 use Rattle.accuracy.proofs.Levels.{level-append, Upward, upward-later, upward-then}
-use Rattle.accuracy.proofs.Aim.{Aim, period, high, signalOf, Fixed, due, Phase, Goes}
+use Rattle.accuracy.proofs.Aim.{Aim, period, high, signalOf, Fixed, due, Phase, Goes, counting}
 use Rattle.accuracy.proofs.One.{goes, output-is}
 use Rattle.accuracy.proofs.Drive.{Wired, Driven, shown, outputs-driven}
 
@@ -85,12 +86,12 @@ module _ (a : Aim) (pin l₀ : ℕ) where
 
     turn-later : due t ≤ due (turnOf t p (nextEvent t) (a .div) .timer)
     unfolding turn
-    turn-later = rw (event-runs t (h .fixed .running)) (goes a t (h .fixed) (nextSteps t .next) refl (h .phase) .later)
+    turn-later = rw (event-runs t (counting a t (h .fixed))) (goes a t (h .fixed) (nextSteps t .next) refl (h .phase) .later)
 
     turn-told : Told a pin l₀ (turnOf t p (nextEvent t) (a .div) .timer) (turnOf t p (nextEvent t) (a .div) .pads) (es ++ turnOf t p (nextEvent t) (a .div) .entries)
     unfolding turn
     turn-told =
-        rw (event-runs t (h .fixed .running))
+        rw (event-runs t (counting a t (h .fixed)))
         (let e : Next = nextSteps t .next in
         let s : Timer = applied t e (due t) (a .div) in
         event-told s (countAt s e) (goes a t (h .fixed) e refl (h .phase)))
@@ -101,7 +102,7 @@ module _ (a : Aim) (pin l₀ : ℕ) where
     pub later : from ≤ due (r .timer)
     pub full : r .number ≡ 0 → now < due (r .timer)
 
-  due-by : (t : Timer) (now : ℕ) → t .count .running ≡ true → dueBy (nextEvent t) now ≡ leb (due t) now
+  due-by : (t : Timer) (now : ℕ) → counts t ≡ true → dueBy (nextEvent t) now ≡ leb (due t) now
   due-by t now runs = ap (λ (d : Due). dueBy d now) (event-runs t runs)
 
   stops : (now from : ℕ) (t : Timer) (p : Pads) (es : List Entry) (n : ℕ) → Told a pin l₀ t p es → from ≤ due t → (n ≡ 0 → leb (due t) now ≡ false) → Ran now from es (stop t p n)
@@ -109,7 +110,7 @@ module _ (a : Aim) (pin l₀ : ℕ) where
 
   pub run-told : (events now left from : ℕ) (t : Timer) (p : Pads) (es : List Entry) → Told a pin l₀ t p es → from ≤ due t → Ran now from es (handled events now (a .div) left t p)
   unfolding handled
-  run-told zero now left from t p es h le = stops now from t p es _ h le (λ z. sym (due-by t now (h .fixed .running)) ∙ go (dueBy (nextEvent t) now) z)
+  run-told zero now left from t p es h le = stops now from t p es _ h le (λ z. sym (due-by t now (counting a t (h .fixed))) ∙ go (dueBy (nextEvent t) now) z)
     where
       go : (b : Bool) → _≡_ {A = ℕ} (cond b 8 0) 0 → b ≡ false
       go true e = absurd (omega arith)
@@ -122,4 +123,4 @@ module _ (a : Aim) (pin l₀ : ℕ) where
       let s = turnOf t p (nextEvent t) (a .div) in
       let r = run-told events now (left - length (s .entries)) from (s .timer) (s .pads) (es ++ s .entries) (turn-told t p es h) (le-trans le (turn-later t p es h)) in
       record { told = rw append-assoc at (r .told); later = r .later; full = r .full }))
-      (λ e. stops now from t p es 0 h le (λ z. sym (due-by t now (h .fixed .running)) ∙ e))
+      (λ e. stops now from t p es 0 h le (λ z. sym (due-by t now (counting a t (h .fixed))) ∙ e))

@@ -80,6 +80,7 @@ module _ (b : Board) (i s ch pin : ℕ) (began : Began b i s) (up : DIR (timerAt
     enabled = set .enabled;
     polarity = set .polarity;
     mode = set .mode;
+    above-zero = set .above-zero;
   }
     where
       go : (z : Bool) → cond z false (DIR (timerAt b i .regs .cr1)) ≡ false

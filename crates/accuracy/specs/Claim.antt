@@ -52,6 +52,8 @@ pub record Settings (b : Board) (timer ch pin : ℕ) : Type 0 where
   pub alternate : gpioAt (b .pads) pin .cfg .mode ≡ alternateMode
   pub push-pull : gpioAt (b .pads) pin .cfg .«open_drain» ≡ false
   pub set-to : gpioAt (b .pads) pin .sig ≡ timSignal (timerAt b timer .inst .n) ch
+  -- "The period rule of document 01 then reads "reload above 0" for manual mode, and so does the accuracy rule there" (F-6)
+  pub above-zero : timerAt b timer .inst .manual ≡ true → 0 < timerAt b timer .regs .arr
 
 -- ---- since then: "refused calls aside, the timer got only reads, peeks, deliveries and writes to SR, DIER, CR2, SMCR; the clock tree and
 -- that pin stayed untouched, .. no set-up or pin reset came". "The steady pilot conditions no longer need their clause about another pin" (F-4)

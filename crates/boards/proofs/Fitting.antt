@@ -99,7 +99,7 @@ fit-arr t v now f =
     let k : bitAnd v (max t) ≤ max t = and-le-r v (max t) in
     either-sync t now (λ (z : Timer). FitW (cond (ARPE (t .regs .cr1)) (R.only (R.withArr z (R.keptWidth t v)))
     (R.booked (T.recomputed (R.withArrAct (R.withArr z (R.keptWidth t v)) (R.keptWidth t v))))))
-    (λ e. either FitW (ARPE (t .regs .cr1)) (k, f .1) (k, k)) (λ e. either FitW (ARPE (t .regs .cr1)) (k, f .1) (k, k))
+    (λ n b. either FitW (ARPE (t .regs .cr1)) (k, f .1) (k, k)) (either FitW (ARPE (t .regs .cr1)) (k, f .1) (k, k))
 
 fit-channel : (t : Timer) (off v now : ℕ) → Fit t → FitW (R.channelWritten t off v now)
 unfolding R.channelWritten R.ccmrWritten R.ccerWritten R.ccrWritten

@@ -204,7 +204,7 @@ pub record Part (cycle k : ℕ) (d : ℕ → ℕ) (b : Board) : Type 0 where
 
 inst-retimed : (t : Timer) (now div : ℕ) → T.retimed t now div .inst ≡ t .inst
 unfolding T.retimed
-inst-retimed t now div = either-sync t now (λ (z : Timer). z .inst ≡ t .inst) (λ e. refl) (λ e. refl)
+inst-retimed t now div = either-sync t now (λ (z : Timer). z .inst ≡ t .inst) (λ k b. refl) refl
 
 part-set : (cycle i : ℕ) (d : ℕ → ℕ) (b : Board) → i < b .counts .timers → Part cycle i d b
     → Part cycle (i + 1) d (withTimer b i (T.retimed (timerAt b i) cycle (dividerOf b (timerAt b i))))

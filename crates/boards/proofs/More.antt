@@ -19,7 +19,7 @@ use Rattle.rm0440.proofs.SameEgr.{write-same}
 use Rattle.tim.specs.declared.Timer.{Timer}
 use Rattle.tim.specs.declared.Inst.{Inst}
 use Rattle.tim.specs.declared.Due.{Due}
-use Rattle.tim.specs.Count.{ticksAt, cntAt, synced}
+use Rattle.tim.specs.Count.{counts, ticksAt, cntAt, synced}
 use Rattle.tim.specs.Next.{nextEvent}
 use Rattle.tim.specs.Change as T
 use Rattle.regs.specs.declared.Written.{Written}
@@ -337,7 +337,7 @@ tree-set b s tree i cycle l e =
 
 inst-retimed : (t : Timer) (now div : ℕ) → T.retimed t now div .inst ≡ t .inst
 unfolding T.retimed
-inst-retimed t now div = either-sync t now (λ (z : Timer). z .inst ≡ t .inst) (λ e. refl) (λ e. refl)
+inst-retimed t now div = either-sync t now (λ (z : Timer). z .inst ≡ t .inst) (λ k b. refl) refl
 
 retimes : StepRetimes
 unfolding step
@@ -359,7 +359,7 @@ retimes cs i tree cycle l z differs near =
     let y = synced t cycle in
     ap (λ (x : Timer). seen x (divOf c i) cycle) same ∙ ap (λ (x : ℕ). seen (T.retimed t cycle div′) x cycle) div-is
     ∙ follows .retimes t div div′ cycle (kept-after cs i l .timed) (subst (λ (x : Timer). x .count .running ≡ true → ticksAt x cycle ≡ 0) same near)
-    ∙ ap (λ (x : ℕ). State.withCount (seen t div cycle) (y .count .running) (cond (y .count .running) (clocksAt y x cycle % per y) 0) (cntAt t cycle)) (sym div-is)
+    ∙ ap (λ (x : ℕ). State.withCount (seen t div cycle) (y .count .running) (cond (counts y) (clocksAt y x cycle % per y) 0) (cntAt t cycle)) (sym div-is)
 
 -- ---- outside the cases
 

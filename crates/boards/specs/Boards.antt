@@ -13,7 +13,7 @@ use Rattle.rm0440.specs.Write as M
 use Rattle.rm0440.specs.Cases.{Outside}
 use Rattle.rm0440.specs.WriteCases.{OutsideWrite}
 use Rattle.tim.specs.declared.Timer.{Timer}
-use Rattle.tim.specs.Count.{ticksAt, cntAt, synced}
+use Rattle.tim.specs.Count.{counts, ticksAt, cntAt, synced}
 use Rattle.clk.specs.declared.ClockTree.{ClockTree}
 use Rattle.clk.specs.Clk.{differing}
 use Rattle.periph.specs.Lane.{laneRead, laneWrite}
@@ -176,7 +176,7 @@ StepRetimes =
     → (timerAt (treed cs tree cycle) i .count .running ≡ true → ticksAt (timerAt (treed cs tree cycle) i) cycle ≡ 0)
     → seen (timerAt (treed cs tree cycle) i) (divOf (treed cs tree cycle) i) cycle
     ≡ State.withCount (seenAfter cs i cycle) (synced (timer cs i) cycle .count .running)
-    (cond (synced (timer cs i) cycle .count .running)
+    (cond (counts (synced (timer cs i) cycle))
     (clocksAt (synced (timer cs i) cycle) (divOf (treed cs tree cycle) i) cycle % per (synced (timer cs i) cycle)) 0)
     (cntAt (timer cs i) cycle)
 

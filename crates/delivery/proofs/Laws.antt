@@ -18,6 +18,7 @@ use Rattle.tim.specs.declared.Next.the-variants.{Update, Compare}
 use Rattle.tim.specs.declared.Due.{Due}
 use Rattle.tim.specs.declared.Due.the-variants.{At, Stopped}
 use Rattle.tim.specs.Timer.{Fit}
+use Rattle.tim.specs.Count.{counts}
 use Rattle.tim.specs.Next.{nextEvent, nextSteps, consider, compares, compareSteps}
 use Rattle.tim.proofs.Fit.{either, fit-updated, fit-compared}
 use Rattle.tim.proofs.Fixed.{inst-updated, inst-compared}
@@ -53,7 +54,7 @@ DueNear Stopped = Unit {0}
 
 pub of-four : (t : Timer) (d : Due) (at : ℕ) (e : Next) → d ≡ nextEvent t → d ≡ At at e → OfFour e
 unfolding nextEvent
-of-four t d at e p q = subst DueNear (sym p ∙ q) (either DueNear (t .count .running) (near-steps t .near) tt)
+of-four t d at e p q = subst DueNear (sym p ∙ q) (either DueNear (counts t) (near-steps t .near) tt)
 
 pub fit-applied : (t : Timer) (e : Next) (at div : ℕ) → Fit t → at < 9223372036854775808 → 1 ≤ div → div ≤ 8192 → Fit (applied t e at div)
 fit-applied t Update at div f h p d = fit-updated t f at div h p d

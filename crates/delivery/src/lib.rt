@@ -207,7 +207,7 @@ fn due_of(t: Timer) -> Due
     requires { ⌜ Fit t ⌝ }
     ensures { λ r. ⌜ r ≡ nextEvent t ⌝ }
 {
-    if !t.count.running {
+    if !t.counts() {
         return Due::Stopped;
     }
     let first = first_of(t);

@@ -14,45 +14,46 @@ use Rattle.tim.specs.Timer as T
 use Rattle.tim.specs.Count as K
 use Rattle.tim.specs.Next as N
 use Rattle.tim.specs.Change as C
+use Rattle.tim.proofs.Fit.{either}
 use Rattle.tim.proofs.Laws.{ends}
+use Rattle.stepping.proofs.Synced.{runs-of, free-of}
 use Rattle.tim.proofs.Fixed.{inst-reloaded, inst-updated, inst-compared}
 use Rattle.follows.specs.Seen as S
 use Rattle.follows.specs.Seen.{Timed, Within, dueBy}
 use Rattle.follows.proofs.Edge.{counted-place}
 use Rattle.follows.proofs.First.{first}
-use Rattle.follows.proofs.Port.{cntAt, cr1At, nextSteps, nextEvent, seen, ended, updated, compared, applied, deliver, Runs}
+use Rattle.follows.proofs.Port.{moves, cntAt, cr1At, nextSteps, nextEvent, seen, ended, updated, compared, applied, deliver, Runs}
 use Rattle.follows.proofs.After.{over, cr1-reloaded}
 
-module _ (p : Bool) (t : Timer) where
+module _ (p : Bool) (t : Timer) (is : t .inst .manual ≡ p) where
+  pub moves-is : moves (portTakes p) t ≡ K.counts t
+  moves-is = rw (← is)
+
   pub cnt-at : (c : ℕ) → cntAt (portTakes p) t c ≡ K.cntAt t c
   unfolding cntAt K.cntAt
-  cnt-at c = rw (counted-place (T.down t) (t .count .«arr_act») (t .count .cnt0) (K.ticksAt t c))
+  cnt-at c = rw (moves-is, counted-place (T.down t) (t .count .«arr_act») (t .count .cnt0) (K.ticksAt t c))
 
   cr1-at : (c : ℕ) → cr1At (portTakes p) t c ≡ t .regs .cr1
   unfolding cr1At
-  cr1-at c = go (t .count .running)
+  cr1-at c = go (moves (portTakes p) t)
     where
       go : (b : Bool) → cond b (t .regs .cr1) (t .regs .cr1) ≡ t .regs .cr1
       go true = refl
       go false = refl
 
   pub seen-is : (div c : ℕ) → seen (portTakes p) t div c ≡ S.seen t div c
-  seen-is div c = rw (cnt-at c, cr1-at c)
-
-  pub next-is : nextSteps (portTakes p) t ≡ N.nextSteps t
-  unfolding nextSteps N.nextSteps N.consider first
-  next-is = refl
+  seen-is div c = rw (cnt-at c, cr1-at c, moves-is)
 
   pub event-is : nextEvent (portTakes p) t ≡ N.nextEvent t
   unfolding nextEvent nextSteps N.nextEvent N.nextSteps N.consider first
-  event-is = refl
+  event-is = rw moves-is
 
-  -- a running timer within its reload is on its course
-  pub on-course : (div : ℕ) → Timed t div → t .count .running ≡ true → Within t → Runs (portTakes p) t div
+  -- a timer that counts within its reload is on its course
+  pub on-course : (div : ℕ) → Timed t div → K.counts t ≡ true → Within t → Runs (portTakes p) t div
   on-course div w r h = record {
     pos = w .pos;
-    runs = r;
-    free = refl;
+    runs = runs-of t r;
+    free = rw (← is) (free-of t r);
     timed = w .timed;
     sized = w .sized;
     stands = record { within = h r; up = λ e f. absurd (never e); downward = λ e f. absurd (never e) };
@@ -62,6 +63,10 @@ module _ (p : Bool) (t : Timer) where
     where
       never : false ≡ true → ⊥
       never e = let z : _≡_ {A = ℕ} 0 1 = cc in omega arith
+
+pub next-is : (p : Bool) (t : Timer) → nextSteps (portTakes p) t ≡ N.nextSteps t
+unfolding nextSteps N.nextSteps N.consider first
+next-is p t = refl
 
 -- ---- events and deliveries
 
@@ -102,7 +107,7 @@ deliver-step : (p : Bool) (f c div : ℕ) (t : Timer) → t .inst .manual ≡ p
     → cond (dueBy (nextEvent (portTakes p) t) c) (deliver (portTakes p) f c div (applied (portTakes p) t div (nextEvent (portTakes p) t))) t
     ≡ cond (dueBy (N.nextEvent t) c) (S.deliver f c div (S.applied t div (N.nextEvent t))) t
 deliver-step p f c div t is ih =
-    ap (λ (e : Due). cond (dueBy e c) (deliver (portTakes p) f c div (applied (portTakes p) t div e)) t) (event-is p t)
+    ap (λ (e : Due). cond (dueBy e c) (deliver (portTakes p) f c div (applied (portTakes p) t div e)) t) (event-is p t is)
     ∙ ap (λ (u : Timer). cond (dueBy (N.nextEvent t) c) u t)
     (ap (deliver (portTakes p) f c div) (applied-is p t is div (N.nextEvent t)) ∙ ih (S.applied t div (N.nextEvent t)) (manual-applied p t is div (N.nextEvent t)))
 
@@ -110,3 +115,10 @@ pub deliver-is : (p : Bool) (f c div : ℕ) (t : Timer) → t .inst .manual ≡ 
 unfolding deliver S.deliver
 deliver-is p zero c div t is = refl
 deliver-is p (suc f) c div t is = deliver-step p f c div t is (deliver-is p f c div)
+
+-- events leave the mode
+pub manual-left : (p : Bool) (f c div : ℕ) (t : Timer) → t .inst .manual ≡ p → S.deliver f c div t .inst .manual ≡ p
+unfolding S.deliver
+manual-left p zero c div t is = is
+manual-left p (suc f) c div t is =
+    either (λ (u : Timer). u .inst .manual ≡ p) (dueBy (N.nextEvent t) c) (manual-left p f c div (S.applied t div (N.nextEvent t)) (manual-applied p t is div (N.nextEvent t))) is

@@ -51,7 +51,7 @@ module _ (t : Timer) (div : ℕ) (w : Timed t div) where
   unfolding T.retimed
   left-retimed div′ now p b = record {
     timed = either-sync t now (λ (z : Timer). Timed (T.withTick z ((t .count .«psc_act» + 1) * div′)) div′)
-        (λ e. record { pos = p; timed = refl; halted = w .halted; sized = w .sized }) (λ e. record { pos = p; timed = refl; halted = w .halted; sized = w .sized });
+        (λ k b. record { pos = p; timed = refl; halted = w .halted; sized = w .sized }) (record { pos = p; timed = refl; halted = w .halted; sized = w .sized });
     based = sync-base t now b;
   }
 

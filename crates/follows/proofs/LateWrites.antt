@@ -12,6 +12,8 @@ use Rattle.rm0440.specs.Clock.{matched}
 use Rattle.rm0440.specs.Write as W
 use Rattle.rm0440.specs.Write.{isCcr, ccrChannel, generatedCc, writeCr1, writeEgr, writeCnt, storedArr, writeArr, writeCcmr, storedCcr, writeCcr, writeChannel, write}
 use Rattle.tim.specs.declared.Timer.{Timer}
+use Rattle.tim.specs.declared.Inst.{Inst}
+use Rattle.tim.proofs.Fixed.{inst-synced}
 use Rattle.tim.specs.Timer.{max, withRegs, ccmrByte}
 use Rattle.tim.specs.Count.{cntAt, synced}
 use Rattle.tim.specs.Change as T
@@ -43,6 +45,9 @@ module _ (t : Timer) (div : ℕ) (w : Timed t div) (now : ℕ) (b : t .count .ba
   st : Stands t div now y
   st = stands t div w now
 
+  is-y : y .inst .manual ≡ t .inst .manual
+  is-y = ap (λ (i : Inst). i .manual) (inst-synced t now)
+
   acting : (x : M.Timer) (u : Timer) → x ≡ matched (rulesOf t) (seen u div now) → Near u now → Leaves true x u
   acting x u e n = record { same = e; near = λ _. n }
 
@@ -63,13 +68,13 @@ module _ (t : Timer) (div : ℕ) (w : Timed t div) (now : ℕ) (b : t .count .ba
   cr1 v q =
       subst (Leaves true (writeCr1 (rulesOf t) v s)) (sym (P.cr1-port t div w now v))
       (acting (writeCr1 (rulesOf t) v s) _
-      (ap (writeCr1 (rulesOf t) v) (sym (st .shown)) ∙ acts-cr1 (t .inst .manual) y v now div (st .near) (st .here) (st .within) (st .timed .halted) (subst Within (P.cr1-port t div w now v) q))
+      (ap (writeCr1 (rulesOf t) v) (sym (st .shown)) ∙ acts-cr1 (t .inst .manual) y is-y v now div (st .near) (st .here) (st .within) (st .timed .halted) (subst Within (P.cr1-port t div w now v) q))
       (P.cr1-fine t div w now b v .near))
 
   cnt : (v : ℕ) → Within (R.cntWritten t v now) → Leaves true (writeCnt (rulesOf t) v s) (R.cntWritten t v now)
   cnt v q =
       subst (Leaves true (writeCnt (rulesOf t) v s)) (sym (P.cnt-port t div w now v))
-      (acting (writeCnt (rulesOf t) v s) _ (ap (writeCnt (rulesOf t) v) (sym (st .shown)) ∙ acts-cnt (t .inst .manual) y div now v (subst Within (P.cnt-port t div w now v) q)) (P.cnt-fine t div w now b v .near))
+      (acting (writeCnt (rulesOf t) v s) _ (ap (writeCnt (rulesOf t) v) (sym (st .shown)) ∙ acts-cnt (t .inst .manual) y is-y div now v (subst Within (P.cnt-port t div w now v) q)) (P.cnt-fine t div w now b v .near))
 
   -- EGR: UG acts; without it a flag is stored
   egr-y : (v : ℕ) → Leaves (isSet 0 v) (writeEgr (rulesOf t) v (seen y div now)) (newEgr y v now div)
@@ -96,7 +101,7 @@ module _ (t : Timer) (div : ℕ) (w : Timed t div) (now : ℕ) (b : t .count .ba
   arr-y : (v : ℕ) (a : Bool) → ARPE (y .regs .cr1) ≡ a → Within (cond a (R.withArr y (bitAnd v (max y))) (newArr y div now v))
       → Leaves (not a) (writeArr (rulesOf t) v (seen y div now)) (cond a (R.withArr y (bitAnd v (max y))) (newArr y div now v))
   arr-y v true e q = waiting _ _ (arr-waits v e)
-  arr-y v false e q = acting _ _ (acts-arr (t .inst .manual) y div now (st .near) (st .here) v e q) (P.arr-fine t div w now b v false .near)
+  arr-y v false e q = acting _ _ (acts-arr (t .inst .manual) y is-y div now (st .near) (st .here) (st .fresh) v e q) (P.arr-fine t div w now b v false .near)
 
   arr : (v : ℕ) → Within (R.arrWritten t v now .timer) → Leaves (not (ARPE (t .regs .cr1))) (writeArr (rulesOf t) v s) (R.arrWritten t v now .timer)
   arr v q =
@@ -108,7 +113,7 @@ module _ (t : Timer) (div : ℕ) (w : Timed t div) (now : ℕ) (b : t .count .ba
   ccmr : (i v : ℕ) → Leaves true (writeCcmr (rulesOf t) i v s) (R.ccmrWritten t i v now .timer)
   ccmr i v =
       subst (Leaves true (writeCcmr (rulesOf t) i v s)) (sym (P.ccmr-port t div w now i v))
-      (subst (λ (x : M.Timer). Leaves true (writeCcmr (rulesOf t) i v x) (R.withCcmr y i v)) (st .shown) (acting _ _ (acts-ccmr (t .inst .manual) y div now i v) (st .near)))
+      (subst (λ (x : M.Timer). Leaves true (writeCcmr (rulesOf t) i v x) (R.withCcmr y i v)) (st .shown) (acting _ _ (acts-ccmr (t .inst .manual) y is-y div now i v) (st .near)))
 
   -- CCRx: kept for the next update, or in use at once
   ccr-waits : (ch v : ℕ) → Out.OCxPE (ccmrByte y ch) ≡ true → writeCcr (rulesOf t) ch v (seen y div now) ≡ seen (R.withCcr y ch (bitAnd v (max y))) div now
@@ -118,7 +123,7 @@ module _ (t : Timer) (div : ℕ) (w : Timed t div) (now : ℕ) (b : t .count .ba
   ccr-y : (ch v : ℕ) (a : Bool) → Out.OCxPE (ccmrByte y ch) ≡ a
       → Leaves (not a) (writeCcr (rulesOf t) ch v (seen y div now)) (cond a (R.withCcr y ch (bitAnd v (max y))) (newCcr y div now ch v))
   ccr-y ch v true e = waiting _ _ (ccr-waits ch v e)
-  ccr-y ch v false e = acting _ _ (acts-ccr (t .inst .manual) y div now (st .near) (st .here) ch v e) (st .near)
+  ccr-y ch v false e = acting _ _ (acts-ccr (t .inst .manual) y is-y div now (st .near) (st .here) (st .fresh) ch v e) (st .near)
 
   ccr : (ch v : ℕ) → Leaves (not (Out.OCxPE (ccmrByte t ch))) (writeCcr (rulesOf t) ch v s) (R.ccrWritten t ch v now .timer)
   ccr ch v =

@@ -64,7 +64,7 @@ matchedOnce = after 3 (w 0 0x11 (w 0x24 5 (w 0x34 5 (slow t2))))
 unfoldable pub meets : List Bool
 meets =
     C.reload-zero (from t6 0 1)
-    ∷ C.above-reload (leftCnt manual 10 (after 5 (from t6 9 1)))
+    ∷ C.above-reload rust (leftCnt manual 10 (after 5 (from t6 9 1)))
     ∷ W.centre-written (w 0x2c 3 t2) (keptCr1 t2 0x21)
     ∷ C.centre-aligned (from t2 3 0x21)
     ∷ W.start-delay t6 (newCr1 manual t6 1)

@@ -67,7 +67,7 @@ module _ (y : Timer) (v now div : ℕ) (w : Timed y div) where
   unfolding T.stopped
   timed-stopped =
       either-sync u now (λ (z : Timer). Timed (T.withRunning z false) div)
-      (λ e. record { pos = w .pos; timed = w .timed; halted = λ q. refl; sized = w .sized }) (λ e. record { pos = w .pos; timed = w .timed; halted = λ q. refl; sized = w .sized })
+      (λ k b. record { pos = w .pos; timed = w .timed; halted = λ q. refl; sized = w .sized }) (record { pos = w .pos; timed = w .timed; halted = λ q. refl; sized = w .sized })
 
   stopped-off : T.stopped u now .count .running ≡ false
   unfolding T.stopped
@@ -133,7 +133,7 @@ module _ (t : Timer) (div : ℕ) (w : Timed t div) (now : ℕ) where
   unfolding R.cr1Written
   cr1-port v =
       either-sync t now (λ (z : Timer). cond (CEN (R.keptCr1 t v)) (cond (CEN (t .regs .cr1)) (R.turned (t .regs .cr1) (withCr1 z (R.keptCr1 t v))) (T.started (withCr1 z (R.keptCr1 t v)) now div))
-      (cond (CEN (t .regs .cr1)) (T.stopped (withCr1 z (R.keptCr1 t v)) now) (R.turned (t .regs .cr1) (withCr1 z (R.keptCr1 t v)))) ≡ newCr1 z v now div) (λ e. refl) (λ e. refl)
+      (cond (CEN (t .regs .cr1)) (T.stopped (withCr1 z (R.keptCr1 t v)) now) (R.turned (t .regs .cr1) (withCr1 z (R.keptCr1 t v)))) ≡ newCr1 z v now div) (λ k b. refl) refl
 
   pub egr-port : (v : ℕ) → R.egrWritten t v now div ≡ newEgr y v now div
   unfolding R.egrWritten R.egrUpdate
@@ -142,7 +142,7 @@ module _ (t : Timer) (div : ℕ) (w : Timed t div) (now : ℕ) where
   pub cnt-port : (v : ℕ) → R.cntWritten t v now ≡ newCnt y div now v
   unfolding R.cntWritten
   cnt-port v =
-      either-sync t now (λ (z : Timer). T.recomputed (withCount z (atCount (z .count) (bitAnd v (max t)) now)) ≡ newCnt z div now v) (λ e. refl) (λ e. refl)
+      either-sync t now (λ (z : Timer). T.recomputed (withCount z (atCount (z .count) (bitAnd v (max t)) now)) ≡ newCnt z div now v) (λ k b. refl) refl
 
   abbrev pub arrOf : Timer → ℕ → Timer
   arrOf z v = cond (ARPE (z .regs .cr1)) (R.withArr z (bitAnd v (max z))) (newArr z div now v)
@@ -151,7 +151,7 @@ module _ (t : Timer) (div : ℕ) (w : Timed t div) (now : ℕ) where
   unfolding R.arrWritten
   arr-port v =
       either-sync t now (λ (z : Timer). cond (ARPE (t .regs .cr1)) (R.only (R.withArr z (bitAnd v (max t)))) (R.booked (T.recomputed (R.withArrAct (R.withArr z (bitAnd v (max t))) (bitAnd v (max t))))) .timer ≡ arrOf z v)
-      (λ e. go (ARPE (t .regs .cr1)) _ _) (λ e. go (ARPE (t .regs .cr1)) _ _)
+      (λ k b. go (ARPE (t .regs .cr1)) _ _) (go (ARPE (t .regs .cr1)) _ _)
     where
       go : (a : Bool) (p q : Timer) → cond a (R.only p) (R.booked q) .timer ≡ cond a p q
       go true p q = refl
@@ -169,7 +169,7 @@ module _ (t : Timer) (div : ℕ) (w : Timed t div) (now : ℕ) where
   ccr-port ch v =
       either-sync t now (λ (z : Timer). cond (Out.OCxPE (ccmrByte t ch)) (R.only (R.withCcr z ch (bitAnd v (max t))))
       (R.driven (R.settledChannel (R.withCcrAct (R.withCcr z ch (bitAnd v (max t))) ch (bitAnd v (max t))) ch) (cntAt (R.withCcrAct (R.withCcr z ch (bitAnd v (max t))) ch (bitAnd v (max t))) now) true) .timer ≡ ccrOf z ch v)
-      (λ e. go (Out.OCxPE (ccmrByte t ch)) _ _ _) (λ e. go (Out.OCxPE (ccmrByte t ch)) _ _ _)
+      (λ k b. go (Out.OCxPE (ccmrByte t ch)) _ _ _) (go (Out.OCxPE (ccmrByte t ch)) _ _ _)
     where
       go : (a : Bool) (p q : Timer) (c : ℕ) → cond a (R.only p) (R.driven q c true) .timer ≡ cond a p q
       go true p q c = refl

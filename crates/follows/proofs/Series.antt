@@ -13,8 +13,10 @@ use Rattle.tim.specs.declared.Timer.{Timer}
 use Rattle.tim.specs.declared.Due.{Due}
 use Rattle.tim.specs.declared.Due.the-variants.{At, Stopped}
 use Rattle.tim.specs.Timer.{down}
+use Rattle.tim.specs.Count.{counts}
 use Rattle.tim.specs.Next.{nextEvent}
 use Rattle.stepping.proofs.Agrees.{event-overflown}
+use Rattle.stepping.proofs.Synced.{runs-of}
 use Rattle.follows.specs.Seen.{raw, clocksAt, seen, rulesOf, Timed, Within, dueBy, applied, deliver}
 use Rattle.follows.specs.Follows.{Delivered, DeliveriesDue, Splits, WithinDown, Upward}
 use Rattle.follows.proofs.Leap as Leap
@@ -32,7 +34,7 @@ none-on true v = omega arith
 none-on false v = omega arith
 
 pub deliveries-due : DeliveriesDue
-deliveries-due f t div c k d = go (t .count .running) refl
+deliveries-due f t div c k d = go (counts t) refl
   where
     n : ℕ
     n = clocksAt t div c
@@ -40,12 +42,12 @@ deliveries-due f t div c k d = go (t .count .running) refl
     start : seen t div (t .count .base) ≡ raw t
     start = seen-new t div (t .count .base) refl (k .within)
 
-    go : (r : Bool) → t .count .running ≡ r → clocks (rulesOf t) n (matched (rulesOf t) (seen t div (t .count .base))) ≡ seen (deliver f c div t) div c
+    go : (r : Bool) → counts t ≡ r → clocks (rulesOf t) n (matched (rulesOf t) (seen t div (t .count .base))) ≡ seen (deliver f c div t) div c
     go true r =
         let at : raw t ≡ Leap.at (raw t) 0 0 =
-        ap (λ (b : Bool). M.withCount (raw t) b 0 (t .count .cnt0)) r ∙ ap (M.withCount (raw t) true 0) (sym (none-on (down t) (t .count .cnt0))) in
+        ap (λ (b : Bool). M.withCount (raw t) b 0 (t .count .cnt0)) (runs-of t r) ∙ ap (M.withCount (raw t) true 0) (sym (none-on (down t) (t .count .cnt0))) in
         ap (λ (s : M.Timer). clocks (rulesOf t) n (matched (rulesOf t) s)) (start ∙ at)
-        ∙ from-there (portTakes (t .inst .manual)) t div (on-course (t .inst .manual) t div (k .timed) r (k .within)) f n c refl (k .came) (left-is (t .inst .manual) f c div t refl d) ∙ seen-left (t .inst .manual) f c div t refl
+        ∙ from-there (portTakes (t .inst .manual)) t div (on-course (t .inst .manual) t refl div (k .timed) r (k .within)) f n c refl (k .came) (left-is (t .inst .manual) f c div t refl d) ∙ seen-left (t .inst .manual) f c div t refl
     go false r =
         ap (λ (s : M.Timer). clocks (rulesOf t) n (matched (rulesOf t) s)) start
         ∙ ap (clocks (rulesOf t) n) (matched-none (rulesOf t) (raw t) (mute (portTakes (t .inst .manual)) (raw t) r)) ∙ still (portTakes (t .inst .manual)) t r n
@@ -102,7 +104,7 @@ upward t a b d h = go (down t) refl
     go true e = h e
     go false e = λ r. over r (leb (t .count .cnt0) (t .count .«arr_act»)) refl
       where
-        over : t .count .running ≡ true → (q : Bool) → leb (t .count .cnt0) (t .count .«arr_act») ≡ q → t .count .cnt0 ≤ t .count .«arr_act»
+        over : counts t ≡ true → (q : Bool) → leb (t .count .cnt0) (t .count .«arr_act») ≡ q → t .count .cnt0 ≤ t .count .«arr_act»
         over r true q = leb-true _ _ q
         over r false q =
             let z : dueBy (nextEvent t) a ≡ true =

@@ -32,11 +32,11 @@ use Rattle.follows.proofs.Lasting.{updated-within}
 use Rattle.stepping.proofs.Agrees.{counts-overflown, counts-down-clamped, event-overflown}
 
 deliveries : Deliveries rulesOf (λ t s n. Unit {0})
-deliveries f t div a c k le d e u = D.follows (t .inst .manual) t div (k .timed) (k .within) refl f a c (k .came) le d e
+deliveries f t div a c k le d e u = D.follows (t .inst .manual) t refl div (k .timed) (k .within) f a c (k .came) le d e
 
 writes : Writes rulesOf (λ t off v s. Unit {0})
 writes f t div off v now k d h e u =
-    let w = W.writes (t .inst .manual) t div (k .timed) (k .within) now (k .came) d off v h in
+    let w = W.writes (t .inst .manual) t refl div (k .timed) (k .within) now (k .came) d off v h in
     let l = P.left t div (k .timed) now (k .came) off v in
     w .same ∙ S.settles (t .inst .manual) (R.regWritten t off v now div .timer) (ap (λ (i : Inst). i .manual) (inst-written t off v now div)) div (l .timed) h now (l .based) f (w .settled) e
 
@@ -44,7 +44,7 @@ goes : Goes
 goes t div off v now k h = let l = P.left t div (k .timed) now (k .came) off v in record { timed = l .timed; within = h; came = l .based }
 
 late : Late
-late t div now k = D.passes-by (t .inst .manual) t div (k .timed) (k .within) now
+late t div now k = D.passes-by (t .inst .manual) t refl div (k .timed) (k .within) now
 
 reads : Reads
 unfolding read readChannel R.regRead R.channelRead
@@ -55,7 +55,7 @@ unfolding level T.output
 outputs t div ch now = refl
 
 stays : Stays
-stays t div ch now k r l kept d = D.stays (t .inst .manual) t div (k .timed) (k .within) r ch l kept now (k .came) d
+stays t div ch now k r l kept d = D.stays (t .inst .manual) t refl div (k .timed) (k .within) r ch l kept now (k .came) d
 
 above-reload : AboveReload
 above-reload t c r d e = (counts-overflown t r c d e, event-overflown t r d (omega arith))

@@ -14,6 +14,8 @@ use Rattle.rm0440.specs.Clock.{matched}
 use Rattle.rm0440.specs.Write as W
 use Rattle.rm0440.specs.Write.{isCcr, ccrChannel, writeCr1, writeEgr, writeCnt, storedArr, writeArr, writeCcmr, storedCcr, writeCcr, writeChannel, write}
 use Rattle.tim.specs.declared.Timer.{Timer}
+use Rattle.tim.specs.declared.Inst.{Inst}
+use Rattle.tim.proofs.Fixed.{inst-synced}
 use Rattle.tim.specs.Timer.{max, withRegs, ccmrByte}
 use Rattle.tim.specs.Count.{cntAt, synced}
 use Rattle.tim.specs.Next as N
@@ -33,7 +35,7 @@ pub record Done (p : Bool) (div now : ℕ) (x : M.Timer) (u : Timer) : Type 0 wh
   pub same : x ≡ matched (portRules p) (seen u div now)
   pub settled : Near u now ⊎ (dueBy (N.nextEvent u) now ≡ false)
 
-module _ (p : Bool) (t : Timer) (div : ℕ) (w : Timed t div) (h : Within t) (now : ℕ) (b : t .count .base ≤ now) (d : dueBy (N.nextEvent t) now ≡ false) where
+module _ (p : Bool) (t : Timer) (is : t .inst .manual ≡ p) (div : ℕ) (w : Timed t div) (h : Within t) (now : ℕ) (b : t .count .base ≤ now) (d : dueBy (N.nextEvent t) now ≡ false) where
   abbrev Ok : M.Timer → Timer → Type 0
   Ok x u = Done p div now x u
 
@@ -41,7 +43,7 @@ module _ (p : Bool) (t : Timer) (div : ℕ) (w : Timed t div) (h : Within t) (no
   s = seen t div now
 
   mute : Silent (portRules p) s
-  mute = silent p t div w h now b d
+  mute = silent p t is div w h now b d
 
   -- ---- registers that are only stored
 
@@ -63,13 +65,16 @@ module _ (p : Bool) (t : Timer) (div : ℕ) (w : Timed t div) (h : Within t) (no
   st : Stands t div now y
   st = stands t div w now
 
+  is-y : y .inst .manual ≡ p
+  is-y = ap (λ (i : Inst). i .manual) (inst-synced t now) ∙ is
+
   mute-y : Silent (portRules p) (seen y div now)
   mute-y = subst (Silent (portRules p)) (sym (st .shown)) mute
 
   cr1 : (v : ℕ) → Within (R.cr1Written t v now div) → Ok (writeCr1 (portRules p) v s) (R.cr1Written t v now div)
   cr1 v q =
       subst (Ok (writeCr1 (portRules p) v s)) (sym (P.cr1-port t div w now v)) (record {
-        same = ap (writeCr1 (portRules p) v) (sym (st .shown)) ∙ acts-cr1 p y v now div (st .near) (st .here) (st .within) (st .timed .halted) (subst Within (P.cr1-port t div w now v) q);
+        same = ap (writeCr1 (portRules p) v) (sym (st .shown)) ∙ acts-cr1 p y is-y v now div (st .near) (st .here) (st .within) (st .timed .halted) (subst Within (P.cr1-port t div w now v) q);
         settled = inl (P.cr1-fine t div w now b v .near);
       })
 
@@ -83,7 +88,7 @@ module _ (p : Bool) (t : Timer) (div : ℕ) (w : Timed t div) (h : Within t) (no
   cnt : (v : ℕ) → Within (R.cntWritten t v now) → Ok (writeCnt (portRules p) v s) (R.cntWritten t v now)
   cnt v q =
       subst (Ok (writeCnt (portRules p) v s)) (sym (P.cnt-port t div w now v)) (record {
-        same = ap (writeCnt (portRules p) v) (sym (st .shown)) ∙ acts-cnt p y div now v (subst Within (P.cnt-port t div w now v) q);
+        same = ap (writeCnt (portRules p) v) (sym (st .shown)) ∙ acts-cnt p y is-y div now v (subst Within (P.cnt-port t div w now v) q);
         settled = inl (P.cnt-fine t div w now b v .near);
       })
 
@@ -103,7 +108,7 @@ module _ (p : Bool) (t : Timer) (div : ℕ) (w : Timed t div) (h : Within t) (no
       → Ok (writeArr (portRules p) v (seen y div now)) (cond a (R.withArr y (bitAnd v (max y))) (newArr y div now v))
   arr-y v true e q = subst (λ (x : M.Timer). Ok x (R.withArr y (bitAnd v (max y)))) (sym (arr-waits v e)) (waits-arr v)
   arr-y v false e q = record {
-    same = acts-arr p y div now (st .near) (st .here) v e q;
+    same = acts-arr p y is-y div now (st .near) (st .here) (st .fresh) v e q;
     settled = inl (P.arr-fine t div w now b v false .near);
   }
 
@@ -115,7 +120,7 @@ module _ (p : Bool) (t : Timer) (div : ℕ) (w : Timed t div) (h : Within t) (no
   -- CCMRx
   ccmr-y : (i v : ℕ) → Ok (writeCcmr (portRules p) i v (seen y div now)) (R.withCcmr y i v)
   ccmr-y i v = record {
-    same = acts-ccmr p y div now i v;
+    same = acts-ccmr p y is-y div now i v;
     settled = inl (st .near);
   }
 
@@ -137,7 +142,7 @@ module _ (p : Bool) (t : Timer) (div : ℕ) (w : Timed t div) (h : Within t) (no
   ccr-y : (ch v : ℕ) (a : Bool) → Out.OCxPE (ccmrByte y ch) ≡ a → Ok (writeCcr (portRules p) ch v (seen y div now)) (cond a (R.withCcr y ch (bitAnd v (max y))) (newCcr y div now ch v))
   ccr-y ch v true e = subst (λ (x : M.Timer). Ok x (R.withCcr y ch (bitAnd v (max y)))) (sym (ccr-waits ch v e)) (waits-ccr ch v)
   ccr-y ch v false e = record {
-    same = acts-ccr p y div now (st .near) (st .here) ch v e;
+    same = acts-ccr p y is-y div now (st .near) (st .here) (st .fresh) ch v e;
     settled = inl (st .near);
   }
 

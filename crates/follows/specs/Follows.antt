@@ -24,7 +24,7 @@ use Rattle.tim.specs.declared.Timer.{Timer}
 use Rattle.tim.specs.declared.Next.the-variants.{Update}
 use Rattle.tim.specs.declared.Due.the-variants.{At}
 use Rattle.tim.specs.Timer.{down, isOutput, ccrAct}
-use Rattle.tim.specs.Count.{ticksAt, cntAt, synced}
+use Rattle.tim.specs.Count.{counts, ticksAt, cntAt, synced}
 use Rattle.tim.specs.Next.{updateSteps, nextSteps, nextEvent}
 use Rattle.tim.specs.Change.{updated, output, resetState, retimed}
 use Rattle.regs.specs.Regs.{regRead}
@@ -90,7 +90,7 @@ abbrev pub Retimes : Type 0
 Retimes =
     (t : Timer) (div div′ now : ℕ) → Timed t div → (retimed t now div′ .count .running ≡ true → ticksAt (retimed t now div′) now ≡ 0)
     → seen (retimed t now div′) div′ now
-    ≡ M.withCount (seen t div now) (synced t now .count .running) (cond (synced t now .count .running) (clocksAt (synced t now) div′ now % per (synced t now)) 0) (cntAt t now)
+    ≡ M.withCount (seen t div now) (synced t now .count .running) (cond (counts (synced t now)) (clocksAt (synced t now) div′ now % per (synced t now)) 0) (cntAt t now)
 
 -- what a write leaves, with events due or not, is again such a timer
 abbrev pub Goes : Type 0
@@ -145,18 +145,18 @@ WithinDown t = down t ≡ true → Within t
 abbrev pub Upward : Type 0
 Upward = (t : Timer) (a : ℕ) → t .count .base ≤ a → Delivered t a → WithinDown t → Within t
 
--- ---- the two cases that no view shows: a running counter above its reload, after which an update leaves it within
+-- ---- the two cases that no view shows: a counter that counts from above its reload, after which an update leaves it within
 
 -- above-reload: upward at the reload + 1 it reads as from 0, and the update is due at once
 abbrev pub AboveReload : Type 0
 AboveReload =
-    (t : Timer) (c : ℕ) → t .count .running ≡ true → down t ≡ false → t .count .cnt0 ≡ t .count .«arr_act» + 1
+    (t : Timer) (c : ℕ) → counts t ≡ true → down t ≡ false → t .count .cnt0 ≡ t .count .«arr_act» + 1
     → (cntAt t c ≡ after (tickUp (t .count .«arr_act»)) (ticksAt t c) 0) × (nextEvent t ≡ At (t .count .base) Update)
 
 -- clamp-down: downward it reads as from the reload, and the update comes when the counter itself would have come down
 abbrev pub ClampDown : Type 0
 ClampDown =
-    (t : Timer) (c : ℕ) → t .count .running ≡ true → down t ≡ true → t .count .«arr_act» < t .count .cnt0
+    (t : Timer) (c : ℕ) → counts t ≡ true → down t ≡ true → t .count .«arr_act» < t .count .cnt0
     → (cntAt t c ≡ after (tickDown (t .count .«arr_act»)) (ticksAt t c) (t .count .«arr_act»)) × (updateSteps t ≡ t .count .cnt0 + 1)
 
 abbrev pub UpdateWithin : Type 0

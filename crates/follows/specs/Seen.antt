@@ -13,7 +13,7 @@ use Rattle.tim.specs.declared.Next.the-variants.{Update, Compare}
 use Rattle.tim.specs.declared.Due.{Due}
 use Rattle.tim.specs.declared.Due.the-variants.{At, Stopped}
 use Rattle.tim.specs.Timer.{max}
-use Rattle.tim.specs.Count.{cntAt}
+use Rattle.tim.specs.Count.{counts, cntAt}
 use Rattle.tim.specs.Next.{nextEvent}
 pub use Rattle.tim.specs.Next.{dueBy}
 use Rattle.tim.specs.Change as T
@@ -53,9 +53,9 @@ clocksAt t div c = stepsBetween (t .count .base) c div
 abbrev pub per : Timer → ℕ
 per t = t .count .«psc_act» + 1
 
--- at a cycle: the count that is read there, and the kernel clocks since its last step
+-- at a cycle: the count that is read there, and the kernel clocks since its last step, blocked none
 abbrev pub seen : Timer → ℕ → ℕ → M.Timer
-seen t div c = M.withCount (raw t) (t .count .running) (cond (t .count .running) (clocksAt t div c % per t) 0) (cntAt t c)
+seen t div c = M.withCount (raw t) (t .count .running) (cond (counts t) (clocksAt t div c % per t) 0) (cntAt t c)
 
 -- ---- the timers that it is a view of
 
@@ -66,9 +66,9 @@ pub record Timed (t : Timer) (div : ℕ) : Type 0 where
   pub halted : CEN (t .regs .cr1) ≡ false → t .count .running ≡ false
   pub sized : length (t .chan .«cc_done») ≡ 4
 
--- running, its counter is within the reload (docs/DIFFERENCES.md, above-reload upward, clamp-down downward)
+-- counting, it is within the reload (docs/DIFFERENCES.md, above-reload upward, clamp-down downward)
 abbrev pub Within : Timer → Type 0
-Within t = t .count .running ≡ true → t .count .cnt0 ≤ t .count .«arr_act»
+Within t = counts t ≡ true → t .count .cnt0 ≤ t .count .«arr_act»
 
 -- a timer that a call at a cycle leaves: its reference is not later
 pub record Left (div now : ℕ) (t : Timer) : Type 0 where

@@ -10,6 +10,7 @@ use native.Mathlib.Omega.{arith}
 use borrow.Author.Tests.{leb-false, ne-eqb}
 use Rattle.rm0440.specs.Bits.{DIR}
 use Rattle.tim.specs.declared.Timer.{Timer}
+use Rattle.tim.specs.Count.{blocked}
 use Rattle.tim.specs.declared.Inst.{Inst}
 use Rattle.regs.specs.Regs as R
 use Rattle.real.specs.Real.{positive}
@@ -104,14 +105,15 @@ tree-same t =
 
 -- ---- 7
 
-away-tests : (r z d a : Bool) → ((r && (z || not d)) && a) ≡ (r && (not (cond z false d) && a))
-away-tests false z d a = refl
-away-tests true true d a = refl
-away-tests true false d a = refl
+away-tests : (b r z d a : Bool) → (not b && ((r && (z || not d)) && a)) ≡ ((not b && r) && (not (cond z false d) && a))
+away-tests true r z d a = refl
+away-tests false false z d a = refl
+away-tests false true true d a = refl
+away-tests false true false d a = refl
 
 pub away-same : (t : Timer) → runsAway t ≡ R.astray t
 unfolding runsAway R.astray
-away-same t = away-tests (t .count .running) (eqb (t .inst .channels) 0) (DIR (t .regs .cr1)) (ltb (t .count .«arr_act» + 1) (t .count .cnt0))
+away-same t = away-tests (blocked t) (t .count .running) (eqb (t .inst .channels) 0) (DIR (t .regs .cr1)) (ltb (t .count .«arr_act» + 1) (t .count .cnt0))
 
 -- ---- 11
 

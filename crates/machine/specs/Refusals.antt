@@ -110,8 +110,12 @@ toCounter register = eqb register 0x00 || (eqb register 0x24 || eqb register 0x2
 abbrev pub runsUpward : Timer → Bool
 runsUpward t = t .count .running && (eqb (t .inst .channels) 0 || not (DIR (t .regs .cr1)))
 
+-- "7 is not given in manual mode when the write leaves the active reload 0" (F-6)
+abbrev pub leftAtZero : Timer → Bool
+leftAtZero t = t .inst .manual && eqb (t .count .«arr_act») 0
+
 unfoldable pub runsAway : Timer → Bool
-runsAway t = runsUpward t && ltb (t .count .«arr_act» + 1) (t .count .cnt0)
+runsAway t = not (leftAtZero t) && (runsUpward t && ltb (t .count .«arr_act» + 1) (t .count .cnt0))
 
 abbrev pub counterAstray : Board → ℕ → ℕ → ℕ → ℕ → ℕ → Refusal
 counterAstray b timer offset size value cycle =

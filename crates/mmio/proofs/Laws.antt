@@ -1,21 +1,23 @@
 -- The calls over any board: the callees' equations in, step's answer out. Assumes nothing.
 use mathlib.Core.Path.{_≡_, refl, ap, sym, subst, _∙_}
-use mathlib.Core.Bool.{Bool, true, false, cond, not, _||_, false≢true}
+use mathlib.Core.Bool.{Bool, true, false, cond, not, _&&_, _||_, false≢true}
 use mathlib.Core.List.{List, [], _∷_}
 use Prim.Native.Nat.{ℕ, _≤_, _<_, _*_, _/_}
 use native.Mathlib.Omega.{arith}
-use lib.Dec.{ltb}
+use lib.Dec.{eqb, ltb}
 use borrow.Author.Tests.{ltb-false, not-true, not-false}
 use lib.Ieee.{Float}
 use lib.ListN.{length}
 use lib.Seq.{set-set, set-getD}
 use Rattle.tim.specs.declared.Timer.{Timer}
+use Rattle.tim.specs.declared.Inst.{Inst}
+use Rattle.tim.specs.declared.Due.the-variants.{Stopped}
 use Rattle.tim.specs.Timer.{Fit}
 use Rattle.tim.specs.Count.{cntAt}
 use Rattle.tim.specs.Next.{nextEvent}
 use Rattle.tim.proofs.Fit.{either}
 use Rattle.regs.specs.Regs as R
-use Rattle.tim.specs.Change.{resetState}
+use Rattle.tim.specs.Change.{maxOf, resetState}
 use Rattle.periph.specs.Lane.{laneRead}
 use Rattle.clk.specs.declared.ClockTree.{ClockTree}
 use Rattle.clk.specs.Clk.{good}
@@ -166,10 +168,18 @@ after-stored b b₁ i cycle cnt t driven lined booked l e =
 -- ---- reset
 
 -- the reset timer is stopped: it is booked for never
+reset-none : (x : Inst) (div : ℕ) → nextEvent (resetState x div) ≡ Stopped
+unfolding nextEvent resetState
+reset-none x div = rw (off (not (x .manual && eqb (maxOf x) 0)))
+  where
+    off : (b : Bool) → b && false ≡ false
+    off true = refl
+    off false = refl
+
 reset-followed : (b : Board) (i cycle : ℕ)
     → followed b i cycle (record { timer = resetState (timerAt b i .inst) (dividerOf b (timerAt b i)); drive = true; cnt = 0; line = true; book = true }) ≡ timerReset b i cycle
-unfolding followed timerReset rebooked nextEvent resetState
-reset-followed b i cycle = refl
+unfolding followed timerReset rebooked
+reset-followed b i cycle = rw (reset-none (timerAt b i .inst) (dividerOf b (timerAt b i)))
 
 pub resets : (b b₁ b₂ : Board) (i cycle div : ℕ) (t s : Timer) (k k₁ : Book)
     → t ≡ timerAt b i → div ≡ dividerOf b t → s ≡ resetState (t .inst) div

@@ -10,7 +10,7 @@ use borrow.Author.Tests.{eq-eqb, eqb-true, le-ltb, leb-true}
 use Rattle.rm0440.specs.Bits.{CEN, DIR}
 use Rattle.tim.specs.declared.Timer.{Timer}
 use Rattle.tim.specs.Timer.{down, withCr1}
-use Rattle.tim.specs.Count.{upFrom, cntAt, synced}
+use Rattle.tim.specs.Count.{blocked, upFrom, cntAt, synced}
 use Rattle.regs.specs.Regs.{keptCr1, turned, cr1Written, astray}
 use Rattle.machine.specs.Board.{Board, timerAt, withTimer}
 use Rattle.fields.proofs.Words.{changed-twice}
@@ -59,11 +59,13 @@ below false a b n h = le-ltb n b h
 
 pub synced-fine : (t : Timer) (now new : ℕ) → t .regs .cr1 / 16 % 2 ≡ new / 16 % 2 → astray (withCr1 (synced t now) new) ≡ false
 unfolding astray synced cntAt
-synced-fine t now new d = go (t .count .running) refl
+synced-fine t now new d = go (blocked t) (t .count .running) refl refl
   where
-    go : (r : Bool) → t .count .running ≡ r → astray (withCr1 (synced t now) new) ≡ false
-    go false e = rw e
-    go true e = rw (e, sym d) (below (down t) _ _ (t .count .«arr_act» + 1) (omega (arith, up-le (t .count .«arr_act») (t .count .cnt0) ((now - t .count .base) / t .count .tick))))
+    go : (b r : Bool) → blocked t ≡ b → t .count .running ≡ r → astray (withCr1 (synced t now) new) ≡ false
+    go true false p e = rw (e, p)
+    go true true p e = rw (e, p)
+    go false false p e = rw (e, p)
+    go false true p e = rw (e, p, sym d) (below (down t) _ _ (t .count .«arr_act» + 1) (omega (arith, up-le (t .count .«arr_act») (t .count .cnt0) ((now - t .count .base) / t .count .tick))))
 
 -- ---- the write, over any board
 

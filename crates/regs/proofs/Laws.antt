@@ -20,7 +20,7 @@ use Rattle.tim.specs.declared.Regs.{Regs}
 use Rattle.tim.specs.declared.Ahead.{Ahead}
 use Rattle.regs.specs.declared.Written.{Written}
 use Rattle.tim.specs.Timer.{withRegs, down, ccmrByte, ccrAct, withCr1}
-use Rattle.tim.specs.Count.{upFrom, downFrom, ticksAt, cntAt, synced}
+use Rattle.tim.specs.Count.{counts, upFrom, downFrom, ticksAt, cntAt, synced}
 use Rattle.tim.specs.Next.{compares, consider, nextSteps, nextEvent}
 use Rattle.tim.specs.Change.{recomputed, recomputedAfterUpdate, reloaded, restarted, ended, updated, started, stopped}
 use Rattle.regs.specs.Regs.{kept, keptCr1, keptWidth, keptSr, withPsc, only, turned, cr1Written, cntWritten, arrWritten, ccrWritten, ccmrWritten, ccerWritten, channelWritten, regWritten, channelRead, regRead, isCcr}
@@ -55,9 +55,9 @@ module _ (t : Timer) (now : ℕ) where
   unfolding synced
   reload-synced = either (λ (s : Timer). s .count .«arr_act» ≡ t .count .«arr_act») (t .count .running) refl refl
 
-  running-synced : synced t now .count .running ≡ t .count .running
+  counts-synced : counts (synced t now) ≡ counts t
   unfolding synced
-  running-synced = either (λ (s : Timer). s .count .running ≡ t .count .running) (t .count .running) refl refl
+  counts-synced = either (λ (s : Timer). counts s ≡ counts t) (t .count .running) refl refl
 
 -- every timer of the code: its arrays have their lengths
 pub record Shaped (t : Timer) : Type 0 where
@@ -183,9 +183,9 @@ down-none : (reload cnt : ℕ) → downFrom reload cnt 0 ≡ cnt
 unfolding downFrom
 down-none reload cnt = rw (leb·zero cnt, sub-zero cnt)
 
--- the count that a timer shows: stopped its counter, downward and upward by its steps
+-- the count that a timer shows: stopped or blocked its counter, downward and upward by its steps
 abbrev shows : Bool → Bool → ℕ → ℕ → ℕ → ℕ
-shows running down reload cnt n = cond running (cond down (downFrom reload (min cnt reload) n) (upFrom reload cnt n)) cnt
+shows counts down reload cnt n = cond counts (cond down (downFrom reload (min cnt reload) n) (upFrom reload cnt n)) cnt
 
 shows-none : (r d : Bool) (reload cnt : ℕ) → cnt ≤ reload → shows r d reload cnt 0 ≡ cnt
 shows-none false d reload cnt h = refl
@@ -196,44 +196,44 @@ module _ (u : Timer) (now : ℕ) (b : u .count .base ≡ now) where
   no-steps : ticksAt u now ≡ 0
   no-steps = rw (b, sub-self, zero-div)
 
-  -- at its own reference a timer shows its counter, if it is stopped or the counter is not above the reload
-  at-base : (u .count .running ≡ false) ⊎ (u .count .cnt0 ≤ u .count .«arr_act») → cntAt u now ≡ u .count .cnt0
+  -- at its own reference a timer shows its counter, if it is stopped or blocked, or the counter is not above the reload
+  at-base : (counts u ≡ false) ⊎ (u .count .cnt0 ≤ u .count .«arr_act») → cntAt u now ≡ u .count .cnt0
   unfolding cntAt
   at-base (inl r) = rw r
-  at-base (inr h) = rw no-steps (shows-none (u .count .running) (down u) (u .count .«arr_act») (u .count .cnt0) h)
+  at-base (inr h) = rw no-steps (shows-none (counts u) (down u) (u .count .«arr_act») (u .count .cnt0) h)
 
-  at-base-down : u .count .running ≡ true → down u ≡ true → u .count .«arr_act» ≤ u .count .cnt0 → cntAt u now ≡ u .count .«arr_act»
+  at-base-down : counts u ≡ true → down u ≡ true → u .count .«arr_act» ≤ u .count .cnt0 → cntAt u now ≡ u .count .«arr_act»
   unfolding cntAt
   at-base-down r d h = rw (r, d, no-steps, min-eq-right h) (down-none (u .count .«arr_act») (u .count .«arr_act»))
 
-  at-base-above : u .count .running ≡ true → down u ≡ false → u .count .cnt0 ≡ u .count .«arr_act» + 1 → cntAt u now ≡ 0
+  at-base-above : counts u ≡ true → down u ≡ false → u .count .cnt0 ≡ u .count .«arr_act» + 1 → cntAt u now ≡ 0
   unfolding cntAt upFrom
   at-base-above r d h =
       rw (r, d, no-steps, h, add-zero (u .count .«arr_act» + 1), lt-leb (u .count .«arr_act» + 1) (u .count .«arr_act») (omega arith), sub-self (u .count .«arr_act» + 1))
       (zero-mod (u .count .«arr_act» + 1))
 
 module _ (t : Timer) (v now div : ℕ) where
-  -- "CNT, ARR, CCR the timer's width": what was written is read back from a timer that is stopped, or at or below the active reload
-  pub read-cnt : (t .count .running ≡ false) ⊎ (keptWidth t (kept 9 v) ≤ t .count .«arr_act»)
+  -- "CNT, ARR, CCR the timer's width": what was written is read back from a timer that is stopped or blocked, or at or below the active reload
+  pub read-cnt : (counts t ≡ false) ⊎ (keptWidth t (kept 9 v) ≤ t .count .«arr_act»)
       → regRead (regWritten t 0x24 v now div .timer) 0x24 now ≡ keptWidth t (kept 9 v)
   unfolding regRead regWritten cntWritten recomputed
-  read-cnt (inl r) = at-base (cntWritten t (kept 9 v) now) now refl (inl (running-synced t now ∙ r))
+  read-cnt (inl r) = at-base (cntWritten t (kept 9 v) now) now refl (inl (counts-synced t now ∙ r))
   read-cnt (inr h) = at-base (cntWritten t (kept 9 v) now) now refl (inr (rw (reload-synced t now) h))
 
   -- "its clamp: counting down from a counter above reload reads as from reload"
-  pub read-cnt-clamped : t .count .running ≡ true → down t ≡ true → t .count .«arr_act» ≤ keptWidth t (kept 9 v)
+  pub read-cnt-clamped : counts t ≡ true → down t ≡ true → t .count .«arr_act» ≤ keptWidth t (kept 9 v)
       → regRead (regWritten t 0x24 v now div .timer) 0x24 now ≡ t .count .«arr_act»
   unfolding regRead regWritten cntWritten recomputed
   read-cnt-clamped r d h =
-      at-base-down (cntWritten t (kept 9 v) now) now refl (running-synced t now ∙ r) (rw (inst-synced t now, regs-synced t now) d) (rw (reload-synced t now) h)
+      at-base-down (cntWritten t (kept 9 v) now) now refl (counts-synced t now ∙ r) (rw (inst-synced t now, regs-synced t now) d) (rw (reload-synced t now) h)
       ∙ reload-synced t now
 
   -- upward, the one value above the reload that is served reads 0: the update is due at once
-  pub read-cnt-above : t .count .running ≡ true → down t ≡ false → keptWidth t (kept 9 v) ≡ t .count .«arr_act» + 1
+  pub read-cnt-above : counts t ≡ true → down t ≡ false → keptWidth t (kept 9 v) ≡ t .count .«arr_act» + 1
       → regRead (regWritten t 0x24 v now div .timer) 0x24 now ≡ 0
   unfolding regRead regWritten cntWritten recomputed
   read-cnt-above r d h =
-      at-base-above (cntWritten t (kept 9 v) now) now refl (running-synced t now ∙ r) (rw (inst-synced t now, regs-synced t now) d) (rw (reload-synced t now) h)
+      at-base-above (cntWritten t (kept 9 v) now) now refl (counts-synced t now ∙ r) (rw (inst-synced t now, regs-synced t now) d) (rw (reload-synced t now) h)
 
 -- ---- what is no register of this timer
 

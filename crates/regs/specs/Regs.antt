@@ -13,7 +13,7 @@ use Rattle.tim.specs.declared.Timer.{Timer}
 use Rattle.tim.specs.declared.Regs.{Regs}
 use Rattle.regs.specs.declared.Written.{Written}
 use Rattle.tim.specs.Timer.{withCount, withChan, withRegs, withCr1, down, max, isOutput, ocMode, ccmrByte}
-use Rattle.tim.specs.Count.{cntAt, synced, atCount}
+use Rattle.tim.specs.Count.{counts, cntAt, synced, atCount}
 use Rattle.tim.specs.Change.{behind, withDone, recomputed, started, stopped, matched}
 use Rattle.tim.specs.Change as C
 
@@ -178,6 +178,6 @@ regRead t off now =
     (cond (eqb off 0x28) (t .regs .psc)
     (cond (eqb off 0x2c) (t .regs .arr) (channelRead t off))))))))
 
--- "the timer would run upward with counter above active reload + 1"
+-- "the timer would run upward with counter above active reload + 1"; "7 is not given in manual mode when the write leaves the active reload 0" (F-6)
 unfoldable pub astray : Timer → Bool
-astray t = t .count .running && (not (down t) && ltb (t .count .«arr_act» + 1) (t .count .cnt0))
+astray t = counts t && (not (down t) && ltb (t .count .«arr_act» + 1) (t .count .cnt0))

@@ -369,11 +369,11 @@ pub fn read_reg(timer: Timer, off: u32, now: u64) -> u32
     }
 }
 
-// Running upward with the counter above the active reload + 1: a write that leaves this is refused.
+// Counting upward with the counter above the active reload + 1: a write that leaves this is refused.
 pub fn is_astray(timer: Timer) -> bool
     ensures { λ r. ⌜ r ≡ R.astray timer ⌝ }
 {
-    if !timer.count.running {
+    if !timer.counts() {
         return false;
     }
     if timer.down() {

@@ -7,7 +7,7 @@ use lib.Dec.{eqb}
 use lib.ListN.{getD}
 use Rattle.rm0440.specs.Registers.{mask, bits}
 use Rattle.rm0440.specs.Output.{ocref, atMatch}
-use Rattle.rm0440.specs.Rules.{Rules, manual, rust}
+use Rattle.rm0440.specs.Rules.{Rules, manual, portRules, rust}
 use Rattle.rm0440.specs.State.{Timer, down}
 use Rattle.rm0440.specs.Clock.{wraps, restarted, pulseEnded, updateEvent, wrapped, matched, stepped, clock}
 use Rattle.rm0440.specs.Level.{level}
@@ -64,6 +64,10 @@ underUdis r = let t = write r 0x14 1 (write r 0x2c 7 (write r 0 0x82 fresh)) in 
 abbrev pub slow : Rules → Timer
 slow r = write r 0 1 (write r 0x14 1 (write r 0x28 2 fresh))
 
+-- in manual mode, reload 0 written 1 clock into the step from 1
+abbrev pub held : Timer
+held = let r = portRules true in write r 0x2c 0 (clock r (clock r (clock r (clock r (slow r)))))
+
 -- prescaler, reload and compare of channel 1 in use after writes of 2, 6 and 1, and again after UG; CR1 and CCMR1 as given
 abbrev pub inUse : Timer → List ℕ → List ℕ
 inUse t rest = t .psc ∷ t .arr ∷ getD (t .ccr) 0 0 ∷ rest
@@ -113,6 +117,10 @@ figures =
     -- reload 0: blocked by the manual; by the Rust an update at each step
     ∷ record { got = over manual sr 4 (pilot manual 0 9 0 0 1); expected = 0 ∷ 0 ∷ 0 ∷ 0 ∷ [] }
     ∷ record { got = over rust sr 4 (pilot rust 0 9 0 0 1); expected = 0 ∷ 1 ∷ 1 ∷ 1 ∷ [] }
+    -- in manual mode it is blocked too, also above 0 (a step of 3 clocks, counter 1); from a reload that returns on it counts a whole step
+    ∷ record { got = over (portRules true) sr 4 (pilot (portRules true) 0 9 0 0 1); expected = 0 ∷ 0 ∷ 0 ∷ 0 ∷ [] }
+    ∷ record { got = over (portRules true) count 4 held; expected = 1 ∷ 1 ∷ 1 ∷ 1 ∷ [] }
+    ∷ record { got = over (portRules true) count 5 (write (portRules true) 0x2c 9 held); expected = 1 ∷ 1 ∷ 1 ∷ 2 ∷ 2 ∷ [] }
     -- counter 6 above the reload 4 counts on; the Rust serves 5 and wraps at once
     ∷ record { got = over manual count 4 (pilot manual 4 9 6 0 1); expected = 6 ∷ 6 ∷ 7 ∷ 8 ∷ [] }
     ∷ record { got = over rust count 4 (pilot rust 4 9 5 0 1); expected = 0 ∷ 1 ∷ 2 ∷ 3 ∷ [] }

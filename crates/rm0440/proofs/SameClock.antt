@@ -250,15 +250,28 @@ clock-same r t fits o = go (t .on) refl
         ≡ cond b (cond (eqb (t .arr) 0) (withCount t true 0 (t .cnt)) (cond (ltb (t .pre) (t .psc)) (withCount t true (t .pre + 1) (t .cnt)) (stepped manual (withCount t true 0 (t .cnt)))))
         (withCount t (CEN (t .cr1)) (t .pre) (t .cnt))
     go false e = rw (or-same (r .start-delay) (CEN (t .cr1)) (rw e at (o .start-delay-not)))
-    go true e = rw (or-same (r .reload-zero) (eqb (t .arr) 0) (rw e at (o .reload-zero-not))) (ap (λ (x : Timer). cond (eqb (t .arr) 0) (withCount t true 0 (t .cnt)) x) (steps (ltb (t .pre) (t .psc)) refl))
+    go true e = rw (or-same (r .reload-zero) (eqb (t .arr) 0) (rw e at (o .reload-zero-not))) (stuck (eqb (t .arr) 0) refl)
       where
-        steps : (l : Bool) → ltb (t .pre) (t .psc) ≡ l
+        free : eqb (t .arr) 0 ≡ false → blocked r t ≡ false
+        free z = ap (λ (b : Bool). r .reload-zero && b) z ∙ none (r .reload-zero)
+          where
+            none : (b : Bool) → b && false ≡ false
+            none true = refl
+            none false = refl
+
+        steps : eqb (t .arr) 0 ≡ false → (l : Bool) → ltb (t .pre) (t .psc) ≡ l
             → cond l (withCount t true (t .pre + 1) (t .cnt)) (stepped r (withCount t true 0 (t .cnt)))
             ≡ cond l (withCount t true (t .pre + 1) (t .cnt)) (stepped manual (withCount t true 0 (t .cnt)))
-        steps true l = refl
-        steps false l =
-            stepped-same r (withCount t true 0 (t .cnt)) (o .centre-aligned-not) fits (rw e at (o .above-reload-not)) (rw (e, l) at (o .one-pulse-not))
+        steps z true l = refl
+        steps z false l =
+            stepped-same r (withCount t true 0 (t .cnt)) (o .centre-aligned-not) fits (rw (free z, e) at (o .above-reload-not)) (rw (e, l) at (o .one-pulse-not))
             (rw (e, l) at (o .one-pulse-udis-not)) (rw (e, l) at (o .compare-above-reload-not)) (rw (e, l) at (o .done-equality-not))
+
+        stuck : (z : Bool) → eqb (t .arr) 0 ≡ z
+            → cond z (withCount t true 0 (t .cnt)) (cond (ltb (t .pre) (t .psc)) (withCount t true (t .pre + 1) (t .cnt)) (stepped r (withCount t true 0 (t .cnt))))
+            ≡ cond z (withCount t true 0 (t .cnt)) (cond (ltb (t .pre) (t .psc)) (withCount t true (t .pre + 1) (t .cnt)) (stepped manual (withCount t true 0 (t .cnt))))
+        stuck true z = refl
+        stuck false z = steps z (ltb (t .pre) (t .psc)) refl
 
 -- ---- many clocks
 
@@ -270,9 +283,9 @@ clocks-same r s zero f o = refl
 clocks-same r s (suc n) f o =
     clock-same r (clocks r n s) (f n (omega arith)) (o n (omega arith)) ∙ ap (clock manual) (clocks-same r s n (λ m l. f m (omega arith)) (λ m l. o m (omega arith)))
 
--- in manual mode the case of one-pulse is none (F-2), and with F-6, F-8 and F-11 in, theirs: by computation
-pub no-longer-case : (t : Timer) → settled (portRules true .one-pulse) (C.one-pulse (portRules true) t)
-no-longer-case t = refl
+-- in manual mode the cases of one-pulse (F-2) and reload-zero (F-6) are none, and with F-8 and F-11 in, theirs: by computation
+pub no-longer-case : (t : Timer) → settled (portRules true .one-pulse) (C.one-pulse (portRules true) t) × settled (portRules true .reload-zero) (C.reload-zero t)
+no-longer-case t = (refl, refl)
 
 pub no-longer-cases : (t : Timer)
     → settled (manualMode allTaken .one-pulse) (C.one-pulse (manualMode allTaken) t) × settled (manualMode allTaken .one-pulse-udis) (C.one-pulse-udis (manualMode allTaken) t)

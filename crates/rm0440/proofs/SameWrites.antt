@@ -24,7 +24,7 @@ use Rattle.rm0440.proofs.SameClock.{no, or-same, centre-same, Parts, pa
 
 module _ (r : Rules) (old t : Timer) (o : OutsideMatch r old t) where
   no-overrun : overrun r t ≡ false
-  no-overrun = go (r .above-reload) (t .on) (centre r t) (not (down t) && ltb (t .arr) (t .cnt)) (o .above-reload-not)
+  no-overrun = go (r .above-reload) (going r t) (centre r t) (not (down t) && ltb (t .arr) (t .cnt)) (o .above-reload-not)
     where
       go : (rule n c x : Bool) → settled rule (n && x) → not rule && (n && (not c && x)) ≡ false
       go true n c x h = refl

@@ -30,9 +30,9 @@ differ a b = cond a (not b) b
 abbrev pub reload-zero : Timer → Bool
 reload-zero t = t .on && eqb (t .arr) 0
 
--- "running upward, counter above the active reload"
-abbrev pub above-reload : Timer → Bool
-above-reload t = t .on && (not (down t) && ltb (t .arr) (t .cnt))
+-- "running upward, counter above the active reload", and not blocked
+abbrev pub above-reload : Rules → Timer → Bool
+above-reload r t = going r t && (not (down t) && ltb (t .arr) (t .cnt))
 
 -- "CMS not 0, channels above 0"
 abbrev pub centre-aligned : Timer → Bool
@@ -70,7 +70,7 @@ settled rule case = rule || not case ≡ true
 -- this clock is outside every case that rules r leave to the Rust
 pub record Outside (r : Rules) (t : Timer) : Type 0 where
   pub reload-zero-not : settled (r .reload-zero) (reload-zero t)
-  pub above-reload-not : settled (r .above-reload) (above-reload t)
+  pub above-reload-not : settled (r .above-reload) (above-reload r t)
   pub centre-aligned-not : settled (r .centre-aligned) (centre-aligned t)
   pub start-delay-not : settled (r .start-delay) (start-delay t)
   pub one-pulse-not : settled (r .one-pulse) (one-pulse r t)

@@ -62,9 +62,9 @@ manual = rules true allTaken
 abbrev pub manualMode : Taken → Rules
 manualMode m = rules false m
 
--- what the port's timer takes, in manual mode or not: one-pulse, as F-2 asks. Each of the other requests switches its field.
+-- what the port's timer takes, in manual mode or not: one-pulse, as F-2 asks, and reload-zero, as F-6. Each of the other requests switches its field.
 abbrev pub portTakes : Bool → Taken
-portTakes on = record { one-pulse = on; reload-zero = false; centre-aligned = false; one-pulse-udis = false }
+portTakes on = record { one-pulse = on; reload-zero = on; centre-aligned = false; one-pulse-udis = false }
 
 -- the rules of the port's timer; without manual mode they are the Rust's
 abbrev pub portRules : Bool → Rules

@@ -23,9 +23,9 @@ past t ch = cond (down t) (ltb (t .cnt) (ccrOf t ch)) (leb (ccrOf t ch) (t .cnt)
 abbrev pub resettled : Timer → Timer
 resettled t = withMatches t (t .ref) (each (λ ch. cond (ltb ch (t .channels)) (past t ch) false))
 
--- upward above the reload the Rust wraps at once
+-- upward above the reload the Rust wraps at once, unless the counter is blocked
 abbrev pub overrun : Rules → Timer → Bool
-overrun r t = not (r .above-reload) && (t .on && (not (centre r t) && (not (down t) && ltb (t .arr) (t .cnt))))
+overrun r t = not (r .above-reload) && (going r t && (not (centre r t) && (not (down t) && ltb (t .arr) (t .cnt))))
 
 -- a match that the write makes: the manual's where counter and compare come to be equal, the Rust's where one is still to come
 abbrev pub comes : Rules → Timer → Timer → ℕ → Bool

@@ -27,7 +27,7 @@ unlike r old t ch = isOutput t ch && (equal t ch && differ (not (equal old ch)) 
 
 pub record OutsideMatch (r : Rules) (old t : Timer) : Type 0 where
   pub centre-aligned-not : settled (r .centre-aligned) (centre-aligned t)
-  pub above-reload-not : settled (r .above-reload) (above-reload t)
+  pub above-reload-not : settled (r .above-reload) (above-reload r t)
   pub done-equality-not : settled (r .done-equality) (some (unlike r old t))
 
 -- ---- CR1

@@ -12,7 +12,7 @@ use Rattle.tim.specs.declared.Ahead.{Ahead}
 use Rattle.tim.specs.declared.Next.the-variants.{Compare}
 use Rattle.tim.specs.declared.Due.the-variants.{At}
 use Rattle.tim.specs.Timer.{down, isOutput, ccrAct}
-use Rattle.tim.specs.Count.{upFrom, ticksAt, cntAt}
+use Rattle.tim.specs.Count.{counts, upFrom, ticksAt, cntAt}
 use Rattle.tim.specs.Next.{updateSteps, compares, compareSteps, consider, nextSteps, nextEvent}
 use Rattle.stepping.proofs.Counting.{counted, down-within}
 use Rattle.stepping.proofs.Synced.{cnt-runs, moved}
@@ -98,7 +98,7 @@ module _ (t : Timer) (now : ℕ) where
           (isAhead (down t) (t .count .«arr_act») (t .count .cnt0) (ccrAct t ch)) (ticksAt t now + compareSteps (moved t now) ch)
           (compareSteps t ch) ch (later (ticksAt t now) b) (s .so) (λ a. s .off (sym (s .so) ∙ a))
 
-  module _ (runs : t .count .running ≡ true) (le : t .count .cnt0 ≤ t .count .«arr_act») (early : ticksAt t now < updateSteps t) where
+  module _ (runs : counts t ≡ true) (le : t .count .cnt0 ≤ t .count .«arr_act») (early : ticksAt t now < updateSteps t) where
     onward : Onward (down t) (t .count .cnt0) (ticksAt t now) (cntAt t now)
     unfolding upFrom
     onward = rw (cnt-runs t now runs) (go (down t) early)

@@ -13,15 +13,16 @@ use Rattle.tim.specs.declared.Next.{Next}
 use Rattle.tim.specs.declared.Next.the-variants.{Update, Compare}
 use Rattle.tim.specs.declared.Due.the-variants.{At, Stopped}
 use Rattle.tim.specs.Timer.{down}
+use Rattle.tim.specs.Count.{counts}
 use Rattle.tim.specs.Next.{updateSteps, compares, compareSteps, consider, nextSteps, nextEvent}
 use Rattle.stepping.specs.Reading.{Best}
 
-pub event-runs : (t : Timer) → t .count .running ≡ true
+pub event-runs : (t : Timer) → counts t ≡ true
     → nextEvent t ≡ At (t .count .base + nextSteps t .steps * t .count .tick) (nextSteps t .next)
 unfolding nextEvent
 event-runs t e = rw e
 
-pub event-stopped : (t : Timer) → t .count .running ≡ false → nextEvent t ≡ Stopped
+pub event-stopped : (t : Timer) → counts t ≡ false → nextEvent t ≡ Stopped
 unfolding nextEvent
 event-stopped t e = rw e
 

@@ -9,7 +9,7 @@ use Rattle.rm0440.specs.Counter.{stepCycles}
 use Rattle.tim.specs.declared.Timer.{Timer}
 use Rattle.tim.specs.declared.Inst.{Inst}
 use Rattle.tim.specs.Timer.{Bounds, Fit}
-use Rattle.tim.specs.Count.{ticksAt, synced}
+use Rattle.tim.specs.Count.{blocked, ticksAt, synced}
 use Rattle.tim.specs.Change.{recomputed, recomputedAfterUpdate, reloaded, restarted, ended, updated, generated, matched, compared, started, stopped, retimed, resetState}
 
 -- what holds of both holds of either
@@ -47,7 +47,7 @@ module _ (t : Timer) (f : Fit t) where
         pscAct-lt = f .pscAct-lt;
         tick-pos = f .tick-pos;
         tick-le = f .tick-le;
-        base-lt = synced-base-lt now h;
+        base-lt = either (λ (n : ℕ). n < 9223372036854775808) (blocked t) h (synced-base-lt now h);
       })
       f
 

@@ -16,6 +16,7 @@ use Rattle.rm0440.specs.Bits.{UDIS}
 use Rattle.rm0440.specs.Update.{shadow}
 use Rattle.rm0440.specs.Output as Out
 use Rattle.tim.specs.Timer.{down, Fit, withCr1}
+use Rattle.tim.specs.Count.{counts}
 use Rattle.tim.specs.Change.{reloaded, loaded, withFlag, UIF, withRunning, withoutCen, pulseEnds, ended}
 use Rattle.tim.specs.Next.{updateSteps, ahead, waiting, compares, compareSteps, nearer, consider, nextSteps, nextEvent}
 
@@ -59,8 +60,8 @@ pub due-fits : (t : Timer) → Fit t → t .count .cnt0 < 4294967296 → t .coun
 due-fits t f c a =
     omega (arith, mul-le-mul {n₂ = 4294967296} {m₂ = 536870912} (steps-le t c a) (f .tick-le), f .base-lt)
 
--- a running timer's next event
-pub next-runs : (t : Timer) → t .count .running ≡ true → At (t .count .base + nextSteps t .steps * t .count .tick) (nextSteps t .next) ≡ nextEvent t
+-- the next event of a timer that counts
+pub next-runs : (t : Timer) → counts t ≡ true → At (t .count .base + nextSteps t .steps * t .count .tick) (nextSteps t .next) ≡ nextEvent t
 unfolding nextEvent
 next-runs t h = sym (ap (λ (b : Bool). cond b (At (t .count .base + nextSteps t .steps * t .count .tick) (nextSteps t .next)) Stopped) h)
 

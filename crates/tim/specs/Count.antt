@@ -1,11 +1,19 @@
 -- The counter without stepping (document 01, "Counter, without stepping"; the Rust's cnt_at and sync).
-use mathlib.Core.Bool.{Bool, cond}
+use mathlib.Core.Bool.{Bool, cond, not, _&&_}
 use Prim.Native.Nat.{ℕ, _+_, _-_, _*_, _/_, _%_, min}
-use lib.Dec.{leb}
+use lib.Dec.{eqb, leb}
 use Rattle.rm0440.specs.Counter.{stepsBetween}
 use Rattle.tim.specs.declared.Timer.{Timer}
 use Rattle.tim.specs.declared.Count.{Count}
 use Rattle.tim.specs.Timer.{withCount, down}
+
+-- "In manual mode an active reload of 0 blocks the counter" (F-6); without the mode it is a period of one step (docs/DIFFERENCES.md, reload-zero)
+abbrev pub blocked : Timer → Bool
+blocked t = t .inst .manual && eqb (t .count .«arr_act») 0
+
+-- runs, and is not blocked
+abbrev pub counts : Timer → Bool
+counts t = not (blocked t) && t .count .running
 
 -- the count after n steps up from cnt, with the period reload + 1
 unfoldable pub upFrom : ℕ → ℕ → ℕ → ℕ
@@ -26,10 +34,10 @@ countAfter t n =
     (downFrom (t .count .«arr_act») (min (t .count .cnt0) (t .count .«arr_act»)) n)
     (upFrom (t .count .«arr_act») (t .count .cnt0) n)
 
--- the counter at a cycle; "including its clamp: counting down from a counter above reload reads as from reload" (docs/DIFFERENCES.md, clamp-down)
+-- the counter at a cycle; "including its clamp: counting down from a counter above reload reads as from reload" (docs/DIFFERENCES.md, clamp-down). Blocked "it keeps its number"
 unfoldable pub cntAt : Timer → ℕ → ℕ
 cntAt t c =
-    cond (t .count .running) (countAfter t (ticksAt t c)) (t .count .cnt0)
+    cond (counts t) (countAfter t (ticksAt t c)) (t .count .cnt0)
 
 abbrev pub atCount : Count → ℕ → ℕ → Count
 atCount k cnt base = record {
@@ -41,9 +49,14 @@ atCount k cnt base = record {
   running = k .running;
 }
 
--- the reference moved to the last step at or before now: "keeps the part-step already elapsed, in cycles"; events due and not delivered are passed over (docs/DIFFERENCES.md, lost-update, lost-compare)
+-- the last step at or before now: "keeps the part-step already elapsed, in cycles". Blocked no part of a step is kept: "When an active reload above 0
+-- returns, counting resumes with a whole step from that write" (F-6)
+abbrev pub stepAt : Timer → ℕ → ℕ
+stepAt t now = cond (blocked t) now (t .count .base + ticksAt t now * t .count .tick)
+
+-- the reference moved there; events due and not delivered are passed over (docs/DIFFERENCES.md, lost-update, lost-compare)
 unfoldable pub synced : Timer → ℕ → Timer
 synced t now =
     cond (t .count .running)
-    (withCount t (atCount (t .count) (cntAt t now) (t .count .base + ticksAt t now * t .count .tick)))
+    (withCount t (atCount (t .count) (cntAt t now) (stepAt t now)))
     t

@@ -9,6 +9,7 @@ use Rattle.tim.specs.declared.Next.the-variants.{Update, Compare}
 use Rattle.tim.specs.declared.Due.{Due}
 use Rattle.tim.specs.declared.Due.the-variants.{At, Stopped}
 use Rattle.tim.specs.Timer.{down, isOutput, ccrAct}
+use Rattle.tim.specs.Count.{counts}
 
 -- steps to the update: past 0 downward, past the reload upward; a counter above the reload is there already (docs/DIFFERENCES.md, above-reload, clamp-down)
 abbrev pub updateSteps : Timer → ℕ
@@ -41,10 +42,10 @@ consider t ch best = cond (compares t ch) (nearer (compareSteps t ch) ch best) b
 unfoldable pub nextSteps : Timer → Ahead
 nextSteps t = consider t 3 (consider t 2 (consider t 1 (consider t 0 (record { steps = updateSteps t; next = Update }))))
 
--- "the next event, or none when the timer is stopped", with the cycle at which it is due, that of a step also where a write made it (docs/DIFFERENCES.md, stopped-match, match-before-write)
+-- "the next event, or none when the timer is stopped", or blocked ("no counted event occurs", F-6), with the cycle at which it is due, that of a step also where a write made it (docs/DIFFERENCES.md, stopped-match, match-before-write)
 unfoldable pub nextEvent : Timer → Due
 nextEvent t =
-    cond (t .count .running) (At (t .count .base + nextSteps t .steps * t .count .tick) (nextSteps t .next)) Stopped
+    cond (counts t) (At (t .count .base + nextSteps t .steps * t .count .tick) (nextSteps t .next)) Stopped
 
 -- the next event is due by a cycle; a stopped timer has none
 abbrev pub dueBy : Due → ℕ → Bool

@@ -9,7 +9,7 @@ ghost use Rattle.rm0440.specs.Counter.{stepCycles, restart};
 ghost use Rattle.rm0440.specs.Output as Out;
 ghost use Rattle.tim.specs.Timer as T;
 ghost use Rattle.tim.specs.Timer.{Fit, withCount};
-ghost use Rattle.tim.specs.Count.{upFrom, downFrom, ticksAt, countAfter, cntAt, synced, atCount};
+ghost use Rattle.tim.specs.Count.{blocked, counts, upFrom, downFrom, ticksAt, countAfter, cntAt, synced, atCount};
 ghost use Rattle.tim.specs.Next.{updateSteps, waiting, nearer, consider, nextSteps, nextEvent};
 ghost use Rattle.tim.specs.Change as C;
 
@@ -75,7 +75,7 @@ pub struct Ahead {
     pub next: Next,
 }
 
-// The next event with its cycle, or none when the timer is stopped.
+// The next event with its cycle, or none when the timer is stopped or blocked.
 pub enum Due {
     At(u64, Next),
     Stopped,
@@ -238,6 +238,26 @@ impl Timer {
         self.regs.cr1 / 16 % 2 == 1
     }
 
+    // A reload of 0 in manual mode. The reload comes first: whoever asks counts by it.
+    fn is_blocked(self) -> bool
+        ensures { λ r. ⌜ r ≡ blocked self ⌝ }
+    {
+        if self.count.arr_act == 0 {
+            return self.inst.manual;
+        }
+        false
+    }
+
+    // Runs, and is not blocked.
+    pub fn counts(self) -> bool
+        ensures { λ r. ⌜ r ≡ counts self ⌝ }
+    {
+        if self.is_blocked() {
+            return false;
+        }
+        self.count.running
+    }
+
     // Whole steps from the reference to a cycle.
     fn ticks_at(self, c: u64) -> u64
         requires { ⌜ Fit self ⌝ }
@@ -268,7 +288,7 @@ impl Timer {
         requires { ⌜ (Fit self) × (c < 9223372036854775808) ⌝ }
         ensures { λ r. ⌜ r ≡ cntAt self c ⌝ }
     {
-        if !self.count.running {
+        if !self.counts() {
             return self.count.cnt0;
         }
         if self.down() {
@@ -296,13 +316,17 @@ impl Timer {
         self
     }
 
-    // Re-bases the reference to the most recent counter step at or before now (keeps the sub-step phase). Quotient and remainder are one division.
+    // Re-bases the reference to the most recent counter step at or before now (keeps the sub-step phase), blocked to now. Quotient and remainder are
+    // one division.
     pub fn sync(self, now: u64) -> Timer
         requires { ⌜ (Fit self) × (now < 9223372036854775808) ⌝ }
         ensures { λ r. ⌜ r ≡ synced self now ⌝ }
     {
         if !self.count.running {
             return self;
+        }
+        if self.is_blocked() {
+            return self.at_count(self.count.cnt0, now);
         }
         if now <= self.count.base {
             return self.at_count(self.count_after(0), self.count.base);
@@ -426,7 +450,7 @@ impl Timer {
         requires { ⌜ Fit self ⌝ }
         ensures { λ r. ⌜ r ≡ nextEvent self ⌝ }
     {
-        if !self.count.running {
+        if !self.counts() {
             return Due::Stopped;
         }
         let first = self.next_steps();

@@ -12,6 +12,7 @@ use Rattle.tim.specs.declared.Timer.{Timer}
 use Rattle.tim.specs.declared.Inst.{Inst}
 use Rattle.tim.specs.declared.Due.{Due}
 use Rattle.tim.specs.declared.Due.the-variants.{At}
+use Rattle.tim.specs.Count.{counts}
 use Rattle.tim.specs.Next.{nextSteps, nextEvent}
 use Rattle.stepping.proofs.Nearest.{event-runs, event-stopped}
 use Rattle.clk.specs.declared.ClockTree.{ClockTree}
@@ -62,7 +63,7 @@ module _ (t₀ : Timer) (div a ch pin : ℕ) (call : Call t₀ div a) (quiet : D
   abbrev Onward : ℕ → ℕ → Type 0
   Onward f now = (left k : ℕ) (t : Timer) (p : Pads) (es : List Entry) (x : ℕ) → Has k t p es x → x ≤ now → Ran now es (run f now div left t p)
 
-  next-ran : (f now left k : ℕ) (t : Timer) (p : Pads) (es : List Entry) (x : ℕ) → Has k t p es x → t .count .running ≡ true → due t ≤ now → Onward f now
+  next-ran : (f now left k : ℕ) (t : Timer) (p : Pads) (es : List Entry) (x : ℕ) → Has k t p es x → counts t ≡ true → due t ≤ now → Onward f now
       → Ran now es (rest t₀ div a ch pin call quiet four l₀ f now left t p (At (due t) (nextSteps t .next)))
   unfolding turn
   next-ran f now left k t p es x o r le ih =
@@ -74,9 +75,9 @@ module _ (t₀ : Timer) (div a ch pin : ℕ) (call : Call t₀ div a) (quiet : D
 
   step-ran : (f now left k : ℕ) (t : Timer) (p : Pads) (es : List Entry) (x : ℕ) → Has k t p es x → dueBy (nextEvent t) now ≡ true → Onward f now
       → Ran now es (rest t₀ div a ch pin call quiet four l₀ f now left t p (nextEvent t))
-  step-ran f now left k t p es x o e ih = go (t .count .running) refl
+  step-ran f now left k t p es x o e ih = go (counts t) refl
     where
-      go : (b : Bool) → t .count .running ≡ b → Ran now es (rest t₀ div a ch pin call quiet four l₀ f now left t p (nextEvent t))
+      go : (b : Bool) → counts t ≡ b → Ran now es (rest t₀ div a ch pin call quiet four l₀ f now left t p (nextEvent t))
       go true r =
           let le : due t ≤ now = leb-true (due t) now (ap (λ (d : Due). dueBy d now) (sym (event-runs t r)) ∙ e) in
           subst (λ (d : Due). Ran now es (rest t₀ div a ch pin call quiet four l₀ f now left t p d)) (sym (event-runs t r)) (next-ran f now left k t p es x o r le ih)

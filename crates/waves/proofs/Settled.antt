@@ -15,11 +15,12 @@ use Rattle.tim.specs.declared.Timer.{Timer}
 use Rattle.tim.specs.declared.Next.{Next}
 use Rattle.tim.specs.declared.Next.the-variants.{Update, Compare}
 use Rattle.tim.specs.Timer.{down, isOutput, ccrAct}
-use Rattle.tim.specs.Count.{ticksAt}
+use Rattle.tim.specs.Count.{counts, ticksAt}
 use Rattle.tim.specs.Next.{updateSteps, waiting, ahead, compares, compareSteps, nextSteps, nextEvent}
 use Rattle.tim.specs.Change as T
 use Rattle.tim.proofs.Laws.{ends-not}
 use Rattle.stepping.proofs.Nearest.{best-next, event-runs}
+use Rattle.stepping.proofs.Synced.{runs-of}
 use Rattle.follows.specs.Seen.{clocksAt, per, seen, Timed, Within, Left, dueBy}
 use Rattle.follows.proofs.Leap.{both}
 use Rattle.follows.proofs.Delivered.{steady, drives}
@@ -106,7 +107,7 @@ u t x div = T.restarted (T.reloaded t) x div
 abbrev over : Timer → ℕ → ℕ → Timer
 over t x div = T.recomputedAfterUpdate (u t x div)
 
-over-settled : (t : Timer) (x div ch : ℕ) → ch < 4 → Within (over t x div) → over t x div .count .running ≡ true → Settled (over t x div) ch 0
+over-settled : (t : Timer) (x div ch : ℕ) → ch < 4 → Within (over t x div) → counts (over t x div) ≡ true → Settled (over t x div) ch 0
 unfolding T.recomputedAfterUpdate
 over-settled t x div ch four h r d o j l k e =
     let a : u t x div .count .«arr_act» < ccrAct (u t x div) ch =
@@ -117,11 +118,11 @@ runs-on : (o r : Bool) → cond o false r ≡ true → o ≡ false
 runs-on true r e = sym e
 runs-on false r e = refl
 
-pub settled-after : (t : Timer) (x div ch : ℕ) → ch < 4 → Within (T.updated t x div) → T.updated t x div .count .running ≡ true → Settled (T.updated t x div) ch 0
+pub settled-after : (t : Timer) (x div ch : ℕ) → ch < 4 → Within (T.updated t x div) → counts (T.updated t x div) ≡ true → Settled (T.updated t x div) ch 0
 unfolding T.updated T.ended
 settled-after t x div ch four h r =
-    let e : T.ended (over t x div) ≡ over t x div = ends-not (over t x div) (runs-on (T.pulseEnds (over t x div)) (over t x div .count .running) r) in
-    subst (λ (z : Timer). Settled z ch 0) (sym e) (over-settled t x div ch four (subst Within e h) (subst (λ (z : Timer). z .count .running ≡ true) e r))
+    let e : T.ended (over t x div) ≡ over t x div = ends-not (over t x div) (runs-on (T.pulseEnds (over t x div)) (over t x div .count .running) (runs-of (T.ended (over t x div)) r)) in
+    subst (λ (z : Timer). Settled z ch 0) (sym e) (over-settled t x div ch four (subst Within e h) (subst (λ (z : Timer). counts z ≡ true) e r))
 
 pub settled-compared : (t : Timer) (c : ℕ) → nextSteps t .next ≡ Compare c → (ch k : ℕ) → k ≤ nextSteps t .steps → Settled t ch k → Settled (T.compared t c) ch (nextSteps t .steps)
 settled-compared t c is = compared-settled t c is

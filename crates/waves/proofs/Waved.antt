@@ -18,7 +18,7 @@ use Rattle.tim.specs.declared.Next.the-variants.{Update, Compare}
 use Rattle.tim.specs.declared.Due.{Due}
 use Rattle.tim.specs.declared.Due.the-variants.{At, Stopped}
 use Rattle.tim.specs.Timer.{down, ccrAct}
-use Rattle.tim.specs.Count.{ticksAt, cntAt}
+use Rattle.tim.specs.Count.{counts, ticksAt, cntAt}
 use Rattle.tim.specs.Next.{updateSteps, nextSteps, nextEvent}
 use Rattle.tim.specs.Change as T
 use Rattle.stepping.proofs.Nearest.{best-next, event-runs, event-stopped}
@@ -59,19 +59,19 @@ pub record Goes (t : Timer) (div ch x : ℕ) : Type 0 where
   pub left : Left div x t
   pub within : Within t
   pub step : ℕ
-  pub ahead : t .count .running ≡ true → x ≤ due t
-  pub next : t .count .running ≡ true → step ≤ nextSteps t .steps
+  pub ahead : counts t ≡ true → x ≤ due t
+  pub next : counts t ≡ true → step ≤ nextSteps t .steps
   pub there : (c : ℕ) → x ≤ c → step ≤ clocksAt t div c / per t
-  pub settled : t .count .running ≡ true → Settled t ch step
+  pub settled : counts t ≡ true → Settled t ch step
 
 -- its level from there on is that at its step
-level-from : (t : Timer) (div ch x : ℕ) → ch < 4 → (g : Goes t div ch x) → t .count .running ≡ true → Shows t div ch x (bit (T.output t ch (onward t (g .step))))
+level-from : (t : Timer) (div ch x : ℕ) → ch < 4 → (g : Goes t div ch x) → counts t ≡ true → Shows t div ch x (bit (T.output t ch (onward t (g .step))))
 level-from t div ch x four g r c le d =
-    ap bit (sym (steady (t .inst .manual) t div (g .left .timed) (g .within) r ch four (g .step)
+    ap bit (sym (steady (t .inst .manual) t refl div (g .left .timed) (g .within) r ch four (g .step)
     (λ j q z e o m. g .settled r e o (suc j) (omega arith) (omega (arith, best-next t .by-update)) m) c (omega (arith, g .left .based)) d (g .there c le)))
 
--- a stopped timer's stands
-level-stopped : (t : Timer) (div ch x : ℕ) → t .count .running ≡ false → Shows t div ch x (bit (T.output t ch (t .count .cnt0)))
+-- that of a stopped or blocked timer stands
+level-stopped : (t : Timer) (div ch x : ℕ) → counts t ≡ false → Shows t div ch x (bit (T.output t ch (t .count .cnt0)))
 unfolding level T.output
 level-stopped t div ch x r c le d = ap (λ (k : ℕ). bit (T.output t ch k)) (sym (cnt-stopped t c r))
 
@@ -98,7 +98,7 @@ unfolding T.updated T.reloaded T.restarted T.recomputedAfterUpdate T.ended
 base-updated t x div = refl
 
 after-update : (t : Timer) (div ch x : ℕ) → ch < 4 → Timed t div → After (T.updated t x div) div ch x (T.updated t x div .count .cnt0)
-after-update t div ch x four w = record { goes = g; shows = go (T.updated t x div .count .running) refl }
+after-update t div ch x four w = record { goes = g; shows = go (counts (T.updated t x div)) refl }
   where
     g : Goes (T.updated t x div) div ch x
     g = record {
@@ -111,7 +111,7 @@ after-update t div ch x four w = record { goes = g; shows = go (T.updated t x di
       settled = λ r. settled-after t x div ch four (updated-within t x div) r;
     }
 
-    go : (b : Bool) → T.updated t x div .count .running ≡ b → Shows (T.updated t x div) div ch x (bit (T.output (T.updated t x div) ch (T.updated t x div .count .cnt0)))
+    go : (b : Bool) → counts (T.updated t x div) ≡ b → Shows (T.updated t x div) div ch x (bit (T.output (T.updated t x div) ch (T.updated t x div .count .cnt0)))
     go true r c l d =
         ap (λ (k : ℕ). bit (T.output (T.updated t x div) ch k)) (sym (none-on (down (T.updated t x div)) (T.updated t x div .count .cnt0)))
         ∙ level-from (T.updated t x div) div ch x four g r c l d
@@ -127,7 +127,7 @@ compared-count : (t : Timer) (c : ℕ) → (T.compared t c .count ≡ t .count) 
 unfolding T.compared T.matched
 compared-count t c = (refl, refl)
 
-after-compare : (t : Timer) (div ch x c : ℕ) → ch < 4 → (g : Goes t div ch x) → t .count .running ≡ true → nextSteps t .next ≡ Compare c
+after-compare : (t : Timer) (div ch x c : ℕ) → ch < 4 → (g : Goes t div ch x) → counts t ≡ true → nextSteps t .next ≡ Compare c
     → After (T.compared t c) div ch (due t) (ccrAct (T.compared t c) c)
 unfolding T.compared T.matched
 after-compare t div ch x c four g r is = record { goes = h; shows = λ y l d. ap (λ (k : ℕ). bit (T.output (T.compared t c) ch k)) (sym (compare-count t c is)) ∙ level-from (T.compared t c) div ch (due t) four h r y l d }
@@ -143,7 +143,7 @@ after-compare t div ch x c four g r is = record { goes = h; shows = λ y l d. ap
       settled = λ q. settled-compared t c is ch (g .step) (g .next r) (g .settled r);
     }
 
-after-event : (t : Timer) (div ch x : ℕ) → ch < 4 → (g : Goes t div ch x) → t .count .running ≡ true → (e : Next) → nextSteps t .next ≡ e
+after-event : (t : Timer) (div ch x : ℕ) → ch < 4 → (g : Goes t div ch x) → counts t ≡ true → (e : Next) → nextSteps t .next ≡ e
     → After (applied t e (due t) div) div ch (due t) (countAt (applied t e (due t) div) e)
 after-event t div ch x four g r Update is = after-update t div ch (due t) four (g .left .timed)
 after-event t div ch x four g r (Compare c) is = after-compare t div ch x c four g r is
@@ -176,7 +176,7 @@ module _ (t₀ : Timer) (div a ch pin : ℕ) (call : Call t₀ div a) (quiet : D
         o .shows c le d
         ∙ ap (λ (s : M.Timer). bit (level s ch)) (sym (follows .deliveries k t₀ div a c call (le-trans (o .from) le) quiet (subst (λ (u : Timer). Delivered u c) (sym e) d) tt ∙ ap (λ (u : Timer). seen u div c) e))
 
-    not-yet : t .count .running ≡ true → (c : ℕ) → c < due t → Delivered t c
+    not-yet : counts t ≡ true → (c : ℕ) → c < due t → Delivered t c
     not-yet r c l = ap (λ (d : Due). dueBy d c) (event-runs t r) ∙ lt-leb (due t) c l
 
     -- at the end
@@ -184,9 +184,9 @@ module _ (t₀ : Timer) (div a ch pin : ℕ) (call : Call t₀ div a) (quiet : D
     all-told now d c from le = go (ltb c x) refl
       where
         earlier : Delivered t c
-        earlier = by (t .count .running) refl
+        earlier = by (counts t) refl
           where
-            by : (b : Bool) → t .count .running ≡ b → Delivered t c
+            by : (b : Bool) → counts t ≡ b → Delivered t c
             by false r = ap (λ (e : Due). dueBy e c) (event-stopped t r)
             by true r = not-yet r c (omega (arith, leb-false (due t) now (ap (λ (e : Due). dueBy e now) (sym (event-runs t r)) ∙ d)))
 
@@ -195,7 +195,7 @@ module _ (t₀ : Timer) (div a ch pin : ℕ) (call : Call t₀ div a) (quiet : D
         go false e = o .present c (ltb-false c x e) ∙ wave-now c (ltb-false c x e) earlier
 
     -- one event more
-    module _ (r : t .count .running ≡ true) (e : Next) (is : nextSteps t .next ≡ e) where
+    module _ (r : counts t ≡ true) (e : Next) (is : nextSteps t .next ≡ e) where
       abbrev pub s : Timer
       s = applied t e (due t) div
 
@@ -273,7 +273,7 @@ module _ (t₀ : Timer) (div a ch pin : ℕ) (call : Call t₀ div a) (quiet : D
   rest f now left t p d =
       D.afterTurn (turnOf t p d div .entries) (run f now div (left - length (turnOf t p d div .entries)) (turnOf t p d div .timer) (turnOf t p d div .pads))
 
-  next-told : (f now left k : ℕ) (t : Timer) (p : Pads) (es : List Entry) (x : ℕ) → Told k t p es x → t .count .running ≡ true
+  next-told : (f now left k : ℕ) (t : Timer) (p : Pads) (es : List Entry) (x : ℕ) → Told k t p es x → counts t ≡ true
       → ((left′ k′ : ℕ) (t′ : Timer) (p′ : Pads) (es′ : List Entry) (x′ : ℕ) → Told k′ t′ p′ es′ x′ → Record now es′ (run f now div left′ t′ p′))
       → Record now es (rest f now left t p (At (due t) (nextSteps t .next)))
   unfolding turn
@@ -285,9 +285,9 @@ module _ (t₀ : Timer) (div a ch pin : ℕ) (call : Call t₀ div a) (quiet : D
   step-of : (f now left k : ℕ) (t : Timer) (p : Pads) (es : List Entry) (x : ℕ) → Told k t p es x → dueBy (nextEvent t) now ≡ true
       → ((left′ k′ : ℕ) (t′ : Timer) (p′ : Pads) (es′ : List Entry) (x′ : ℕ) → Told k′ t′ p′ es′ x′ → Record now es′ (run f now div left′ t′ p′))
       → Record now es (rest f now left t p (nextEvent t))
-  step-of f now left k t p es x o e ih = go (t .count .running) refl
+  step-of f now left k t p es x o e ih = go (counts t) refl
     where
-      go : (b : Bool) → t .count .running ≡ b → Record now es (rest f now left t p (nextEvent t))
+      go : (b : Bool) → counts t ≡ b → Record now es (rest f now left t p (nextEvent t))
       go true r = subst (λ (d : Due). Record now es (rest f now left t p d)) (sym (event-runs t r)) (next-told f now left k t p es x o r ih)
       go false r = absurd (let z : _≡_ {A = ℕ} 0 1 = cc (ap (λ (d : Due). dueBy d now) (event-stopped t r)) in omega arith)
 
@@ -334,7 +334,7 @@ begins t div a ch pin p o = record {
   present = λ y l. none y;
 }
   where
-    early : t .count .running ≡ true → a < due t
+    early : counts t ≡ true → a < due t
     early r = leb-false (due t) a (ap (λ (d : Due). dueBy d a) (sym (event-runs t r)) ∙ o .quiet)
 
     few : a < due t → clocksAt t div a / per t ≤ nextSteps t .steps

@@ -10,7 +10,7 @@ use borrow.Author.Tests.{le-leb}
 use Rattle.rm0440.specs.Output as Out
 use Rattle.tim.specs.declared.Timer.{Timer}
 use Rattle.tim.specs.Timer.{down, ccmrByte}
-use Rattle.tim.specs.Count.{upFrom, downFrom, countAfter, cntAt, synced}
+use Rattle.tim.specs.Count.{blocked, upFrom, downFrom, countAfter, cntAt, synced}
 use Rattle.tim.proofs.Fit.{either}
 use Rattle.regs.specs.declared.Written.{Written}
 use Rattle.regs.specs.Regs as R
@@ -46,11 +46,13 @@ no-step base now tick h = div-eq-of-lt (omega (arith, div-add-mod' (now - base) 
 
 pub synced-counts : (t : Timer) (now : ℕ) → 0 < t .count .tick → cntAt (synced t now) now ≡ synced t now .count .cnt0
 unfolding synced cntAt
-synced-counts t now h = go (t .count .running) refl
+synced-counts t now h = go (blocked t) (t .count .running) refl refl
   where
-    go : (r : Bool) → t .count .running ≡ r → cntAt (synced t now) now ≡ synced t now .count .cnt0
-    go false e = rw e
-    go true e = rw (e, no-step (t .count .base) now (t .count .tick) h) (resting (t .count .«arr_act») _ (down t) (count-le t ((now - t .count .base) / t .count .tick)))
+    go : (b r : Bool) → blocked t ≡ b → t .count .running ≡ r → cntAt (synced t now) now ≡ synced t now .count .cnt0
+    go true false p e = rw (e, p)
+    go true true p e = rw (e, p)
+    go false false p e = rw (e, p)
+    go false true p e = rw (e, p, no-step (t .count .base) now (t .count .tick) h) (resting (t .count .«arr_act») _ (down t) (count-le t ((now - t .count .base) / t .count .tick)))
 
 -- so does one whose compare was written, where the outputs are driven
 compare-rests : (t : Timer) (ch v cycle : ℕ) → 0 < t .count .tick → R.ccrWritten t ch v cycle .drive ≡ true

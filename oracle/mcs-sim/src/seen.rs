@@ -5,6 +5,7 @@ use std::cell::Cell;
 thread_local! {
     static PLACES: Cell<u64> = const { Cell::new(u64::MAX) };
     static HANDLED: Cell<u64> = const { Cell::new(0) };
+    static MANUAL: Cell<bool> = const { Cell::new(false) };
 }
 
 /// A timer's private fields, copied.
@@ -23,6 +24,16 @@ pub struct View {
     pub tick: u64,
     /// The active compares.
     pub compare: [u32; 4],
+}
+
+/// The timer that is called next on this thread is in manual mode, or not.
+pub fn manual(on: bool) {
+    MANUAL.set(on);
+}
+
+/// A reload of 0 blocks the timer that is called (document 02, F-6).
+pub(crate) fn blocks(reload: u64) -> bool {
+    reload == 0 && MANUAL.get()
 }
 
 /// The places lent to the deliveries that follow on this thread.

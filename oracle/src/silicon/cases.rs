@@ -81,9 +81,9 @@ fn some(f: impl Fn(usize) -> bool) -> bool {
     (0..4).any(f)
 }
 
-/// "Running upward, counter above the active reload."
-fn above_reload(t: &Timer) -> bool {
-    t.on && !t.down() && t.arr < t.cnt
+/// "Running upward, counter above the active reload", and not blocked.
+fn above_reload(r: &Rules, t: &Timer) -> bool {
+    t.going(r) && !t.down() && t.arr < t.cnt
 }
 
 /// "CMS not 0, channels above 0."
@@ -95,7 +95,7 @@ fn centre_aligned(t: &Timer) -> bool {
 pub fn of_clock(r: &Rules, t: &Timer) -> Met {
     let mut m = Met::default();
     m.add("reload-zero", t.on && t.arr == 0);
-    m.add("above-reload", above_reload(t));
+    m.add("above-reload", above_reload(r, t));
     m.add("centre-aligned", centre_aligned(t));
     if t.steps() {
         let mut next = *t;
@@ -129,7 +129,7 @@ fn missed(r: &Rules, t: &Timer, by_clock: bool, m: &mut Met) {
 /// they were not before, the Rust if its record says so.
 fn answers(r: &Rules, old: &Timer, after: &Timer, ours: &Timer, m: &mut Met) {
     m.add("centre-aligned", centre_aligned(after));
-    m.add("above-reload", above_reload(after) || above_reload(ours));
+    m.add("above-reload", above_reload(r, after) || above_reload(r, ours));
     m.add("reload-zero", ours.on && ours.arr == 0);
     let mut ours = *ours;
     if ours.overrun(r) {

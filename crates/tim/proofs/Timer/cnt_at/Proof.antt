@@ -14,49 +14,42 @@ use Rattle.tim.proofs.Timer.after_up.Reads as after-up-reads
 use Rattle.tim.proofs.Timer.down.Reads as down-reads
 use Rattle.tim.proofs.Timer.ticks_at.Reads as ticks-at-reads
 
--- src/lib.rt:273:13
 returns : tie.Need-returns
 unfolding cntAt
 returns c =
-    rw (not-true (c .before .before .args .self .count .running) (c .if1 .taken))
+    rw (sym (c .before .counts .ensures) ∙ not-true (c .before .counts .result) (c .if1 .taken))
 
--- src/lib.rt:275:12
 down-requires : tie.Need-down-requires
 down-requires c κs = search needs
 
--- src/lib.rt:276:36
 ticks-at-requires : tie.Need-ticks-at-requires
 ticks-at-requires c κs = search needs
 
--- src/lib.rt:276:13
 after-down-requires : tie.Need-after-down-requires
 after-down-requires c κs = search needs
 
--- src/lib.rt:276:13
 returns-2 : tie.Need-returns-2
 unfolding cntAt
 returns-2 c =
-    rw (not-false (c .before .before .before .before .before .before .args .self .count .running) (c .before .before .before .before .if1 .left), sym (c .before .before .before .down .ensures) ∙ c .before .before .if2 .taken, ← c .before .ticks-at .ensures) (c .after-down .ensures)
+    rw (sym (c .before .before .before .before .before .counts .ensures) ∙ not-false (c .before .before .before .before .before .counts .result) (c .before .before .before .before .if1 .left), sym (c .before .before .before .down .ensures) ∙ c .before .before .if2 .taken, ← c .before .ticks-at .ensures) (c .after-down .ensures)
 
--- src/lib.rt:278:23
 ticks-at-requires-2 : tie.Need-ticks-at-requires-2
 ticks-at-requires-2 c κs = search needs
 
--- src/lib.rt:278:9
 after-up-requires : tie.Need-after-up-requires
 after-up-requires c κs =
     omega (arith, c .ticks-at2 .ensures, div-le-self (c .before .before .before .before .before .args .c - c .before .before .before .before .before .args .self .count .base) (c .before .before .before .before .before .args .self .count .tick), c .before .before .before .before .before)
 
--- src/lib.rt:268:5
 returns-3 : tie.Need-returns-3
 unfolding cntAt
 returns-3 c =
-    rw (not-false (c .before .before .before .before .before .before .args .self .count .running) (c .before .before .before .before .if1 .left), sym (c .before .before .before .down .ensures) ∙ c .before .before .if2 .left, ← c .before .ticks-at2 .ensures) (c .after-up .ensures)
+    rw (sym (c .before .before .before .before .before .counts .ensures) ∙ not-false (c .before .before .before .before .before .counts .result) (c .before .before .before .before .if1 .left), sym (c .before .before .before .down .ensures) ∙ c .before .before .if2 .left, ← c .before .ticks-at2 .ensures) (c .after-up .ensures)
 
 pub cnt-at-spec : {M : Type 1} → statement M
 cnt-at-spec =
     tie.close
     (tie.spec
+    (λ c κs. search needs)
     returns
     down-requires
     ticks-at-requires
