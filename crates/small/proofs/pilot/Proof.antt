@@ -8,15 +8,15 @@ use Rattle.small.proofs.pilot.Tie as tie
 
 returns : tie.Need-returns
 unfolding listed
-returns c = rw (lt-ltb 7 _ (c .before .if1 .taken)) (c .nothing .ensures)
+returns c = rw (lt-ltb 7 (c .before .before .args .n) (omega arith)) (c .nothing .ensures)
 
 returns-2 : tie.Need-returns-2
 unfolding listed
-returns-2 c = rw (le-ltb 7 (c .before .before .before .before .args .n) (c .before .before .before .if1 .left), le-ltb (c .before .before .before .before .args .k) (count (c .before .before .before .before .args .n)) (omega (arith, c .before .before .size .ensures))) (c .nothing2 .ensures)
+returns-2 c = rw (le-ltb 7 (c .before .before .before .before .args .n) (omega arith), le-ltb (c .before .before .before .before .args .k) (count (c .before .before .before .before .args .n)) (omega (arith, c .before .before .size .ensures))) (c .nothing2 .ensures)
 
 returns-3 : tie.Need-returns-3
 unfolding listed
-returns-3 c = rw (le-ltb 7 (c .before .before .before .args .n) (c .before .before .if1 .left), lt-ltb (c .before .before .before .args .k) (count (c .before .before .before .args .n)) (omega (arith, c .before .size .ensures)))
+returns-3 c = rw (le-ltb 7 (c .before .before .before .args .n) (omega arith), lt-ltb (c .before .before .before .args .k) (count (c .before .before .before .args .n)) (omega (arith, c .before .size .ensures)))
 
 pub pilot-spec : {M : Type 1} → statement M
 pilot-spec =
