@@ -16,7 +16,7 @@ fn example_of_the_format() {
 fn lists_of_the_board_page() {
     let page = include_str!("../../docs/BOARD.md");
     let lists: Vec<&str> = page.split("```").skip(1).step_by(2).collect();
-    assert_eq!(lists.len(), 4);
+    assert_eq!(lists.len(), 6);
     for list in lists {
         let bare = |line: &str| {
             let (call, answer) = line.split_once("# ").unwrap_or_else(|| panic!("no answer: {line}"));
