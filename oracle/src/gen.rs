@@ -213,15 +213,16 @@ impl Gen {
         lane_write(old, offset, size as u8, value) & max == 0
     }
 
-    /// A manual timer is fired, or its run made a pulse, once in eight calls; of these, one in three writes its reload instead, often 0.
+    /// A manual timer is fired, or its run made a pulse, once in eight calls; once in 24 its reload is written, often 0.
     fn fire(&mut self) -> Option<Call> {
         let rng = self.modes.as_mut()?;
-        if !rng.one_in(8) {
+        let chance = rng.below(24);
+        if chance > 3 {
             return None;
         }
         let timer = rng.small(self.board.specs().len() as u32);
         let t = Some(timer as usize).filter(|&t| t < self.setup.timers.len() && self.setup.manual >> t & 1 != 0)?;
-        if rng.one_in(3) {
+        if chance == 3 {
             let value = rng.pick(&[0, 0, 0, 1, 3, 9, 40]);
             return Some(Call::Write { timer, offset: ARR, size: 4, value, cycle: self.when(), book: self.book() });
         }
