@@ -7,3 +7,4 @@ pub mod Refusals
 pub mod Sound
 pub mod Demand1
 pub mod Sockets
+pub mod Sources

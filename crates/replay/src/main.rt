@@ -43,12 +43,13 @@ fn run(
     pins: &mut [u8],
     levels: &mut [u8],
     cycles: &mut [u64],
+    sources: &mut [u8],
     out: &mut [u8; OUT],
     n: usize,
 ) -> usize {
     let mut answers = [0u64; 3];
-    let ran = calls::run_calls(words, reals, call, &mut answers, pins, levels, cycles);
-    reply::answer(out, n, &answers, pins, levels, cycles, ran.entries)
+    let ran = calls::run_calls(words, reals, call, &mut answers, pins, levels, cycles, sources);
+    reply::answer(out, n, &answers, pins, levels, cycles, sources, ran.entries)
 }
 
 // The call asks for as many places as it is lent: its last number.
@@ -73,6 +74,7 @@ fn lend(
     pins: &mut [u8],
     levels: &mut [u8],
     cycles: &mut [u64],
+    sources: &mut [u8],
     places: usize,
     out: &mut [u8; OUT],
     n: usize,
@@ -89,6 +91,9 @@ fn lend(
     if cycles.len() < places {
         return n;
     }
+    if sources.len() < places {
+        return n;
+    }
     run(
         words,
         reals,
@@ -96,6 +101,7 @@ fn lend(
         &mut pins[..places],
         &mut levels[..places],
         &mut cycles[..places],
+        &mut sources[..places],
         out,
         n,
     )
@@ -111,6 +117,7 @@ fn act(
     pins: &mut [u8; PLACES],
     levels: &mut [u8; PLACES],
     cycles: &mut [u64; PLACES],
+    sources: &mut [u8; PLACES],
     out: &mut [u8; OUT],
 ) -> bool {
     let used = line::size(state[USED]);
@@ -127,6 +134,7 @@ fn act(
             pins,
             levels,
             cycles,
+            sources,
             places,
             out,
             used,
@@ -151,13 +159,14 @@ fn pass(
     pins: &mut [u8; PLACES],
     levels: &mut [u8; PLACES],
     cycles: &mut [u64; PLACES],
+    sources: &mut [u8; PLACES],
     out: &mut [u8; OUT],
 ) -> bool {
     let mut i = 0;
     while i < part.len() {
         let e = line::feed(state, word, call, part[i]);
         if e != line::GO_ON {
-            if !act(e, state, call, words, reals, pins, levels, cycles, out) {
+            if !act(e, state, call, words, reals, pins, levels, cycles, sources, out) {
                 return false;
             }
         }
@@ -176,6 +185,7 @@ fn turn(
     pins: &mut [u8; PLACES],
     levels: &mut [u8; PLACES],
     cycles: &mut [u64; PLACES],
+    sources: &mut [u8; PLACES],
     out: &mut [u8; OUT],
 ) -> u8 {
     let mut part = io::large_buffer();
@@ -197,6 +207,7 @@ fn turn(
         pins,
         levels,
         cycles,
+        sources,
         out,
     ) {
         return MORE;
@@ -214,11 +225,12 @@ fn last(
     pins: &mut [u8; PLACES],
     levels: &mut [u8; PLACES],
     cycles: &mut [u64; PLACES],
+    sources: &mut [u8; PLACES],
     out: &mut [u8; OUT],
 ) {
     let e = line::line_end(state, word, call);
     if e != line::GO_ON {
-        act(e, state, call, words, reals, pins, levels, cycles, out);
+        act(e, state, call, words, reals, pins, levels, cycles, sources, out);
     }
 }
 
@@ -234,12 +246,13 @@ fn finish(
     pins: &mut [u8; PLACES],
     levels: &mut [u8; PLACES],
     cycles: &mut [u64; PLACES],
+    sources: &mut [u8; PLACES],
     out: &mut [u8; OUT],
 ) {
     if told == UNREAD {
         io::write_all(2, b"replay: a read failed: the list ends before its end\n");
     } else {
-        last(state, word, call, words, reals, pins, levels, cycles, out);
+        last(state, word, call, words, reals, pins, levels, cycles, sources, out);
     }
     if !reply::flush(out, line::size(state[USED])) {
         io::write_all(2, b"replay: a write failed: answers are missing\n");
@@ -258,6 +271,7 @@ fn main() {
     let mut pins = [0u8; PLACES];
     let mut levels = [0u8; PLACES];
     let mut cycles = [0u64; PLACES];
+    let mut sources = [0u8; PLACES];
     let mut out = [0u8; OUT];
     blank::clear(&mut words, &mut reals, 1.0, 1.0);
     let mut told = MORE;
@@ -272,6 +286,7 @@ fn main() {
             &mut pins,
             &mut levels,
             &mut cycles,
+            &mut sources,
             &mut out,
         );
         turns -= 1;
@@ -286,6 +301,7 @@ fn main() {
         &mut pins,
         &mut levels,
         &mut cycles,
+        &mut sources,
         &mut out,
     );
 }
