@@ -7,6 +7,7 @@ pub mod gen;
 pub mod rng;
 pub mod samples;
 pub mod silicon;
+pub mod source;
 
 use std::io::{self, BufRead, Write};
 

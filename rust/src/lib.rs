@@ -76,7 +76,7 @@ mod setup;
 mod shift;
 mod time;
 
-pub use board::{Board, Delivered, Entry, Line, Written};
+pub use board::{Board, Delivered, Entry, Line, Source, Written};
 pub use error::{is_refusal, word, ClockField, Disorder, Error, Index, Limit};
 pub use pilot::{Pilot, PilotError};
 pub use reg::{Ccer, Ccmr, Channel, Cr1, OutputMode, Reg, UG};

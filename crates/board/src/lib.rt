@@ -189,7 +189,18 @@ pub extern "C" fn board_drive_pin(
     ensures { λ r. ⌜ Answers (step (view (now (words .entry)) (now (reals .entry))) (C.drivePin pin (driveOf kind volts) cycle (places (slices (now (pins .entry)) (now (levels .entry)) (now (cycles .entry)) (now (sources .entry)))))) r (now (words .entry)) (now (words .exit)) (now (reals .entry)) (now (reals .exit)) ⌝ }
     ensures { λ r. ⌜ Holds (step (view (now (words .entry)) (now (reals .entry))) (C.drivePin pin (driveOf kind volts) cycle (places (slices (now (pins .entry)) (now (levels .entry)) (now (cycles .entry)) (now (sources .entry))))) .entries) (slices (now (pins .entry)) (now (levels .entry)) (now (cycles .entry)) (now (sources .entry))) (slices (now (pins .exit)) (now (levels .exit)) (now (cycles .exit)) (now (sources .exit))) (r .count) ⌝ }
 {
-    pads::drive_pin(words, reals, pins, levels, cycles, sources, pin, kind, volts, cycle)
+    pads::drive_pin(
+        words,
+        reals,
+        pins,
+        levels,
+        cycles,
+        sources,
+        pin,
+        kind,
+        volts,
+        cycle,
+    )
 }
 
 // Reset the pins.

@@ -178,7 +178,18 @@ fn drive_pin(
     let kind = encoding::word(calls, 2);
     let volts = encoding::real64(calls, 3);
     let cycle = encoding::word64(calls, 5);
-    pads::drive_pin(words, reals, pins, levels, cycles, sources, pin, kind, volts, cycle)
+    pads::drive_pin(
+        words,
+        reals,
+        pins,
+        levels,
+        cycles,
+        sources,
+        pin,
+        kind,
+        volts,
+        cycle,
+    )
 }
 
 fn reset_pins(

@@ -137,7 +137,21 @@ fn drive_four(
     let x = t.inst.channels;
     let l = t.output(0, cnt);
     let l1 = t.output(1, cnt);
-    let m = outputs::drive_two(words, reals, pins, levels, cycles, sources, k, x, 0, s, l, l1, at);
+    let m = outputs::drive_two(
+        words,
+        reals,
+        pins,
+        levels,
+        cycles,
+        sources,
+        k,
+        x,
+        0,
+        s,
+        l,
+        l1,
+        at,
+    );
     let l2 = t.output(2, cnt);
     let l3 = t.output(3, cnt);
     outputs::drive_two(

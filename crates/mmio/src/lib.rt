@@ -148,7 +148,18 @@ fn drive(
     ensures { λ r. ⌜ r ≤ 4 ⌝ }
 {
     if on {
-        return outputs::drive_outputs(words, reals, pins, levels, cycles, sources, 0, i, cnt, cycle);
+        return outputs::drive_outputs(
+            words,
+            reals,
+            pins,
+            levels,
+            cycles,
+            sources,
+            0,
+            i,
+            cnt,
+            cycle,
+        );
     }
     0
 }
@@ -192,7 +203,18 @@ pub fn follow(
     ensures { λ r. ⌜ Leaves (after (view (now (words .entry)) (now (reals .entry))) i cycle driven cnt lined booked) (view (now (words .exit)) (now (reals .exit))) (book (slices (now (pins .entry)) (now (levels .entry)) (now (cycles .entry)) (now (sources .entry))) 0) (book (slices (now (pins .exit)) (now (levels .exit)) (now (cycles .exit)) (now (sources .exit))) r) ⌝ }
     ensures { λ r. ⌜ r ≤ 4 ⌝ }
 {
-    let k = drive(words, reals, pins, levels, cycles, sources, driven, i, cnt, cycle);
+    let k = drive(
+        words,
+        reals,
+        pins,
+        levels,
+        cycles,
+        sources,
+        driven,
+        i,
+        cnt,
+        cycle,
+    );
     settle_line_if(words, lined, i);
     rebook_if(words, booked, i, cycle);
     state::set_last(words, cycle);
@@ -254,7 +276,16 @@ pub fn reset(
     if no != 0 {
         return answer::refused(no);
     }
-    let count = reset_timer(words, reals, pins, levels, cycles, sources, timer as usize, cycle);
+    let count = reset_timer(
+        words,
+        reals,
+        pins,
+        levels,
+        cycles,
+        sources,
+        timer as usize,
+        cycle,
+    );
     Answer {
         value: 0,
         number: 0,
@@ -282,7 +313,16 @@ pub fn deliver(
     if no != 0 {
         return answer::refused(no);
     }
-    let d = delivery::deliver(words, reals, pins, levels, cycles, sources, timer as usize, cycle);
+    let d = delivery::deliver(
+        words,
+        reals,
+        pins,
+        levels,
+        cycles,
+        sources,
+        timer as usize,
+        cycle,
+    );
     state::set_last(words, cycle);
     Answer {
         value: d.events,

@@ -99,7 +99,21 @@ pub fn drive_outputs(
     let l1 = t.output(1, cnt);
     let l2 = t.output(2, cnt);
     let l3 = t.output(3, cnt);
-    let m = drive_two(words, reals, pins, levels, cycles, sources, k, x, 0, s, l, l1, at);
+    let m = drive_two(
+        words,
+        reals,
+        pins,
+        levels,
+        cycles,
+        sources,
+        k,
+        x,
+        0,
+        s,
+        l,
+        l1,
+        at,
+    );
     drive_two(
         words,
         reals,

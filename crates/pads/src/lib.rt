@@ -159,7 +159,17 @@ pub fn set_pin(
     ensures { λ r. ⌜ Holds (step (view (now (words .entry)) (now (reals .entry))) (C.setPin pin mode «open_drain» out pullup pulldown function cycle (places (slices (now (pins .entry)) (now (levels .entry)) (now (cycles .entry)) (now (sources .entry))))) .entries) (slices (now (pins .entry)) (now (levels .entry)) (now (cycles .entry)) (now (sources .entry))) (slices (now (pins .exit)) (now (levels .exit)) (now (cycles .exit)) (now (sources .exit))) (r .count) ⌝ }
 {
     let cfg = cfg_of(mode, open_drain, out, pullup, pulldown);
-    let n = setting_refusal(words, pins, levels, cycles, sources, pin, cfg, function, cycle);
+    let n = setting_refusal(
+        words,
+        pins,
+        levels,
+        cycles,
+        sources,
+        pin,
+        cfg,
+        function,
+        cycle,
+    );
     if n != 0 {
         return answer::refused(n);
     }

@@ -45,7 +45,7 @@ Chain w x (m ∷ ms) = (m .words ≡ w) × (m .reals ≡ x) × Kept m × Chain (
 unfoldable pub entriesFrom : ℕ → ℕ → Lent → List Entry
 entriesFrom i zero u = []
 entriesFrom i (suc n) u =
-    record { pin = getD (u .pins) i 0; level = getD (u .levels) i 0; cycle = getD (u .cycles) i 0 } ∷ entriesFrom (suc i) n u
+    record { pin = getD (u .pins) i 0; level = getD (u .levels) i 0; cycle = getD (u .cycles) i 0; source = getD (u .sources) i 0 } ∷ entriesFrom (suc i) n u
 
 -- "joined in order (each call's first count places as it left them)"
 unfoldable pub entriesLeft : List Made → List Entry

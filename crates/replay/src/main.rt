@@ -48,7 +48,16 @@ fn run(
     n: usize,
 ) -> usize {
     let mut answers = [0u64; 3];
-    let ran = calls::run_calls(words, reals, call, &mut answers, pins, levels, cycles, sources);
+    let ran = calls::run_calls(
+        words,
+        reals,
+        call,
+        &mut answers,
+        pins,
+        levels,
+        cycles,
+        sources,
+    );
     reply::answer(out, n, &answers, pins, levels, cycles, sources, ran.entries)
 }
 
@@ -166,7 +175,18 @@ fn pass(
     while i < part.len() {
         let e = line::feed(state, word, call, part[i]);
         if e != line::GO_ON {
-            if !act(e, state, call, words, reals, pins, levels, cycles, sources, out) {
+            if !act(
+                e,
+                state,
+                call,
+                words,
+                reals,
+                pins,
+                levels,
+                cycles,
+                sources,
+                out,
+            ) {
                 return false;
             }
         }
@@ -230,7 +250,18 @@ fn last(
 ) {
     let e = line::line_end(state, word, call);
     if e != line::GO_ON {
-        act(e, state, call, words, reals, pins, levels, cycles, sources, out);
+        act(
+            e,
+            state,
+            call,
+            words,
+            reals,
+            pins,
+            levels,
+            cycles,
+            sources,
+            out,
+        );
     }
 }
 
@@ -252,7 +283,18 @@ fn finish(
     if told == UNREAD {
         io::write_all(2, b"replay: a read failed: the list ends before its end\n");
     } else {
-        last(state, word, call, words, reals, pins, levels, cycles, sources, out);
+        last(
+            state,
+            word,
+            call,
+            words,
+            reals,
+            pins,
+            levels,
+            cycles,
+            sources,
+            out,
+        );
     }
     if !reply::flush(out, line::size(state[USED])) {
         io::write_all(2, b"replay: a write failed: answers are missing\n");

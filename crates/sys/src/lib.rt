@@ -50,7 +50,7 @@ fn refresh_driven(words: &mut [u64; WORDS], reals: &mut [f64; REALS], i: usize) 
     let was = levels::level(words, i);
     let l = state::sig_level(words, levels::signal(words, i) as usize);
     levels::drive_level(words, reals, i, l);
-    gpio::code_of(gpio::changed(i as u8, was, l))
+    gpio::code_of(gpio::changed(i as u8, was, l, 1))
 }
 
 // Any pin refreshed. It has two callers, so that it is not inlined into the short way.
@@ -60,7 +60,12 @@ fn refresh_slow(words: &mut [u64; WORDS], reals: &mut [f64; REALS], i: usize) ->
 {
     let was = levels::level(words, i);
     refresh_any(words, reals, i);
-    gpio::code_of(gpio::changed(i as u8, was, levels::level(words, i)))
+    gpio::code_of(gpio::changed(
+        i as u8,
+        was,
+        levels::level(words, i),
+        levels::source(words, i),
+    ))
 }
 
 // Pin i refreshed; its change as a number.

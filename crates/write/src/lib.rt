@@ -211,7 +211,21 @@ fn drive_written(
     let l1 = t.output(1, cnt);
     let l2 = t.output(2, cnt);
     let l3 = t.output(3, cnt);
-    let m = outputs::drive_two(words, reals, pins, levels, cycles, sources, 0, x, 0, s, l, l1, at);
+    let m = outputs::drive_two(
+        words,
+        reals,
+        pins,
+        levels,
+        cycles,
+        sources,
+        0,
+        x,
+        0,
+        s,
+        l,
+        l1,
+        at,
+    );
     outputs::drive_two(
         words,
         reals,
@@ -310,8 +324,30 @@ fn write_other(
 {
     match off {
         0x00 => write_cr1(words, reals, i, v, cycle, pins, levels, cycles, sources),
-        0x34..=0x40 => write_compare(words, reals, i, off, v, cycle, pins, levels, cycles, sources),
-        _ => write_timer(words, reals, i, off, v, cycle, pins, levels, cycles, sources),
+        0x34..=0x40 => write_compare(
+            words,
+            reals,
+            i,
+            off,
+            v,
+            cycle,
+            pins,
+            levels,
+            cycles,
+            sources,
+        ),
+        _ => write_timer(
+            words,
+            reals,
+            i,
+            off,
+            v,
+            cycle,
+            pins,
+            levels,
+            cycles,
+            sources,
+        ),
     }
 }
 
@@ -375,8 +411,31 @@ fn write_quick(
         0x00 => write_cr1(words, reals, i, v, cycle, pins, levels, cycles, sources),
         0x0c => write_dier(words, i, v, cycle),
         0x10 => write_sr(words, i, v, cycle),
-        0x34..=0x40 => write_compare(words, reals, i, off, v, cycle, pins, levels, cycles, sources),
-        _ => write_any(words, reals, i, off, size, v, cycle, pins, levels, cycles, sources),
+        0x34..=0x40 => write_compare(
+            words,
+            reals,
+            i,
+            off,
+            v,
+            cycle,
+            pins,
+            levels,
+            cycles,
+            sources,
+        ),
+        _ => write_any(
+            words,
+            reals,
+            i,
+            off,
+            size,
+            v,
+            cycle,
+            pins,
+            levels,
+            cycles,
+            sources,
+        ),
     }
 }
 

@@ -3,15 +3,14 @@ use Prim.Native.Nat.{_≤_, _-_}
 use mathlib.Core.Path.{_≡_}
 use native.Mathlib.Omega.{arith}
 use borrow.Author.Needs.{needs}
-use Rattle.book.specs.Book.{slices}
-use Rattle.shift.specs.Shift.{entriesFrom}
+use Rattle.shift.specs.Shift.{piece, entriesFrom}
 use Rattle.shift.specs.Kept.{fed}
 use Rattle.shift.proofs.Ending.{fed-begins, fed-more, fed-both}
 use Rattle.shift.proofs.shift_feed.Statement.{statement}
 use Rattle.shift.proofs.shift_feed.Tie as tie
 
 abbrev Inv-loop : tie.InvT-loop
-Inv-loop kept₀ pins levels cycles n i₀ kept i = (i ≤ n) × (fed kept (entriesFrom i (n - i) (slices pins levels cycles)) ≡ fed kept₀ (entriesFrom 0 n (slices pins levels cycles)))
+Inv-loop kept₀ pins levels cycles n i₀ kept i = (i ≤ n) × (fed kept (entriesFrom i (n - i) (piece pins levels cycles)) ≡ fed kept₀ (entriesFrom 0 n (piece pins levels cycles)))
 
 abbrev μ-loop : tie.MeasureT-loop
 μ-loop kept₀ pins levels cycles n i₀ kept i = n - i
@@ -20,7 +19,7 @@ room-requires : tie.Need-room-requires Inv-loop μ-loop
 room-requires c κs = search needs
 
 loop-holds : tie.Need-loop-holds Inv-loop μ-loop
-loop-holds c = (omega arith, fed-begins _ _ (slices (c .before .before .before .before .args .pins .now) (c .before .before .before .before .args .levels .now) (c .before .before .before .before .args .cycles .now)))
+loop-holds c = (omega arith, fed-begins _ _ (piece (c .before .before .before .before .args .pins .now) (c .before .before .before .before .args .levels .now) (c .before .before .before .before .args .cycles .now)))
 
 shared-slice-read-enter : tie.Need-shared-slice-read-enter Inv-loop μ-loop
 shared-slice-read-enter c = omega (arith, c .before .before .before .before .room .ensures)
@@ -44,10 +43,10 @@ loop-less : tie.Need-loop-less Inv-loop μ-loop
 loop-less c = omega arith
 
 loop-again : tie.Need-loop-again Inv-loop μ-loop
-loop-again c = (omega arith, fed-more _ _ _ (c .before .before .before .before .before .before .loop .i) _ (slices (c .before .before .before .before .before .before .before .before .before .before .before .args .pins .now) (c .before .before .before .before .before .before .before .before .before .before .before .args .levels .now) (c .before .before .before .before .before .before .before .before .before .before .before .args .cycles .now)) (c .before .before .before .before .before .loop-test .taken) (c .before .before .before .before .before .before .loop .inv .1) (c .enter .ensures))
+loop-again c = (omega arith, fed-more _ _ _ (c .before .before .before .before .before .before .loop .i) _ (piece (c .before .before .before .before .before .before .before .before .before .before .before .args .pins .now) (c .before .before .before .before .before .before .before .before .before .before .before .args .levels .now) (c .before .before .before .before .before .before .before .before .before .before .before .args .cycles .now)) (c .before .before .before .before .before .loop-test .taken) (c .before .before .before .before .before .before .loop .inv .1) (c .enter .ensures))
 
 returns : tie.Need-returns Inv-loop μ-loop
-returns c = fed-both _ _ (c .before .loop .i) _ (slices (c .before .before .before .before .before .before .args .pins .now) (c .before .before .before .before .before .before .args .levels .now) (c .before .before .before .before .before .before .args .cycles .now)) (c .loop-test .left) (c .before .loop .inv .1) (c .before .before .room .ensures)
+returns c = fed-both _ _ (c .before .loop .i) _ (piece (c .before .before .before .before .before .before .args .pins .now) (c .before .before .before .before .before .before .args .levels .now) (c .before .before .before .before .before .before .args .cycles .now)) (c .loop-test .left) (c .before .loop .inv .1) (c .before .before .room .ensures)
 
 pub shift-feed-spec : {M : Type 1} → statement M
 shift-feed-spec =

@@ -27,7 +27,7 @@ returns c =
     let load = c .before .before .before .before .inst .ensures (s .args .reals .now) in
     let z = c .before .before .if1 .taken in
     let m = without-gives (s .args .words .now) (s .args .reals .now) (s .args .i) (s .args .off) (s .args .v) (s .args .cycle) (s .pre .0 .1) _ load z _ (c .set-last .ensures (s .args .reals .now)) in
-    (m, no-entries _ _ _ _ _ _ (without-entries (s .args .words .now) (s .args .reals .now) (s .args .i) (s .args .off) (s .args .v) (s .args .cycle) (s .pre .0 .1) _ load z) m (slices (s .args .pins .now) (s .args .levels .now) (s .args .cycles .now)))
+    (m, no-entries _ _ _ _ _ _ (without-entries (s .args .words .now) (s .args .reals .now) (s .args .i) (s .args .off) (s .args .v) (s .args .cycle) (s .pre .0 .1) _ load z) m (slices (s .args .pins .now) (s .args .levels .now) (s .args .cycles .now) (s .args .sources .now)))
 
 sub-ch : tie.Need-sub-ch
 sub-ch c = let s = c .before .before .before .before .before .before .before in omega (arith, channel-lt (s .args .off) (s .pre .0 .1) .0)

@@ -16,7 +16,7 @@ returns c =
     let e = c .before .before .before .before .before .write-cr1 .ensures in
     let on = c .before .before .before .before .if1 .taken in
     let m = cr1-served (s .args .words .now) (s .args .reals .now) (s .args .i) (s .args .v) (s .args .cycle) _ _ _ (of-eight (s .args .words .now) (s .args .reals .now) (s .args .i) (s .pre .0 .0)) (e .0 on (s .args .reals .now) _) (e .1 .0 on (s .args .reals .now) _) (c .before .before .rebook .ensures (s .args .reals .now)) (c .set-last .ensures (s .args .reals .now)) in
-    (m, no-entries _ _ _ _ _ _ (cr1-entries (s .args .words .now) (s .args .reals .now) (s .args .i) (s .args .v) (s .args .cycle)) m (slices (s .args .pins .now) (s .args .levels .now) (s .args .cycles .now)))
+    (m, no-entries _ _ _ _ _ _ (cr1-entries (s .args .words .now) (s .args .reals .now) (s .args .i) (s .args .v) (s .args .cycle)) m (slices (s .args .pins .now) (s .args .levels .now) (s .args .cycles .now) (s .args .sources .now)))
 
 returns-2 : tie.Need-returns-2
 returns-2 c =

@@ -41,13 +41,13 @@ returns-2 : tie.Need-returns-2
 returns-2 c =
     let s = c .before .before .before .before .before .before in
     let k = c .before .before .match .keys2 in
-    (at-reg (s .args .words .now) (s .args .reals .now) (s .args .i) (s .args .off) 12 (s .args .v) (s .args .cycle) k _ _ _ (c .write-dier .ensures (s .args .reals .now)), at-reg-book (s .args .words .now) (s .args .reals .now) (s .args .i) (s .args .off) 12 (s .args .v) (s .args .cycle) k _ _ _ (no-entries _ _ _ _ _ _ (dier-entries (s .args .words .now) (s .args .reals .now) (s .args .i) (s .args .v) (s .args .cycle)) (c .write-dier .ensures (s .args .reals .now)) (slices (s .args .pins .now) (s .args .levels .now) (s .args .cycles .now))))
+    (at-reg (s .args .words .now) (s .args .reals .now) (s .args .i) (s .args .off) 12 (s .args .v) (s .args .cycle) k _ _ _ (c .write-dier .ensures (s .args .reals .now)), at-reg-book (s .args .words .now) (s .args .reals .now) (s .args .i) (s .args .off) 12 (s .args .v) (s .args .cycle) k _ _ _ (no-entries _ _ _ _ _ _ (dier-entries (s .args .words .now) (s .args .reals .now) (s .args .i) (s .args .v) (s .args .cycle)) (c .write-dier .ensures (s .args .reals .now)) (slices (s .args .pins .now) (s .args .levels .now) (s .args .cycles .now) (s .args .sources .now))))
 
 returns-3 : tie.Need-returns-3
 returns-3 c =
     let s = c .before .before .before .before .before .before in
     let k = c .before .before .match .keys3 in
-    (at-reg (s .args .words .now) (s .args .reals .now) (s .args .i) (s .args .off) 16 (s .args .v) (s .args .cycle) k _ _ _ (c .write-sr .ensures (s .args .reals .now)), at-reg-book (s .args .words .now) (s .args .reals .now) (s .args .i) (s .args .off) 16 (s .args .v) (s .args .cycle) k _ _ _ (no-entries _ _ _ _ _ _ (sr-entries (s .args .words .now) (s .args .reals .now) (s .args .i) (s .args .v) (s .args .cycle)) (c .write-sr .ensures (s .args .reals .now)) (slices (s .args .pins .now) (s .args .levels .now) (s .args .cycles .now))))
+    (at-reg (s .args .words .now) (s .args .reals .now) (s .args .i) (s .args .off) 16 (s .args .v) (s .args .cycle) k _ _ _ (c .write-sr .ensures (s .args .reals .now)), at-reg-book (s .args .words .now) (s .args .reals .now) (s .args .i) (s .args .off) 16 (s .args .v) (s .args .cycle) k _ _ _ (no-entries _ _ _ _ _ _ (sr-entries (s .args .words .now) (s .args .reals .now) (s .args .i) (s .args .v) (s .args .cycle)) (c .write-sr .ensures (s .args .reals .now)) (slices (s .args .pins .now) (s .args .levels .now) (s .args .cycles .now) (s .args .sources .now))))
 
 same-length-4 : tie.Need-same-length-4
 same-length-4 c = search needs

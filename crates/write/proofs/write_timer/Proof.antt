@@ -17,7 +17,7 @@ returns : tie.Need-returns
 returns c =
     let s = c .before .before .before .before .before .before .before .before .before .before .before .before in (
       write-astray (s .args .words .now) (s .args .reals .now) (s .args .i) (s .args .off) (s .args .v) (s .args .cycle) _ _ _ (c .before .before .before .before .before .before .before .load-timer .ensures (s .args .reals .now)) (c .before .before .before .before .divider .ensures .0) (c .before .before .before .write-reg .ensures) _ (c .before .counter-astray .ensures) (c .if1 .taken) _ refl,
-      write-astray-book (s .args .words .now) (s .args .reals .now) (s .args .i) (s .args .off) (s .args .v) (s .args .cycle) _ _ _ (c .before .before .before .before .before .before .before .load-timer .ensures (s .args .reals .now)) (c .before .before .before .before .divider .ensures .0) (c .before .before .before .write-reg .ensures) _ (c .before .counter-astray .ensures) (c .if1 .taken) _ refl (slices (s .args .pins .now) (s .args .levels .now) (s .args .cycles .now)),
+      write-astray-book (s .args .words .now) (s .args .reals .now) (s .args .i) (s .args .off) (s .args .v) (s .args .cycle) _ _ _ (c .before .before .before .before .before .before .before .load-timer .ensures (s .args .reals .now)) (c .before .before .before .before .divider .ensures .0) (c .before .before .before .write-reg .ensures) _ (c .before .counter-astray .ensures) (c .if1 .taken) _ refl (slices (s .args .pins .now) (s .args .levels .now) (s .args .cycles .now) (s .args .sources .now)),
     )
 
 store-live-requires : tie.Need-store-live-requires
