@@ -34,16 +34,10 @@ code-of-requires c κs = search needs
 
 returns : tie.Need-returns
 returns c =
-    told _ _ _ _ _ (c .code-of .ensures) (refresh-moves _ _ (c .before .before .before .before .before .before .before .before .before .args .i) (pin-there (c .before .before .before .before .before .before .before .before .before .args .words .now) (c .before .before .before .before .before .before .before .before .before .args .reals .now) (c .before .before .before .before .before .before .before .before .before .pre)) (c .before .before .before .before .refresh-any .ensures) _ _ _ (c .before .before .before .before .before .before .before .level .ensures (c .before .before .before .before .before .before .before .before .before .args .reals .now)) (c .before .before .level2 .ensures _) (c .source .ensures _) _ (c .before .changed .ensures))
+    told _ _ _ _ _ (c .code-of .ensures) (refresh-moves _ _ (c .before .before .before .before .before .before .before .before .before .before .before .args .i) (pin-there (c .before .before .before .before .before .before .before .before .before .before .before .args .words .now) (c .before .before .before .before .before .before .before .before .before .before .before .args .reals .now) (c .before .before .before .before .before .before .before .before .before .before .before .pre)) (c .before .before .before .before .before .before .refresh-any .ensures) _ _ _ (c .before .before .before .before .before .before .before .before .before .level .ensures (c .before .before .before .before .before .before .before .before .before .before .before .args .reals .now)) (c .before .before .before .before .level2 .ensures _) (c .before .before .source .ensures _) _ (c .before .changed .ensures))
 
 pub refresh-slow-spec : {M : Type 1} → statement M
 refresh-slow-spec =
     tie.close
-    (tie.spec
-    level-requires
-    refresh-any-requires
-    cast-changed
-    level-requires-2
-    changed-requires
-    code-of-requires
-    returns)
+    (tie.spec level-requires refresh-any-requires cast-changed level-requires-2 source-requires changed-requires
+    code-of-requires returns)
