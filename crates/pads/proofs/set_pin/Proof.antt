@@ -29,7 +29,7 @@ changed-requires c κs =
 returns-2 : tie.Need-returns-2
 returns-2 c =
     let s = c .before .before .before .before .before .before .before .before .before .before .before .before .before .before .before .before .before .before .before .before .before .before .before .before .before .before .before .before .before in
-    let k = c .before .before .before .before .before .before in
+    let k = c .before .before .before .before .before .before .before .before in
     pin-set _ _ _ _ _ _ _ (s .args .pin) (s .args .mode) (s .args .open-drain) (s .args .out) (s .args .pullup) (s .args .pulldown) (s .args .function) _ _ _ _ _ (c .before .before .before .before .before .before .before .before .before .before .before .before .before .before .before .before .before .before .setting-refusal .ensures (s .args .reals .now)) (c .before .before .before .before .before .before .before .before .before .before .before .before .before .before .before .before .before .if1 .left) (c .before .before .before .before .before .before .before .before .before .before .before .before .before .before .before .before .before .before .before .before .before .before .before .before .cfg-of .ensures) (c .before .before .before .before .before .before .before .before .before .before .before .before .before .before .set-pin .ensures) (k .changed .ensures .0 _) (k .changed .ensures .1 .0) (k .changed .ensures .1 .1 .0) (k .changed .ensures .1 .1 .1)
 
 pub set-pin-spec : {M : Type 1} → statement M

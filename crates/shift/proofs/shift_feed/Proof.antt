@@ -1,6 +1,6 @@
 -- What is left to feed leads to the same words.
-use Prim.Native.Nat.{_≤_, _-_}
-use mathlib.Core.Path.{_≡_}
+use Prim.Native.Nat.{_≤_, _-_, min}
+use mathlib.Core.Path.{_≡_, _∙_, ap}
 use native.Mathlib.Omega.{arith}
 use borrow.Author.Needs.{needs}
 use Rattle.shift.specs.Shift.{piece, entriesFrom}
@@ -15,29 +15,26 @@ Inv-loop kept₀ pins levels cycles n i₀ kept i = (i ≤ n) × (fed kept (entr
 abbrev μ-loop : tie.MeasureT-loop
 μ-loop kept₀ pins levels cycles n i₀ kept i = n - i
 
-room-requires : tie.Need-room-requires Inv-loop μ-loop
-room-requires c κs = search needs
-
 loop-holds : tie.Need-loop-holds Inv-loop μ-loop
 loop-holds c = (omega arith, fed-begins _ _ (piece (c .before .before .before .before .args .pins .now) (c .before .before .before .before .args .levels .now) (c .before .before .before .before .args .cycles .now)))
 
 shared-slice-read-enter : tie.Need-shared-slice-read-enter Inv-loop μ-loop
-shared-slice-read-enter c = omega (arith, c .before .before .before .before .room .ensures)
+shared-slice-read-enter c = omega (arith, c .before .before .before .before .lesser .ensures, c .before .before .before .before .lesser2 .ensures)
 
 shared-slice-read-enter-2 : tie.Need-shared-slice-read-enter-2 Inv-loop μ-loop
-shared-slice-read-enter-2 c = omega (arith, c .before .before .before .before .before .room .ensures)
+shared-slice-read-enter-2 c = omega (arith, c .before .before .before .before .before .lesser .ensures, c .before .before .before .before .before .lesser2 .ensures)
 
 mul-enter : tie.Need-mul-enter Inv-loop μ-loop
 mul-enter c = search needs
 
 shared-slice-read-enter-3 : tie.Need-shared-slice-read-enter-3 Inv-loop μ-loop
-shared-slice-read-enter-3 c = omega (arith, c .before .before .before .before .before .before .room .ensures)
+shared-slice-read-enter-3 c = omega (arith, c .before .before .before .before .before .before .lesser .ensures, c .before .before .before .before .before .before .lesser2 .ensures)
 
 enter-requires : tie.Need-enter-requires Inv-loop μ-loop
 enter-requires c κs = search needs
 
 add-i : tie.Need-add-i Inv-loop μ-loop
-add-i c = omega (arith, c .before .before .before .before .before .before .before .room .ensures)
+add-i c = omega (arith, c .before .before .before .before .before .before .before .lesser .ensures, c .before .before .before .before .before .before .before .lesser2 .ensures)
 
 loop-less : tie.Need-loop-less Inv-loop μ-loop
 loop-less c = omega arith
@@ -46,7 +43,7 @@ loop-again : tie.Need-loop-again Inv-loop μ-loop
 loop-again c = (omega arith, fed-more _ _ _ (c .before .before .before .before .before .before .loop .i) _ (piece (c .before .before .before .before .before .before .before .before .before .before .before .args .pins .now) (c .before .before .before .before .before .before .before .before .before .before .before .args .levels .now) (c .before .before .before .before .before .before .before .before .before .before .before .args .cycles .now)) (c .before .before .before .before .before .loop-test .taken) (c .before .before .before .before .before .before .loop .inv .1) (c .enter .ensures))
 
 returns : tie.Need-returns Inv-loop μ-loop
-returns c = fed-both _ _ (c .before .loop .i) _ (piece (c .before .before .before .before .before .before .args .pins .now) (c .before .before .before .before .before .before .args .levels .now) (c .before .before .before .before .before .before .args .cycles .now)) (c .loop-test .left) (c .before .loop .inv .1) (c .before .before .room .ensures)
+returns c = fed-both _ _ (c .before .loop .i) _ (piece (c .before .before .before .before .before .before .args .pins .now) (c .before .before .before .before .before .before .args .levels .now) (c .before .before .before .before .before .before .args .cycles .now)) (c .loop-test .left) (c .before .loop .inv .1) (c .before .before .lesser2 .ensures ∙ ap (min _) (c .before .before .lesser .ensures))
 
 pub shift-feed-spec : {M : Type 1} → statement M
 shift-feed-spec =
@@ -54,7 +51,6 @@ shift-feed-spec =
     (tie.spec
     Inv-loop
     μ-loop
-    room-requires
     loop-holds
     shared-slice-read-enter
     shared-slice-read-enter-2
