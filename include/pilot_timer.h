@@ -160,7 +160,8 @@ pilot_answer board_set_pin(uint64_t words[PILOT_BOARD_WORDS], double reals[PILOT
 
 /* Drives a pin from outside. kind: 1 low, 2 high, 3 analogue with its volts, any other nothing. Refused with 2, 5, 6. */
 pilot_answer board_drive_pin(uint64_t words[PILOT_BOARD_WORDS], double reals[PILOT_BOARD_REALS], uint32_t pin, uint32_t kind, double volts,
-                             uint64_t cycle, uint8_t *pins, size_t pins_len, uint8_t *levels, size_t levels_len, uint64_t *cycles, size_t cycles_len, uint8_t *sources, size_t sources_len);
+                             uint64_t cycle, uint8_t *pins, size_t pins_len, uint8_t *levels, size_t levels_len, uint64_t *cycles, size_t cycles_len,
+                             uint8_t *sources, size_t sources_len);
 
 /* Pin reset: settings, routing and signals as after a set-up; what drives from outside stays. Refused with 5, 6. */
 pilot_answer board_reset_pins(uint64_t words[PILOT_BOARD_WORDS], double reals[PILOT_BOARD_REALS], uint64_t cycle, uint8_t *pins, size_t pins_len,
@@ -181,14 +182,16 @@ pilot_answer board_peek(const uint64_t words[PILOT_BOARD_WORDS], const double re
 
 /* Timer reset. Refused with 2, 5, 6. */
 pilot_answer board_reset(uint64_t words[PILOT_BOARD_WORDS], double reals[PILOT_BOARD_REALS], uint32_t timer, uint64_t cycle, uint8_t *pins,
-                         size_t pins_len, uint8_t *levels, size_t levels_len, uint64_t *cycles, size_t cycles_len, uint8_t *sources, size_t sources_len);
+                         size_t pins_len, uint8_t *levels, size_t levels_len, uint64_t *cycles, size_t cycles_len,
+                         uint8_t *sources, size_t sources_len);
 
 /*
  * Handles the timer's events that are due at cycle, each at its own cycle; value says how many. 8 where one is still due: the book had under 4
  * places left, or 100,001 events were handled. Refused with 2, 5, 6.
  */
 pilot_answer board_deliver(uint64_t words[PILOT_BOARD_WORDS], double reals[PILOT_BOARD_REALS], uint32_t timer, uint64_t cycle, uint8_t *pins,
-                           size_t pins_len, uint8_t *levels, size_t levels_len, uint64_t *cycles, size_t cycles_len, uint8_t *sources, size_t sources_len);
+                           size_t pins_len, uint8_t *levels, size_t levels_len, uint64_t *cycles, size_t cycles_len,
+                           uint8_t *sources, size_t sources_len);
 
 /* The cycle of a timer's next event, or PILOT_NONE. Refused with 2. */
 pilot_answer board_booked(const uint64_t words[PILOT_BOARD_WORDS], const double reals[PILOT_BOARD_REALS], uint32_t timer);
