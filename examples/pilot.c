@@ -14,12 +14,12 @@ enum { PLACES = 16, TIM2 = 0 }; /* TIM2 is the board's first timer: its index is
 
 static uint64_t words[PILOT_BOARD_WORDS];
 static double reals[PILOT_BOARD_REALS];
-static uint8_t pins[PLACES], levels[PLACES];
+static uint8_t pins[PLACES], levels[PLACES], sources[PLACES];
 static uint64_t cycles[PLACES];
 static uint64_t kept[PILOT_SHIFT_KEPT], figures[PILOT_FIGURES];
 
-/* The book's three slices, as every call that can change a pin is lent them. */
-#define BOOK pins, PLACES, levels, PLACES, cycles, PLACES
+/* The book's four slices, as every call that can change a pin is lent them. */
+#define BOOK pins, PLACES, levels, PLACES, cycles, PLACES, sources, PLACES
 
 /* What must be served, or is a mistake of this program. Its entries go into the report. */
 static pilot_answer served(pilot_answer a)
@@ -83,7 +83,9 @@ int main(void)
     write_register(PILOT_EGR, 1, 0);      /* prescaler and compare act from here on */
     write_register(PILOT_CCER, 1, 0);     /* the channel drives its pin */
     write_register(PILOT_CR1, 1, 0);      /* and the counter runs */
-    printf("started: pin 0 is %" PRIu64 ", %.1f V; next event at cycle %" PRIu64 "\n", board_level(words, reals, 0).value,
+    /* The level, and above it who holds it: PILOT_CHIP. */
+    const uint64_t level = board_level(words, reals, 0).value;
+    printf("started: pin 0 is %" PRIu64 ", source %" PRIu64 ", %.1f V; next event at cycle %" PRIu64 "\n", level % 2, level / 2,
            real(board_volts(words, reals, 0).value), board_booked(words, reals, TIM2).value);
 
     /* A delivery that comes more than a period late: each edge has its own cycle. */

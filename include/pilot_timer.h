@@ -20,8 +20,8 @@
  * Answers. No function asks anything else of its arguments: each call has an answer for every value. number is 0 where the call was served,
  * 8 where a delivery stopped early, else a refusal: then value and count are 0, and nothing has changed.
  *
- * The book. A call that can change a pin is lent one: three slices for pin, level and cycle of each change, filled from place 0; count says how
- * many places. The book is as long as the shortest of the three; places behind count are not touched.
+ * The book. A call that can change a pin is lent one: four slices for pin, level, cycle and source of each change, filled from place 0; count says
+ * how many places. The book is as long as the shortest of the four; places behind count are not touched.
  *
  * Deliver what is due before you write a register. A write that finds events due and not delivered moves the counter past them, as the published
  * Rust does, and they are lost: no flag, no reload, no edge.
@@ -75,6 +75,14 @@ enum pilot_number {
     PILOT_CUT_SHORT = 13,         /* a record, or the places for one, is cut short; 13 to 15 are of records alone */
     PILOT_STRANGE_KIND = 14,      /* a record of a kind that the reader does not know */
     PILOT_WRONG_LENGTH = 15       /* a record whose length is not its kind's */
+};
+
+/* Who holds a pin's level. The book never has PILOT_HELD. */
+enum pilot_source {
+    PILOT_CHIP = 1,    /* the chip drives it, also where the outside agrees */
+    PILOT_OUTSIDE = 2, /* the outside does */
+    PILOT_PULL = 3,    /* a pull-up or a pull-down does */
+    PILOT_HELD = 4     /* nothing does: nothing is connected, or analogue volts settle neither level */
 };
 
 /* What every call of a board answers; 16 bytes, in two registers. */
@@ -189,15 +197,16 @@ pilot_answer board_enable(uint64_t words[PILOT_BOARD_WORDS], const double reals[
  */
 pilot_answer board_set_pin(uint64_t words[PILOT_BOARD_WORDS], double reals[PILOT_BOARD_REALS], uint32_t pin, uint32_t mode, uint32_t open_drain,
                            uint32_t out, uint32_t pullup, uint32_t pulldown, uint32_t function, uint64_t cycle, uint8_t *pins, size_t pins_len,
-                           uint8_t *levels, size_t levels_len, uint64_t *cycles, size_t cycles_len);
+                           uint8_t *levels, size_t levels_len, uint64_t *cycles, size_t cycles_len, uint8_t *sources, size_t sources_len);
 
 /* Drives a pin from outside. kind: 1 low, 2 high, 3 analogue with its volts, any other nothing. Refused with 2, 5, 6. */
 pilot_answer board_drive_pin(uint64_t words[PILOT_BOARD_WORDS], double reals[PILOT_BOARD_REALS], uint32_t pin, uint32_t kind, double volts,
-                             uint64_t cycle, uint8_t *pins, size_t pins_len, uint8_t *levels, size_t levels_len, uint64_t *cycles, size_t cycles_len);
+                             uint64_t cycle, uint8_t *pins, size_t pins_len, uint8_t *levels, size_t levels_len, uint64_t *cycles, size_t cycles_len,
+                             uint8_t *sources, size_t sources_len);
 
 /* Pin reset: settings, routing and signals as after a set-up; what drives from outside stays. Refused with 5, 6. */
 pilot_answer board_reset_pins(uint64_t words[PILOT_BOARD_WORDS], double reals[PILOT_BOARD_REALS], uint64_t cycle, uint8_t *pins, size_t pins_len,
-                              uint8_t *levels, size_t levels_len, uint64_t *cycles, size_t cycles_len);
+                              uint8_t *levels, size_t levels_len, uint64_t *cycles, size_t cycles_len, uint8_t *sources, size_t sources_len);
 
 /* Reads size bytes (1, 2 or 4) at an offset of a timer's registers; 0 with the timer's enable bit clear. Refused with 2, 3, 5. */
 pilot_answer board_read(const uint64_t words[PILOT_BOARD_WORDS], const double reals[PILOT_BOARD_REALS], uint32_t timer, uint32_t offset, uint32_t size,
@@ -206,7 +215,7 @@ pilot_answer board_read(const uint64_t words[PILOT_BOARD_WORDS], const double re
 /* Writes size bytes; nothing with the enable bit clear, and served all the same. Deliver first. Refused with 2, 3, 5, 6, 7. */
 pilot_answer board_write(uint64_t words[PILOT_BOARD_WORDS], double reals[PILOT_BOARD_REALS], uint32_t timer, uint32_t offset, uint32_t size,
                          uint32_t value, uint64_t cycle, uint8_t *pins, size_t pins_len, uint8_t *levels, size_t levels_len, uint64_t *cycles,
-                         size_t cycles_len);
+                         size_t cycles_len, uint8_t *sources, size_t sources_len);
 
 /* The register that an offset is in, whatever the enable bit. Refused with 2, 5. */
 pilot_answer board_peek(const uint64_t words[PILOT_BOARD_WORDS], const double reals[PILOT_BOARD_REALS], uint32_t timer, uint32_t offset,
@@ -214,14 +223,16 @@ pilot_answer board_peek(const uint64_t words[PILOT_BOARD_WORDS], const double re
 
 /* Timer reset. Refused with 2, 5, 6. */
 pilot_answer board_reset(uint64_t words[PILOT_BOARD_WORDS], double reals[PILOT_BOARD_REALS], uint32_t timer, uint64_t cycle, uint8_t *pins,
-                         size_t pins_len, uint8_t *levels, size_t levels_len, uint64_t *cycles, size_t cycles_len);
+                         size_t pins_len, uint8_t *levels, size_t levels_len, uint64_t *cycles, size_t cycles_len,
+                         uint8_t *sources, size_t sources_len);
 
 /*
  * Handles the timer's events that are due at cycle, each at its own cycle; value says how many. 8 where one is still due: the book had under 4
  * places left, or 100,001 events were handled. Refused with 2, 5, 6.
  */
 pilot_answer board_deliver(uint64_t words[PILOT_BOARD_WORDS], double reals[PILOT_BOARD_REALS], uint32_t timer, uint64_t cycle, uint8_t *pins,
-                           size_t pins_len, uint8_t *levels, size_t levels_len, uint64_t *cycles, size_t cycles_len);
+                           size_t pins_len, uint8_t *levels, size_t levels_len, uint64_t *cycles, size_t cycles_len,
+                           uint8_t *sources, size_t sources_len);
 
 /* The cycle of a timer's next event, or PILOT_NONE. Refused with 2. */
 pilot_answer board_booked(const uint64_t words[PILOT_BOARD_WORDS], const double reals[PILOT_BOARD_REALS], uint32_t timer);
@@ -229,7 +240,7 @@ pilot_answer board_booked(const uint64_t words[PILOT_BOARD_WORDS], const double 
 /* The least booked cycle of all timers, or PILOT_NONE. */
 pilot_answer board_next(const uint64_t words[PILOT_BOARD_WORDS], const double reals[PILOT_BOARD_REALS]);
 
-/* A pin's level, 0 or 1. Refused with 2. */
+/* A pin's level, 0 or 1, plus twice an enum pilot_source. Refused with 2. */
 pilot_answer board_level(const uint64_t words[PILOT_BOARD_WORDS], const double reals[PILOT_BOARD_REALS], uint32_t pin);
 
 /* A pin's volts; value has the bits of a double: memcpy them into one. Refused with 2. */
@@ -262,7 +273,8 @@ pilot_listed small_pilot(uint32_t n, uint32_t k);
  */
 void shift_begin(uint64_t kept[PILOT_SHIFT_KEPT], const uint32_t words[4], uint64_t from, uint64_t to);
 
-/* The entries of a book more, in the order in which they were made: as many as its shortest slice has. Of a call's book that is count places. */
+/* The entries of a book more, in the order in which they were made: as many as its shortest slice has. Of a call's book that is count places; its
+ * sources are none of the report's. */
 void shift_feed(uint64_t kept[PILOT_SHIFT_KEPT], const uint8_t *pins, size_t pins_len, const uint8_t *levels, size_t levels_len, const uint64_t *cycles,
                 size_t cycles_len);
 

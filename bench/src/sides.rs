@@ -74,6 +74,7 @@ pub struct Port {
     pins: Vec<u8>,
     levels: Vec<u8>,
     cycles: Vec<u64>,
+    sources: Vec<u8>,
 }
 
 impl Port {
@@ -81,12 +82,12 @@ impl Port {
         let mut state = State::new();
         let a = state.set_up(HZ, VCC, PINS as u32, LINES, &TIMERS.concat(), &table());
         assert_eq!(a.number, 0);
-        Self { state, pins: vec![0; places], levels: vec![0; places], cycles: vec![0; places] }
+        Self { state, pins: vec![0; places], levels: vec![0; places], cycles: vec![0; places], sources: vec![0; places] }
     }
 
     /// A call with the book.
     #[inline(always)]
     pub fn lend<R>(&mut self, f: impl FnOnce(&mut State, &mut Book) -> R) -> R {
-        f(&mut self.state, &mut Book { pins: &mut self.pins, levels: &mut self.levels, cycles: &mut self.cycles })
+        f(&mut self.state, &mut Book { pins: &mut self.pins, levels: &mut self.levels, cycles: &mut self.cycles, sources: &mut self.sources })
     }
 }

@@ -84,7 +84,7 @@ impl Case {
             let step = rng.pick(&[0, 0, 1, 1, 2, 5]);
             let at = &mut last[pin as usize];
             *at = if bad && rng.one_in(20) { rng.below(SPAN + 1) } else { (*at + step).min(SPAN) };
-            Entry { pin, level, cycle: *at }
+            Entry::new(pin, level, *at)
         });
         let entries = entries.collect();
         let levels = if rng.one_in(2) { [0; 4] } else { [(); 4].map(|()| rng.word() as u32) };

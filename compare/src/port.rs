@@ -15,10 +15,11 @@ const BEHIND: usize = 16;
 /// Of a book longer than this, mostly its ends alone are looked at.
 const SHORT: usize = 2048;
 
-// No entry has a pin above 127, a level above 1 or a cycle above 2^62.
+// No entry has a pin above 127, a level above 1, a cycle above 2^62 or a source above 4.
 const PIN: u8 = 0xee;
 const LEVEL: u8 = 0xdd;
 const CYCLE: u64 = 0xcccc_cccc_cccc_cccc;
+const SOURCE: u8 = 0xbb;
 
 /// What a call got wrong, whatever the oracle says of it.
 #[derive(Clone, Debug, PartialEq, Eq)]
@@ -51,6 +52,7 @@ pub struct Port {
     pins: Vec<u8>,
     levels: Vec<u8>,
     cycles: Vec<u64>,
+    sources: Vec<u8>,
     /// Places may be left written.
     dirty: bool,
     calls: usize,
@@ -67,7 +69,8 @@ impl Port {
     pub fn new() -> Self {
         let places = MOST as usize + 3 + BEHIND;
         let state = State::new();
-        Self { kept: state.clone(), state, pins: vec![PIN; places], levels: vec![LEVEL; places], cycles: vec![CYCLE; places], dirty: false, calls: 0 }
+        let (pins, levels, cycles, sources) = (vec![PIN; places], vec![LEVEL; places], vec![CYCLE; places], vec![SOURCE; places]);
+        Self { kept: state.clone(), state, pins, levels, cycles, sources, dirty: false, calls: 0 }
     }
 
     /// The first board again.
@@ -79,6 +82,7 @@ impl Port {
             self.pins.fill(PIN);
             self.levels.fill(LEVEL);
             self.cycles.fill(CYCLE);
+            self.sources.fill(SOURCE);
         }
     }
 
@@ -104,7 +108,7 @@ impl Port {
         if count > lent {
             return Err(Fault::Count { count, places: lent as u64 });
         }
-        let entry = |i: usize| Entry { pin: self.pins[i] as u16, level: self.levels[i], cycle: self.cycles[i] };
+        let entry = |i: usize| Entry { pin: self.pins[i] as u16, level: self.levels[i], cycle: self.cycles[i], source: self.sources[i] };
         let entries = (0..count).map(entry).collect();
         self.places(count, lengths)?;
         // A number that is too large is not the oracle's either.
@@ -120,14 +124,14 @@ impl Port {
         Err(Fault::State { word: word.unwrap_or(ffi::words()) })
     }
 
-    /// The three slices' lengths: `lent` is the shortest of them, not always the same one.
-    fn lengths(&self, lent: usize) -> [usize; 3] {
-        let more = [[0, 0, 0], [0, 1, 2], [1, 0, 3], [3, 2, 0], [0, 0, 1], [1, 1, 0], [2, 0, 0]][self.calls % 7];
+    /// The four slices' lengths: `lent` is the shortest of them, not always the same one.
+    fn lengths(&self, lent: usize) -> [usize; 4] {
+        let more = [[0, 0, 0, 0], [0, 1, 2, 1], [1, 0, 3, 2], [3, 2, 0, 1], [2, 3, 1, 0], [1, 1, 0, 0], [2, 0, 0, 3]][self.calls % 7];
         more.map(|m| lent + m)
     }
 
-    fn make(&mut self, call: &Call, [p, l, c]: [usize; 3]) -> ffi::Answer {
-        let book = &mut Book { pins: &mut self.pins[..p], levels: &mut self.levels[..l], cycles: &mut self.cycles[..c] };
+    fn make(&mut self, call: &Call, [p, l, c, o]: [usize; 4]) -> ffi::Answer {
+        let book = &mut Book { pins: &mut self.pins[..p], levels: &mut self.levels[..l], cycles: &mut self.cycles[..c], sources: &mut self.sources[..o] };
         let s = &mut self.state;
         match *call {
             Call::Setup(ref set) => set_up(s, set),
@@ -154,7 +158,7 @@ impl Port {
     }
 
     /// Nothing was written from `count` on; then the places used are made untouched again.
-    fn places(&mut self, count: usize, [p, l, c]: [usize; 3]) -> Result<(), Fault> {
+    fn places(&mut self, count: usize, [p, l, c, o]: [usize; 4]) -> Result<(), Fault> {
         let all = self.calls.is_multiple_of(16);
         let touched = |slice, place| Err(Fault::Place { slice, place });
         if let Some(i) = written(&self.pins, PIN, count, p, all) {
@@ -166,9 +170,13 @@ impl Port {
         if let Some(i) = written(&self.cycles, CYCLE, count, c, all) {
             return touched("cycles", i);
         }
+        if let Some(i) = written(&self.sources, SOURCE, count, o, all) {
+            return touched("sources", i);
+        }
         self.pins[..count].fill(PIN);
         self.levels[..count].fill(LEVEL);
         self.cycles[..count].fill(CYCLE);
+        self.sources[..count].fill(SOURCE);
         self.dirty = false;
         Ok(())
     }

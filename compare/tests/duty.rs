@@ -21,7 +21,7 @@ fn random_books() {
 /// The counter itself, on readings that could be otherwise.
 #[test]
 fn the_counter() {
-    let e = |pin, level, cycle| board::Entry { pin, level, cycle };
+    let e = board::Entry::new;
     let told = |from, to, entries: &[board::Entry]| Case { levels: [0; 4], from, to, entries: entries.to_vec(), base: 0, scale: 1 }.counted();
     // Two changes at one cycle are two edges.
     assert_eq!(told(0, 10, &[e(0, 1, 5), e(0, 0, 5)]).figures[..3], [0, 10, 2]);

@@ -171,7 +171,7 @@ fn bits(x: f64) -> u64 {
 }
 
 fn answer(r: Result<(u64, &[board::Entry]), Error>) -> Answer {
-    let entry = |e: &board::Entry| Entry { pin: e.pin as u16, level: e.level, cycle: e.cycle };
+    let entry = |e: &board::Entry| Entry { pin: e.pin as u16, level: e.level, cycle: e.cycle, source: e.source as u8 };
     match r {
         Ok((value, entries)) => Answer { number: 0, value, entries: entries.iter().map(entry).collect() },
         Err(e) => Answer { number: e.number(), value: 0, entries: Vec::new() },
@@ -230,7 +230,7 @@ fn play(b: &mut Safe, call: &Call, error: &mut Option<Error>) -> Option<Answer> 
         }
         Call::Booked { timer } => plain(b.booked(TimerIndex(timer)).map(|c| c.unwrap_or(u64::MAX))),
         Call::Next => plain(Ok(b.next().unwrap_or(u64::MAX))),
-        Call::Level { pin } => plain(b.level(pin).map(u64::from)),
+        Call::Level { pin } => plain(b.level(pin).and_then(|level| Ok(u64::from(level) + 2 * b.source(pin)? as u64))),
         Call::Volts { pin } => plain(b.volts(pin).map(bits)),
         Call::Line { irq } => {
             let l = b.line(irq);

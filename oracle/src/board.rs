@@ -1,7 +1,7 @@
 //! The board: document 01's refusals, with 11 of document 02, and the lent book in front of the published Rust. Every refusal is decided
 //! before the Rust is entered, so a refused call cannot have changed anything. Behind the Rust, of document 02: a pulse that
-//! ends in manual mode clears CEN (F-2), and a line that several timers name follows all of them (F-7). In it, by three added lines
-//! (oracle/mcs-sim/build.rs): in manual mode a reload of 0 blocks (F-6).
+//! ends in manual mode clears CEN (F-2), a line that several timers name follows all of them (F-7), and each level has its source (F-5). In it, by
+//! three added lines (oracle/mcs-sim/build.rs): in manual mode a reload of 0 blocks (F-6).
 
 use mcs_core::arm::device::{Enable, TimerInstance};
 use mcs_sim::arm::bus::{Cx, Mmio};
@@ -13,6 +13,7 @@ use mcs_sim::scheduler::{EventKey, Scheduler};
 use mcs_sim::seen::{self, View};
 
 use crate::calls::{Answer, Call, Entry, Setup, TimerSpec};
+use crate::source;
 
 /// The last cycle that is served.
 pub const LIMIT: u64 = 1 << 62;
@@ -95,8 +96,13 @@ impl Board {
         self.sys.changed.clear();
         match self.outcome(call) {
             Ok((number, value)) => {
-                let entries = self.sys.changed.iter().map(|&(pin, level, cycle)| Entry { pin, level, cycle }).collect();
-                Answer { number, value, entries }
+                let entries = self.sys.changed.iter().map(|&(pin, level, cycle)| {
+                    // A timer's call moves a pin by the pin's signal alone, perhaps again and again: at each entry the signal had the entry's level.
+                    let by_signal = matches!(call, Call::Write { .. } | Call::Reset { .. } | Call::Deliver { .. });
+                    let wanted = if by_signal { Some(level) } else { source::wanted(&self.sys, pin as usize) };
+                    Entry { pin, level, cycle, source: source::source(&self.sys, pin as usize, wanted) }
+                });
+                Answer { number, value, entries: entries.collect() }
             }
             Err(number) => Answer { number, value: 0, entries: Vec::new() },
         }
@@ -188,7 +194,11 @@ impl Board {
                 Ok((0, self.booked(t)))
             }
             Call::Next => Ok((0, self.sched.next)),
-            Call::Level { pin } => Ok((0, self.sys.pins[self.pin(pin)?].level as u64)),
+            Call::Level { pin } => {
+                let p = self.pin(pin)?;
+                let source = source::source(&self.sys, p, source::wanted(&self.sys, p));
+                Ok((0, self.sys.pins[p].level as u64 + 2 * source as u64))
+            }
             Call::Volts { pin } => Ok((0, bits(self.sys.pins[self.pin(pin)?].volts))),
             Call::Line { irq } => Ok((0, self.line(irq))),
             Call::Time { cycle } => {

@@ -99,6 +99,8 @@ pub struct Entry {
     pub pin: u16,
     pub level: u8,
     pub cycle: u64,
+    /// 1 the chip, 2 the outside, 3 a pull.
+    pub source: u8,
 }
 
 /// An answer; its count is the number of entries.
@@ -362,6 +364,6 @@ impl Display for Aside {
 impl Display for Answer {
     fn fmt(&self, f: &mut Formatter) -> fmt::Result {
         write!(f, "{} {} {}", self.number, self.value, self.entries.len())?;
-        self.entries.iter().try_for_each(|e| write!(f, " {}:{}@{}", e.pin, e.level, e.cycle))
+        self.entries.iter().try_for_each(|e| write!(f, " {}:{}@{}/{}", e.pin, e.level, e.cycle, e.source))
     }
 }

@@ -5,7 +5,7 @@
 
 use std::collections::BTreeMap;
 
-use crate::calls::{Answer, Call, Entry, TimerSpec};
+use crate::calls::{Answer, Call, TimerSpec};
 use crate::silicon::cases::{self, Met};
 use crate::silicon::timeline::{Delivered, Edge, Timeline};
 use crate::silicon::{synchronizes, Rules, Timer, CCER, CNT, CR1, DIER, DIR};
@@ -447,11 +447,10 @@ impl Follow {
         if (0..4).filter_map(pin).any(|p| self.odd.get(&p) == Some(&true)) {
             return Ok(());
         }
-        let wanted: Vec<Entry> = edges
-            .iter()
-            .filter_map(|e| Some(Entry { pin: pin(e.ch)? as u16, level: e.level as u8, cycle: e.cycle }))
-            .collect();
-        table.look(|| "entries".into(), &answer.entries, &wanted)
+        // The manual's machine has no sources.
+        let wanted: Vec<(u16, u8, u64)> = edges.iter().filter_map(|e| Some((pin(e.ch)? as u16, e.level as u8, e.cycle))).collect();
+        let made: Vec<_> = answer.entries.iter().map(|e| (e.pin, e.level, e.cycle)).collect();
+        table.look(|| "entries".into(), &made, &wanted)
     }
 
     /// After a delivery: the next event's cycle, where it is near, and the interrupt that the flags request.
@@ -482,7 +481,7 @@ impl Follow {
         for ch in 0..line.t.channels {
             let Some(&pin) = self.routes.get(&signal(self.specs[t].number, ch)) else { continue };
             if self.odd.get(&pin) != Some(&true) {
-                let level = ask(&Call::Level { pin }).value;
+                let level = ask(&Call::Level { pin }).value % 2;
                 table.look(|| format!("pin {pin}"), level, line.out[ch] as u64)?;
             }
         }

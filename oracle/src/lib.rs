@@ -9,6 +9,7 @@ pub mod rng;
 pub mod samples;
 pub mod silicon;
 pub mod small;
+pub mod source;
 
 use std::io::{self, BufRead, Write};
 

@@ -67,10 +67,10 @@ fn pilot_edges() {
         "pin 0 2 0 0 0 0 1 0 4
          write 0 0x18 4 0x60 0 4
          write 0 0x34 4 3 0 4
-         write 0 0x20 4 1 0 4 # 0 0 1 0:1@0
+         write 0 0x20 4 1 0 4 # 0 0 1 0:1@0/1
          write 0 0 4 1 100 4 # 0 0 0
-         level 0 # 0 1 0
-         deliver 0 119 64 # 0 6 3 0:0@103 0:1@110 0:0@113",
+         level 0 # 0 3 0
+         deliver 0 119 64 # 0 6 3 0:0@103/1 0:1@110/1 0:0@113/1",
     );
     expect(&list);
     let last = play(&list).pop().unwrap();
@@ -86,7 +86,7 @@ fn pilot_edges() {
 }
 
 fn edge(word: &str) -> (u64, u64) {
-    let (pin_level, cycle) = word.split_once('@').unwrap();
+    let (pin_level, cycle) = word.split_once('/').unwrap().0.split_once('@').unwrap();
     (pin_level.split_once(':').unwrap().1.parse().unwrap(), cycle.parse().unwrap())
 }
 
@@ -118,10 +118,10 @@ fn signal_numbers() {
              pin 1 2 0 0 0 0 0 0 4
              pin 2 2 0 0 0 0 0 0 4
              write 0 {ccmr} 4 {mode} 5 4
-             write 0 0x20 4 {ccer} 7 4 # 0 0 1 1:1@7
-             level 0 # 0 0 0
-             level 1 # 0 1 0
-             level 2 # 0 0 0",
+             write 0 0x20 4 {ccer} 7 4 # 0 0 1 1:1@7/1
+             level 0 # 0 2 0
+             level 1 # 0 3 0
+             level 2 # 0 2 0",
             s.0, s.1, s.2
         ));
     }
@@ -157,13 +157,13 @@ fn time_rounds_to_even() {
 fn thresholds_at_5_volts() {
     let v = |x: f64| x.to_bits();
     expect(&format!(
-        "{BOARD}drive 0 3 {} 1 4 # 0 0 1 0:1@1
+        "{BOARD}drive 0 3 {} 1 4 # 0 0 1 0:1@1/2
          drive 0 3 {} 2 4 # 0 0 0
-         level 0 # 0 1 0
+         level 0 # 0 9 0
          volts 0 # 0 {} 0
-         drive 0 3 {} 3 4 # 0 0 1 0:0@3
+         drive 0 3 {} 3 4 # 0 0 1 0:0@3/2
          drive 0 3 {} 4 4 # 0 0 0
-         level 0 # 0 0 0",
+         level 0 # 0 8 0",
         v(3.0), v(2.0), v(2.0), v(1.5), v(2.0)
     ));
 }

@@ -31,7 +31,7 @@ impl Board {
 
     fn call(&mut self, call: &Call) -> String {
         let entries = |edges: &[Edge], routed: bool| {
-            let entries: Vec<String> = edges.iter().filter(|_| routed).map(|e| format!(" 0:{}@{}", e.level as u8, e.cycle)).collect();
+            let entries: Vec<String> = edges.iter().filter(|_| routed).map(|e| format!(" 0:{}@{}/1", e.level as u8, e.cycle)).collect();
             format!("{}{}", entries.len(), entries.concat())
         };
         match *call {

@@ -178,7 +178,7 @@ fn what_moves_time() {
          time 40 # 0"
     ));
     // A backlog moves it too.
-    expect(&with("pin 0 2 0 0 0 0 1 0 4\nwrite 0 0x18 4 0x30 0 4\nwrite 0 0x20 4 1 0 4\nwrite 0 0x34 4 3 0 4\nwrite 0 0 4 1 0 4\ndeliver 0 50 4 # 8 1 1 0:1@3\ntime 49 # 5\ntime 50 # 0"));
+    expect(&with("pin 0 2 0 0 0 0 1 0 4\nwrite 0 0x18 4 0x30 0 4\nwrite 0 0x20 4 1 0 4\nwrite 0 0x34 4 3 0 4\nwrite 0 0 4 1 0 4\ndeliver 0 50 4 # 8 1 1 0:1@3/1\ntime 49 # 5\ntime 50 # 0"));
 }
 
 /// Counter astray by way of CR1, CNT and ARR, and what is next to it and served.

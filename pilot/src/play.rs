@@ -16,6 +16,7 @@ pub struct Player {
     pins: Vec<u8>,
     levels: Vec<u8>,
     cycles: Vec<u64>,
+    sources: Vec<u8>,
     answer: ffi::Answer,
     more: Vec<u32>,
     bytes: Vec<u8>,
@@ -26,10 +27,11 @@ pub struct Player {
 pub struct Answer<'a> {
     pub number: u32,
     pub value: u64,
-    /// The entries: pin, level and cycle of each.
+    /// The entries: pin, level, cycle and source of each.
     pub pins: &'a [u8],
     pub levels: &'a [u8],
     pub cycles: &'a [u64],
+    pub sources: &'a [u8],
     /// The numbers behind the three, of a call that has no entries.
     pub more: &'a [u32],
     /// The record that was written; its bytes are the count then.
@@ -45,6 +47,7 @@ impl Player {
             pins: vec![0; places],
             levels: vec![0; places],
             cycles: vec![0; places],
+            sources: vec![0; places],
             answer: ffi::Answer { value: 0, number: 0, count: 0 },
             more: Vec::new(),
             bytes: Vec::new(),
@@ -54,7 +57,12 @@ impl Player {
     /// Makes a call.
     pub fn play(&mut self, call: &Call) -> Answer<'_> {
         let lent = book(call).min(PLACES) as usize;
-        let book = &mut Book { pins: &mut self.pins[..lent], levels: &mut self.levels[..lent], cycles: &mut self.cycles[..lent] };
+        let book = &mut Book {
+            pins: &mut self.pins[..lent],
+            levels: &mut self.levels[..lent],
+            cycles: &mut self.cycles[..lent],
+            sources: &mut self.sources[..lent],
+        };
         let s = &mut self.state;
         self.more.clear();
         self.bytes.clear();
@@ -93,7 +101,8 @@ impl Player {
     pub fn answer(&self) -> Answer<'_> {
         let ffi::Answer { number, value, count } = self.answer;
         let count = count as usize;
-        Answer { number, value, pins: &self.pins[..count], levels: &self.levels[..count], cycles: &self.cycles[..count], more: &self.more, bytes: &self.bytes }
+        let (pins, levels, cycles, sources) = (&self.pins[..count], &self.levels[..count], &self.cycles[..count], &self.sources[..count]);
+        Answer { number, value, pins, levels, cycles, sources, more: &self.more, bytes: &self.bytes }
     }
 
     /// The cycle of a timer's next event; `None` if it is stopped or there is no such timer.
@@ -143,16 +152,16 @@ fn unrecord(read: ffi::Read, more: &mut Vec<u32>) -> ffi::Answer {
 }
 
 impl Answer<'_> {
-    /// The entries, in order.
+    /// The entries' pins, levels and cycles, in order.
     pub fn entries(&self) -> impl Iterator<Item = (u8, u8, u64)> + '_ {
         self.pins.iter().zip(self.levels).zip(self.cycles).map(|((&pin, &level), &cycle)| (pin, level, cycle))
     }
 
-    /// `NUMBER VALUE COUNT`, then ` PIN:LEVEL@CYCLE` for each entry, or the numbers or bytes behind the three, and the line's end.
+    /// `NUMBER VALUE COUNT`, then ` PIN:LEVEL@CYCLE/SOURCE` for each entry, or the numbers or bytes behind the three, and the line's end.
     pub fn write(&self, out: &mut impl Write) -> io::Result<()> {
         write!(out, "{} {} {}", self.number, self.value, self.cycles.len() + self.bytes.len())?;
-        for (pin, level, cycle) in self.entries() {
-            write!(out, " {pin}:{level}@{cycle}")?;
+        for ((pin, level, cycle), source) in self.entries().zip(self.sources) {
+            write!(out, " {pin}:{level}@{cycle}/{source}")?;
         }
         for number in self.more {
             write!(out, " {number}")?;

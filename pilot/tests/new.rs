@@ -29,8 +29,8 @@ fn a_first_pilot() {
     let d = new("--clock 16MHz --frequency 1kHz --duty 30% --pin 0");
     assert_eq!((d.status, d.err.as_str()), (0, ""));
     let answers = served(&d.out);
-    assert!(answers.contains(" 0:0@4800 0:1@16000\n"), "{answers}");
-    assert!(answers.ends_with(" 0:0@148800 0:1@160000\n0 1 0\n"), "{answers}");
+    assert!(answers.contains(" 0:0@4800/1 0:1@16000/1\n"), "{answers}");
+    assert!(answers.ends_with(" 0:0@148800/1 0:1@160000/1\n0 3 0\n"), "{answers}");
     assert_eq!(csv(&d.out, "0", 0, 160_000), "0,48000,112000,160000,19,30.0000");
 }
 

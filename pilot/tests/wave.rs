@@ -117,7 +117,7 @@ fn the_levels_are_the_definitions_on_every_stored_list() {
             }
             for word in answer.split(' ').skip(3) {
                 let (pin, rest) = word.split_once(':').unwrap();
-                let (level, cycle) = rest.split_once('@').unwrap();
+                let (level, cycle) = rest.split_once('/').unwrap().0.split_once('@').unwrap();
                 records.last_mut().unwrap().push((pin.parse().unwrap(), level.parse().unwrap(), cycle.parse().unwrap()));
             }
         }

@@ -15,16 +15,52 @@ const TIMERS: u32 = 8;
 /// Pins that a board can have.
 const PINS: u32 = 128;
 
+/// Who holds a pin's level (document 02, F-5).
+///
+/// ```
+/// use board::{Board, Drive, Source};
+///
+/// let mut board = Board::example_pilot(64);
+/// assert_eq!((board.source(0), board.source(6)), (Ok(Source::Chip), Ok(Source::Held)));
+/// board.drive_pin(6, Drive::Low, 100)?;
+/// assert_eq!(board.source(6), Ok(Source::Outside));
+/// # Ok::<(), board::Error>(())
+/// ```
+#[derive(Clone, Copy, Debug, Default, PartialEq, Eq, Hash)]
+pub enum Source {
+    /// The chip drives it, also where the outside agrees.
+    #[default]
+    Chip = 1,
+    /// The outside does.
+    Outside = 2,
+    /// A pull-up or a pull-down does.
+    Pull = 3,
+    /// Nothing does: nothing is connected, or analogue volts settle neither level. The pin keeps the level that it had. Never in an [`Entry`].
+    Held = 4,
+}
+
+impl Source {
+    /// Of its number. The library gives no other than 1 to 4.
+    pub(crate) const fn of(number: u8) -> Self {
+        match number {
+            1 => Self::Chip,
+            2 => Self::Outside,
+            3 => Self::Pull,
+            _ => Self::Held,
+        }
+    }
+}
+
 /// A pin's level change.
 ///
 /// Make one by [`new`](Self::new): a later version may have more fields.
 ///
 /// ```
-/// use board::Entry;
+/// use board::{Entry, Source};
 ///
 /// let entry = Entry::new(0, 1, 110);
-/// assert_eq!((entry.pin, entry.level, entry.cycle), (0, 1, 110));
-/// assert_eq!(entry.to_string(), "0:1@110");
+/// assert_eq!((entry.pin, entry.level, entry.cycle, entry.source), (0, 1, 110, Source::Chip));
+/// assert_eq!(entry.by(Source::Pull).to_string(), "0:1@110/3");
 /// ```
 #[derive(Clone, Copy, Debug, Default, PartialEq, Eq, Hash)]
 pub struct Entry {
@@ -34,24 +70,36 @@ pub struct Entry {
     pub level: u8,
     /// The cycle it did.
     pub cycle: u64,
+    /// Who held the level then.
+    pub source: Source,
 }
 
 impl Entry {
-    /// The pin took a level at a cycle.
+    /// The chip gave the pin a level at a cycle.
     ///
     /// ```
-    /// # use board::Entry;
-    /// assert_eq!(Entry::new(3, 0, 113), Entry { pin: 3, level: 0, cycle: 113 });
+    /// # use board::{Entry, Source};
+    /// assert_eq!(Entry::new(3, 0, 113), Entry { pin: 3, level: 0, cycle: 113, source: Source::Chip });
     /// ```
     pub const fn new(pin: u8, level: u8, cycle: u64) -> Self {
-        Self { pin, level, cycle }
+        Self { pin, level, cycle, source: Source::Chip }
+    }
+
+    /// The same change, by another source.
+    ///
+    /// ```
+    /// # use board::{Entry, Source};
+    /// assert_eq!(Entry::new(3, 0, 113).by(Source::Outside).source, Source::Outside);
+    /// ```
+    pub const fn by(self, source: Source) -> Self {
+        Self { source, ..self }
     }
 }
 
-/// As docs/CALLS.md writes it: `PIN:LEVEL@CYCLE`.
+/// As docs/CALLS.md writes it: `PIN:LEVEL@CYCLE/SOURCE`.
 impl fmt::Display for Entry {
     fn fmt(&self, f: &mut Formatter) -> fmt::Result {
-        write!(f, "{}:{}@{}", self.pin, self.level, self.cycle)
+        write!(f, "{}:{}@{}/{}", self.pin, self.level, self.cycle, self.source as u8)
     }
 }
 
@@ -151,6 +199,7 @@ pub struct Board {
     pins: Box<[u8]>,
     levels: Box<[u8]>,
     cycles: Box<[u64]>,
+    sources: Box<[u8]>,
     entries: Vec<Entry>,
 }
 
@@ -184,6 +233,7 @@ impl Board {
             pins: vec![0; places].into(),
             levels: vec![0; places].into(),
             cycles: vec![0; places].into(),
+            sources: vec![0; places].into(),
             entries: Vec::with_capacity(places),
         }
     }
@@ -357,9 +407,9 @@ impl Board {
     /// [`Error::SocketTaken`] until that pin leaves it. The same pin can be set again.
     ///
     /// ```
-    /// # use board::{Board, Entry, PinConfig};
+    /// # use board::{Board, Entry, PinConfig, Source};
     /// let mut board = Board::example();
-    /// assert_eq!(board.set_pin(6, &PinConfig { pullup: true, ..PinConfig::default() }, 9)?, [Entry::new(6, 1, 9)]);
+    /// assert_eq!(board.set_pin(6, &PinConfig { pullup: true, ..PinConfig::default() }, 9)?, [Entry::new(6, 1, 9).by(Source::Pull)]);
     /// # Ok::<(), board::Error>(())
     /// ```
     pub fn set_pin(&mut self, pin: u32, c: &PinConfig, cycle: u64) -> Result<&[Entry], Error> {
@@ -371,9 +421,9 @@ impl Board {
     /// Drives a pin from outside.
     ///
     /// ```
-    /// # use board::{Board, Drive, Entry};
+    /// # use board::{Board, Drive, Entry, Source};
     /// let mut board = Board::example();
-    /// assert_eq!(board.drive_pin(6, Drive::High, 9)?, [Entry::new(6, 1, 9)]);
+    /// assert_eq!(board.drive_pin(6, Drive::High, 9)?, [Entry::new(6, 1, 9).by(Source::Outside)]);
     /// # Ok::<(), board::Error>(())
     /// ```
     pub fn drive_pin(&mut self, pin: u32, drive: Drive, cycle: u64) -> Result<&[Entry], Error> {
@@ -405,7 +455,17 @@ impl Board {
     /// assert_eq!(Board::example_pilot(64).level(0), Ok(1));
     /// ```
     pub fn level(&self, pin: u32) -> Result<u8, Error> {
-        self.answered(self.state.level(pin), About::pin(pin, 0)).map(|v| v as u8)
+        self.answered(self.state.level(pin), About::pin(pin, 0)).map(|v| v as u8 % 2)
+    }
+
+    /// Who holds a pin's level. A pin just set up is [`Source::Held`].
+    ///
+    /// ```
+    /// # use board::{Board, Source};
+    /// assert_eq!((Board::example().source(0), Board::example_pilot(64).source(0)), (Ok(Source::Held), Ok(Source::Chip)));
+    /// ```
+    pub fn source(&self, pin: u32) -> Result<Source, Error> {
+        self.answered(self.state.level(pin), About::pin(pin, 0)).map(|v| Source::of(v as u8 / 2))
     }
 
     /// A pin's volts.
@@ -680,13 +740,13 @@ impl Board {
     // ---- the book -------------------------------------------------------------------------
 
     fn lend(&mut self, call: impl FnOnce(&mut State, &mut Book) -> Answer) -> Answer {
-        call(&mut self.state, &mut Book { pins: &mut self.pins, levels: &mut self.levels, cycles: &mut self.cycles })
+        call(&mut self.state, &mut Book { pins: &mut self.pins, levels: &mut self.levels, cycles: &mut self.cycles, sources: &mut self.sources })
     }
 
     fn entries(&mut self, count: u32) -> &[Entry] {
-        let places = self.pins.iter().zip(&self.levels).zip(&self.cycles);
+        let places = self.pins.iter().zip(&self.levels).zip(&self.cycles).zip(&self.sources);
         self.entries.clear();
-        self.entries.extend(places.take(count as usize).map(|((&pin, &level), &cycle)| Entry::new(pin, level, cycle)));
+        self.entries.extend(places.take(count as usize).map(|(((&pin, &level), &cycle), &source)| Entry { pin, level, cycle, source: Source::of(source) }));
         &self.entries
     }
 

@@ -15,11 +15,12 @@
 //! assert_eq!(state.set_up(16e6, 3.3, 1, 0, &[2, 32, 4, 1, 3, 0, 0], &table).number, 0);
 //!
 //! // A pin set to an output that is high: one entry, in place 0 of the lent book.
-//! let (mut pins, mut levels, mut cycles) = ([0; 4], [0; 4], [0; 4]);
-//! let mut book = Book { pins: &mut pins, levels: &mut levels, cycles: &mut cycles };
+//! let (mut pins, mut levels, mut cycles, mut sources) = ([0; 4], [0; 4], [0; 4], [0; 4]);
+//! let mut book = Book { pins: &mut pins, levels: &mut levels, cycles: &mut cycles, sources: &mut sources };
 //! let answer = state.set_pin(&mut book, 0, 1, 0, 1, 0, 0, 0, 20);
 //! assert_eq!((answer.number, answer.count), (0, 1));
-//! assert_eq!((pins[0], levels[0], cycles[0]), (0, 1, 20));
+//! assert_eq!((pins[0], levels[0], cycles[0], sources[0]), (0, 1, 20, 1)); // 1: the chip
+//! assert_eq!(state.level(0).value, 1 + 2 * 1);
 //!
 //! // The duty report of what the book holds, from cycle 0 to 100.
 //! use board::ffi::{begin, end, feed, FIGURES, KEPT};
@@ -42,7 +43,7 @@ pub struct Answer {
     pub count: u32,
 }
 
-/// A lent book: three slices, filled from place 0. Its length is the shortest of the three.
+/// A lent book: four slices, filled from place 0. Its length is the shortest of the four.
 pub struct Book<'a> {
     /// The pin of each entry.
     pub pins: &'a mut [u8],
@@ -50,6 +51,8 @@ pub struct Book<'a> {
     pub levels: &'a mut [u8],
     /// The cycle it did.
     pub cycles: &'a mut [u64],
+    /// Who held the level then: the number of a [`Source`](crate::Source).
+    pub sources: &'a mut [u8],
 }
 
 /// A board's state, in the library's layout.
@@ -146,14 +149,14 @@ unsafe extern "C" {
     fn board_set_up_manual(words: *mut u64, reals: *mut f64, hz: f64, vcc: f64, pins: u32, lines: u32, manual: u32, timers: *const u32, timers_len: usize, table: *const u32, table_len: usize) -> Answer;
     fn board_set_clock_tree(words: *mut u64, reals: *mut f64, sysclk_hz: f64, hclk_hz: f64, ppre1: u32, ppre2: u32, ppre3: u32, ppre4: u32, tim1: u32, tim2: u32, cycle: u64) -> Answer;
     fn board_enable(words: *mut u64, reals: *const f64, word: u32, value: u32) -> Answer;
-    fn board_set_pin(words: *mut u64, reals: *mut f64, pin: u32, mode: u32, open_drain: u32, out: u32, pullup: u32, pulldown: u32, function: u32, cycle: u64, pins: *mut u8, pins_len: usize, levels: *mut u8, levels_len: usize, cycles: *mut u64, cycles_len: usize) -> Answer;
-    fn board_drive_pin(words: *mut u64, reals: *mut f64, pin: u32, kind: u32, volts: f64, cycle: u64, pins: *mut u8, pins_len: usize, levels: *mut u8, levels_len: usize, cycles: *mut u64, cycles_len: usize) -> Answer;
-    fn board_reset_pins(words: *mut u64, reals: *mut f64, cycle: u64, pins: *mut u8, pins_len: usize, levels: *mut u8, levels_len: usize, cycles: *mut u64, cycles_len: usize) -> Answer;
+    fn board_set_pin(words: *mut u64, reals: *mut f64, pin: u32, mode: u32, open_drain: u32, out: u32, pullup: u32, pulldown: u32, function: u32, cycle: u64, pins: *mut u8, pins_len: usize, levels: *mut u8, levels_len: usize, cycles: *mut u64, cycles_len: usize, sources: *mut u8, sources_len: usize) -> Answer;
+    fn board_drive_pin(words: *mut u64, reals: *mut f64, pin: u32, kind: u32, volts: f64, cycle: u64, pins: *mut u8, pins_len: usize, levels: *mut u8, levels_len: usize, cycles: *mut u64, cycles_len: usize, sources: *mut u8, sources_len: usize) -> Answer;
+    fn board_reset_pins(words: *mut u64, reals: *mut f64, cycle: u64, pins: *mut u8, pins_len: usize, levels: *mut u8, levels_len: usize, cycles: *mut u64, cycles_len: usize, sources: *mut u8, sources_len: usize) -> Answer;
     fn board_read(words: *const u64, reals: *const f64, timer: u32, offset: u32, size: u32, cycle: u64) -> Answer;
-    fn board_write(words: *mut u64, reals: *mut f64, timer: u32, offset: u32, size: u32, value: u32, cycle: u64, pins: *mut u8, pins_len: usize, levels: *mut u8, levels_len: usize, cycles: *mut u64, cycles_len: usize) -> Answer;
+    fn board_write(words: *mut u64, reals: *mut f64, timer: u32, offset: u32, size: u32, value: u32, cycle: u64, pins: *mut u8, pins_len: usize, levels: *mut u8, levels_len: usize, cycles: *mut u64, cycles_len: usize, sources: *mut u8, sources_len: usize) -> Answer;
     fn board_peek(words: *const u64, reals: *const f64, timer: u32, offset: u32, cycle: u64) -> Answer;
-    fn board_reset(words: *mut u64, reals: *mut f64, timer: u32, cycle: u64, pins: *mut u8, pins_len: usize, levels: *mut u8, levels_len: usize, cycles: *mut u64, cycles_len: usize) -> Answer;
-    fn board_deliver(words: *mut u64, reals: *mut f64, timer: u32, cycle: u64, pins: *mut u8, pins_len: usize, levels: *mut u8, levels_len: usize, cycles: *mut u64, cycles_len: usize) -> Answer;
+    fn board_reset(words: *mut u64, reals: *mut f64, timer: u32, cycle: u64, pins: *mut u8, pins_len: usize, levels: *mut u8, levels_len: usize, cycles: *mut u64, cycles_len: usize, sources: *mut u8, sources_len: usize) -> Answer;
+    fn board_deliver(words: *mut u64, reals: *mut f64, timer: u32, cycle: u64, pins: *mut u8, pins_len: usize, levels: *mut u8, levels_len: usize, cycles: *mut u64, cycles_len: usize, sources: *mut u8, sources_len: usize) -> Answer;
     fn board_booked(words: *const u64, reals: *const f64, timer: u32) -> Answer;
     fn board_next(words: *const u64, reals: *const f64) -> Answer;
     fn board_level(words: *const u64, reals: *const f64, pin: u32) -> Answer;
@@ -198,7 +201,7 @@ macro_rules! change {
 /// A call that changes the state and is lent a book.
 macro_rules! lend {
     ($f:ident, $s:ident, $b:ident $(, $arg:expr)*) => {
-        change!($f, $s $(, $arg)*, $b.pins.as_mut_ptr(), $b.pins.len(), $b.levels.as_mut_ptr(), $b.levels.len(), $b.cycles.as_mut_ptr(), $b.cycles.len())
+        change!($f, $s $(, $arg)*, $b.pins.as_mut_ptr(), $b.pins.len(), $b.levels.as_mut_ptr(), $b.levels.len(), $b.cycles.as_mut_ptr(), $b.cycles.len(), $b.sources.as_mut_ptr(), $b.sources.len())
     };
 }
 
@@ -357,7 +360,7 @@ impl State {
         ask!(board_next, self)
     }
 
-    /// A pin's level.
+    /// A pin's level, 0 or 1, plus twice its source, 1 to 4.
     #[inline]
     pub fn level(&self, pin: u32) -> Answer {
         ask!(board_level, self, pin)

@@ -80,7 +80,7 @@ mod shift;
 mod small;
 mod time;
 
-pub use board::{Board, Delivered, Entry, Line, Written};
+pub use board::{Board, Delivered, Entry, Line, Source, Written};
 pub use error::{is_refusal, word, ClockField, Disorder, Error, Index, Limit, Setting};
 pub use pilot::{Pilot, PilotError};
 pub use record::{Records, RECORD};

@@ -1,7 +1,7 @@
 //! The safe board: what its types add to the calls. What the calls do is compare's matter.
 
 use board::ffi;
-use board::{Board, Channel, ClockField, ClockTree, Delivered, Drive, Entry, Error, Index, Limit, Line, PinConfig, Reg, Setup, TimerIndex, TimerSpec};
+use board::{Board, Channel, ClockField, ClockTree, Delivered, Drive, Entry, Error, Index, Limit, Line, PinConfig, Reg, Setup, Source, TimerIndex, TimerSpec};
 
 const TIM2: TimerIndex = TimerIndex(0);
 
@@ -382,7 +382,7 @@ fn queries() {
     b.set_up(&s).unwrap();
     b.enable(3, 1).unwrap();
     assert_eq!((b.booked(TIM2), b.next()), (Ok(None), None));
-    assert_eq!(b.drive_pin(1, Drive::Analog(3.0), 7), Ok(&[Entry::new(1, 1, 7)][..]));
+    assert_eq!(b.drive_pin(1, Drive::Analog(3.0), 7), Ok(&[Entry::new(1, 1, 7).by(Source::Outside)][..]));
     assert_eq!((b.level(1), b.volts(1)), (Ok(1), Ok(3.0)));
     assert_eq!(b.drive_pin(1, Drive::Analog(2.0), 7), Ok(&[][..]));
     assert_eq!(b.drive_pin(1, Drive::Analog(f64::NAN), 7), Ok(&[][..]));
@@ -425,4 +425,33 @@ fn a_taken_socket() {
     b.set_pin(0, &PinConfig::alternate(1), 6).unwrap();
     b.set_pin(0, &PinConfig::default(), 7).unwrap();
     b.set_pin(other, &PinConfig::alternate(1), 8).unwrap();
+}
+
+/// Document 02, F-5: who holds a level, in the query and in the entries. examples/sources.calls has every case.
+#[test]
+fn levels_have_sources() {
+    let mut b = Board::example();
+    let seen = |b: &Board| (b.level(6).unwrap(), b.source(6).unwrap());
+    assert_eq!(seen(&b), (0, Source::Held));
+    let up = PinConfig { pullup: true, ..PinConfig::default() };
+    assert_eq!(b.set_pin(6, &up, 0), Ok(&[Entry::new(6, 1, 0).by(Source::Pull)][..]));
+    assert_eq!(seen(&b), (1, Source::Pull));
+    // The same level by another source is no entry.
+    assert_eq!(b.drive_pin(6, Drive::High, 0), Ok(&[][..]));
+    assert_eq!(seen(&b), (1, Source::Outside));
+    assert_eq!(b.drive_pin(6, Drive::Low, 0), Ok(&[Entry::new(6, 0, 0).by(Source::Outside)][..]));
+    // Volts between the thresholds hold the level, whatever the pulls.
+    assert_eq!(b.drive_pin(6, Drive::Analog(1.5), 0), Ok(&[][..]));
+    assert_eq!(seen(&b), (0, Source::Held));
+    // The chip wins, and is the source also where the outside agrees.
+    let out = PinConfig { mode: board::Mode::Output, out: true, ..PinConfig::default() };
+    assert_eq!(b.set_pin(6, &out, 0), Ok(&[Entry::new(6, 1, 0)][..]));
+    b.drive_pin(6, Drive::High, 0).unwrap();
+    assert_eq!(seen(&b), (1, Source::Chip));
+    // A pin reset leaves what the outside settles, else what is held.
+    b.reset_pins(0).unwrap();
+    assert_eq!(seen(&b), (1, Source::Outside));
+    b.drive_pin(6, Drive::Nothing, 0).unwrap();
+    assert_eq!(seen(&b), (1, Source::Held));
+    assert_eq!(b.source(8), Err(Error::NoSuchIndex(Index::Pin { pin: 8, pins: 8 })));
 }

@@ -4,7 +4,7 @@
 use std::path::Path;
 use std::process::Command;
 
-use board::Reg;
+use board::{Reg, Source};
 
 /// An exported function as its caller sees it: each argument `name: type`, then what it returns. A slice is two arguments, its pointer and
 /// its length; an array is a pointer with its length behind it.
@@ -229,6 +229,8 @@ fn numbers_and_registers_are_the_crates() {
     let number = |n: u8| board::word(n).map(|w| (format!("PILOT_{}", w.to_uppercase().replace(' ', "_")), n as u32));
     assert_eq!(header_enum(&header, "pilot_number"), (0..=255).map_while(number).collect::<Vec<_>>());
     assert_eq!(header_enum(&header, "pilot_register"), Reg::ALL.map(|r| (format!("PILOT_{r}"), r.offset())));
+    let sources = [Source::Chip, Source::Outside, Source::Pull, Source::Held];
+    assert_eq!(header_enum(&header, "pilot_source"), sources.map(|s| (format!("PILOT_{s:?}").to_uppercase(), s as u32)));
 }
 
 /// Each word of each declaration, changed, is seen: what a test that cannot fail would let pass.

@@ -206,7 +206,7 @@ module _ (x : Trial) where
 -- ---- the bench pilot
 
 abbrev entry : ℕ → ℕ → ℕ → Entry
-entry pin level cycle = record { pin = pin; level = level; cycle = cycle }
+entry pin level cycle = record { pin = pin; level = level; cycle = cycle; source = 1 }
 
 -- "high at 100: edges low 103, high 110, low 113. Cycles 110 to 112: H 3, difference 21, the bound; 113 to 119: H 0, also 21."
 pub record Bench : Type 0 where

@@ -80,7 +80,7 @@ module _ (t : Timer) (cnt ch pin at : ℕ) (drv : driver (t .inst .n) ≡ true) 
           push-pull = ap (λ (c : PinCfg). c .«open_drain») (f .cfg) ∙ w .push-pull;
         };
         shows = f .shown;
-        moves = rw (f .change, f .shown) (moves-own pin at (shown p pin) (bit (output t ch cnt)) (bit-small (output t ch cnt)));
+        moves = rw (f .change, f .shown) (moves-own pin at (shown p pin) (bit (output t ch cnt)) (f .source) (bit-small (output t ch cnt)));
       })
 
   -- another channel leaves it

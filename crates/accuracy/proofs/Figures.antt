@@ -26,7 +26,7 @@ counts t cycles = map (regRead t 0x24) cycles
 
 -- an input's level at supply 5.0 for analogue volts; `held` is its level before
 abbrev levels : ℕ → List Float → List ℕ
-levels held volts = map (λ (v : Float). resolved (withExt (withLevel blank held v5·0) (ext.Analog v)) v5·0 .level) volts
+levels held volts = map (λ (v : Float). resolved (withExt (withLevel blank held v5·0 4) (ext.Analog v)) v5·0 .level) volts
 
 -- a timer whose SR holds a value
 abbrev flagged : ℕ → Timer

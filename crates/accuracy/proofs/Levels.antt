@@ -68,11 +68,11 @@ module _ (pin : ℕ) where
     where
       up : (m : Change) → Elsewhere pin m → (d : ℕ) → Upward pin d (entryOf at m) d
       up Same e d = le-refl d
-      up (Level q v) e d = (λ x. absurd (e x), rw (ne-eqb q pin e) (le-refl d))
+      up (Level q v s) e d = (λ x. absurd (e x), rw (ne-eqb q pin e) (le-refl d))
 
       go : (m : Change) → Elsewhere pin m → (l c : ℕ) → levelAt pin (entryOf at m) l c ≡ l
       go Same e l c = refl
-      go (Level q v) e l c = rw (ne-eqb q pin e)
+      go (Level q v s) e l c = rw (ne-eqb q pin e)
 
   pub moves-silent : (at : ℕ) (es : List Entry) (l : ℕ) → Silent pin es → Moves pin at es l l
   moves-silent at es l k = record { before = λ m c h. k .stays m c; since = λ c h. k .stays l c; upward = k .upward at }
@@ -85,11 +85,11 @@ module _ (pin : ℕ) where
   }
 
   -- "An entry is made exactly when a pin's level changes."
-  pub moves-own : (at old new : ℕ) → new ≤ 1 → Moves pin at (entryOf at (changed pin old new)) old new
+  pub moves-own : (at old new source : ℕ) → new ≤ 1 → Moves pin at (entryOf at (changed pin old new source)) old new
   unfolding levelAt entryOf Upward
-  moves-own at old new small = go (eqb new old) refl
+  moves-own at old new source small = go (eqb new old) refl
     where
-      go : (b : Bool) → eqb new old ≡ b → Moves pin at (entryOf at (cond b Same (Level pin new))) old new
+      go : (b : Bool) → eqb new old ≡ b → Moves pin at (entryOf at (cond b Same (Level pin new source))) old new
       go true e = record { before = λ l c h. refl; since = λ c h. sym (eqb-true new old e); upward = le-refl at }
       go false e = record {
         before = λ l c h. rw (eq-eqb pin pin refl, lt-leb at c h);

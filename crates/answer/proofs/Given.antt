@@ -40,7 +40,7 @@ away w x o n e r h = rw (e, h) (record { number = refl; value = refl; count = re
 
 -- its book: untouched
 pub unbooked : (o : Outcome) (u : Lent) (n : ℕ) → n ≡ 0 → o .entries ≡ [] → Holds (o .entries) u u n
-unbooked o u n h e = rw (e, h) (record { count = refl; pins = refl; levels = refl; cycles = refl })
+unbooked o u n h e = rw (e, h) (record { count = refl; pins = refl; levels = refl; cycles = refl; sources = refl })
 
 -- the answer of a call that was not refused
 pub gives : (o : Outcome) (r : Answer) (w w₁ : List ℕ) (x x₁ : List Float)

@@ -116,14 +116,15 @@ pub fn book_refusal(
     pins: &[u8],
     levels: &[u8],
     cycles: &[u64],
+    sources: &[u8],
 ) -> u8
-    ensures { λ r. ⌜ ((x : List Float) → r ≡ first (noSuchIndex index ((view (now (words .entry)) x) .counts .timers) ∷ badSize size ∷ clockAstray (view (now (words .entry)) x) cycle ∷ bookFull 4 (places (slices (now (pins .entry)) (now (levels .entry)) (now (cycles .entry)))) ∷ [])) ⌝ }
+    ensures { λ r. ⌜ ((x : List Float) → r ≡ first (noSuchIndex index ((view (now (words .entry)) x) .counts .timers) ∷ badSize size ∷ clockAstray (view (now (words .entry)) x) cycle ∷ bookFull 4 (places (slices (now (pins .entry)) (now (levels .entry)) (now (cycles .entry)) (now (sources .entry)))) ∷ [])) ⌝ }
 {
     let no = timer_refusal(words, index, size, cycle);
     if no != 0 {
         return no;
     }
-    let room = book::room(pins, levels, cycles);
+    let room = book::room(pins, levels, cycles, sources);
     if room < 4 {
         return 6;
     }

@@ -48,6 +48,11 @@ unfolding puts
 puts-cycles b [] = refl
 puts-cycles b (e ∷ es) = puts-cycles (put b e) es ∙ rw add-one
 
+puts-sources : (b : Book) (es : List Entry) → puts b es .sources ≡ sets (b .sources) (b .count) (map (λ (e : Entry). e .source) es)
+unfolding puts
+puts-sources b [] = refl
+puts-sources b (e ∷ es) = puts-sources (put b e) es ∙ rw add-one
+
 -- a run of stores from place 0 is the values over what was there
 laid : (f : Entry → ℕ) (es : List Entry) (p : List ℕ) → length es ≤ length p → sets p 0 (map f es) ≡ over (map f es) p
 laid f es p h =
@@ -63,8 +68,9 @@ holds es u u₁ n h f =
       pins = ap (λ (b : Book). b .pins) h ∙ puts-pins (book u 0) es ∙ laid (λ (e : Entry). e .pin) es (u .pins) (omega (arith, f .0));
       levels = ap (λ (b : Book). b .levels) h ∙ puts-levels (book u 0) es ∙ laid (λ (e : Entry). e .level) es (u .levels) (omega (arith, f .1));
       cycles = ap (λ (b : Book). b .cycles) h ∙ puts-cycles (book u 0) es ∙ laid (λ (e : Entry). e .cycle) es (u .cycles) (omega (arith, f .2));
+      sources = ap (λ (b : Book). b .sources) h ∙ puts-sources (book u 0) es ∙ laid (λ (e : Entry). e .source) es (u .sources) (omega (arith, f .3));
     }
 
 -- a book of n places: each slice has them, and fewer
 pub roomy : (u : Lent) (k n : ℕ) → n ≤ places u → k ≤ n → Room k u
-roomy u k n h j = (omega arith, omega arith, omega arith)
+roomy u k n h j = (omega arith, omega arith, omega arith, omega arith)

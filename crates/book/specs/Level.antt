@@ -10,7 +10,7 @@ use Rattle.book.specs.Book.{Entry, Lent}
 unfoldable pub entriesFrom : ℕ → ℕ → Lent → List Entry
 entriesFrom i zero u = []
 entriesFrom i (suc n) u =
-    record { pin = getD (u .pins) i 0; level = getD (u .levels) i 0; cycle = getD (u .cycles) i 0 } ∷ entriesFrom (suc i) n u
+    record { pin = getD (u .pins) i 0; level = getD (u .levels) i 0; cycle = getD (u .cycles) i 0; source = getD (u .sources) i 0 } ∷ entriesFrom (suc i) n u
 
 -- "A pin's level at a cycle is that of its last entry at or before it", else the level before the first entry
 unfoldable pub levelAt : ℕ → List Entry → ℕ → ℕ → ℕ

@@ -86,6 +86,7 @@ whole-over xs p at end h g n =
 abbrev stored : Lent → ℕ → List Entry → Lent
 stored u n es =
     slices (sets (u .pins) n (map (λ (e : Entry). e .pin) es)) (sets (u .levels) n (map (λ (e : Entry). e .level) es)) (sets (u .cycles) n (map (λ (e : Entry). e .cycle) es))
+    (sets (u .sources) n (map (λ (e : Entry). e .source) es))
 
 puts-is : (u : Lent) (n : ℕ) (es : List Entry) → puts (book u n) es ≡ book (stored u n es) (n + length es)
 unfolding puts
@@ -93,18 +94,19 @@ puts-is u n [] = ap (book u) (sym (add-zero n))
 puts-is u n (e ∷ es) =
     let k : n + 1 ≡ suc n = omega arith in
     let m : suc n + length es ≡ n + suc (length es) = omega arith in
-    let v : Lent = slices (set (u .pins) n (e .pin)) (set (u .levels) n (e .level)) (set (u .cycles) n (e .cycle)) in
+    let v : Lent = slices (set (u .pins) n (e .pin)) (set (u .levels) n (e .level)) (set (u .cycles) n (e .cycle)) (set (u .sources) n (e .source)) in
     ap (λ (i : ℕ). puts (book v i) es) k ∙ puts-is v (suc n) es ∙ ap (book (stored u n (e ∷ es))) m
 
 puts-count : (k : Book) (es : List Entry) → puts k es .count ≡ k .count + length es
-puts-count k es = ap (λ (y : Book). y .count) (puts-is (slices (k .pins) (k .levels) (k .cycles)) (k .count) es)
+puts-count k es = ap (λ (y : Book). y .count) (puts-is (slices (k .pins) (k .levels) (k .cycles) (k .sources)) (k .count) es)
 
 -- a part of each slice, and the slices with that part exchanged
 abbrev pub cut : ℕ → ℕ → Lent → Lent
-cut at end u = slices (part at end (u .pins)) (part at end (u .levels)) (part at end (u .cycles))
+cut at end u = slices (part at end (u .pins)) (part at end (u .levels)) (part at end (u .cycles)) (part at end (u .sources))
 
 abbrev pub mended : ℕ → ℕ → Lent → Lent → Lent
-mended at end u u₁ = slices (whole at end (u .pins) (u₁ .pins)) (whole at end (u .levels) (u₁ .levels)) (whole at end (u .cycles) (u₁ .cycles))
+mended at end u u₁ =
+    slices (whole at end (u .pins) (u₁ .pins)) (whole at end (u .levels) (u₁ .levels)) (whole at end (u .cycles) (u₁ .cycles)) (whole at end (u .sources) (u₁ .sources))
 
 -- what a part holds, put behind the entries so far
 parts-put : (es : List Entry) (u u₁ : Lent) (at end n : ℕ) → at ≤ end → Room end u → length es ≤ end - at → Holds es (cut at end u) u₁ n
@@ -116,7 +118,7 @@ parts-put es u u₁ at end n h f m q =
     laid g p p₁ x e = ap (whole at end p) e ∙ whole-over (map g es) p at end h x (omega (arith, length-map es g))
 
     same : mended at end u u₁ ≡ stored u at es
-    same = rw (laid (λ (e : Entry). e .pin) (u .pins) (u₁ .pins) (f .0) (q .pins), laid (λ (e : Entry). e .level) (u .levels) (u₁ .levels) (f .1) (q .levels), laid (λ (e : Entry). e .cycle) (u .cycles) (u₁ .cycles) (f .2) (q .cycles))
+    same = rw (laid (λ (e : Entry). e .pin) (u .pins) (u₁ .pins) (f .0) (q .pins), laid (λ (e : Entry). e .level) (u .levels) (u₁ .levels) (f .1) (q .levels), laid (λ (e : Entry). e .cycle) (u .cycles) (u₁ .cycles) (f .2) (q .cycles), laid (λ (e : Entry). e .source) (u .sources) (u₁ .sources) (f .3) (q .sources))
 
 -- ---- one call
 module _ (ns : List ℕ) (b : Board) (r : Answer) (w w₁ : List ℕ) (x x₁ : List Float) (u u₁ : Lent) (at end : ℕ) where
@@ -125,7 +127,7 @@ module _ (ns : List ℕ) (b : Board) (r : Answer) (w w₁ : List ℕ) (x x₁ : 
       → Answers (step b (callOf ns)) r w w₁ x x₁ × (book (mended at end u u₁) (at + r .count) ≡ puts (book u at) (step b (callOf ns) .entries))
   part-does e f h =
       let n : places (cut at end u) ≡ bookOf ns
-      = omega (arith, part-length at end (u .pins) (omega arith) (f .0), part-length at end (u .levels) (omega arith) (f .1), part-length at end (u .cycles) (omega arith) (f .2)) in
+      = omega (arith, part-length at end (u .pins) (omega arith) (f .0), part-length at end (u .levels) (omega arith) (f .1), part-length at end (u .cycles) (omega arith) (f .2), part-length at end (u .sources) (omega arith) (f .3)) in
       let g = subst (λ (k : ℕ). Answers (step b (callWith ns k)) r w w₁ x x₁ × Holds (step b (callWith ns k) .entries) (cut at end u) u₁ (r .count)) n h in
       (g .0, parts-put (step b (callOf ns) .entries) u u₁ at end (r .count) (omega arith) f (omega (arith, entries-fit b (callOf ns) .places, lent-of ns)) (g .1))
 

@@ -126,9 +126,10 @@ fn set_pin(
     pins: &mut [u8],
     levels: &mut [u8],
     cycles: &mut [u64],
+    sources: &mut [u8],
 ) -> Answer
-    ensures { λ r. ⌜ Answers (step (view (now (words .entry)) (now (reals .entry))) (E.bookCall 3 (now (calls .entry)) (places (slices (now (pins .entry)) (now (levels .entry)) (now (cycles .entry)))))) r (now (words .entry)) (now (words .exit)) (now (reals .entry)) (now (reals .exit)) ⌝ }
-    ensures { λ r. ⌜ Holds (step (view (now (words .entry)) (now (reals .entry))) (E.bookCall 3 (now (calls .entry)) (places (slices (now (pins .entry)) (now (levels .entry)) (now (cycles .entry))))) .entries) (slices (now (pins .entry)) (now (levels .entry)) (now (cycles .entry))) (slices (now (pins .exit)) (now (levels .exit)) (now (cycles .exit))) (r .count) ⌝ }
+    ensures { λ r. ⌜ Answers (step (view (now (words .entry)) (now (reals .entry))) (E.bookCall 3 (now (calls .entry)) (places (slices (now (pins .entry)) (now (levels .entry)) (now (cycles .entry)) (now (sources .entry)))))) r (now (words .entry)) (now (words .exit)) (now (reals .entry)) (now (reals .exit)) ⌝ }
+    ensures { λ r. ⌜ Holds (step (view (now (words .entry)) (now (reals .entry))) (E.bookCall 3 (now (calls .entry)) (places (slices (now (pins .entry)) (now (levels .entry)) (now (cycles .entry)) (now (sources .entry))))) .entries) (slices (now (pins .entry)) (now (levels .entry)) (now (cycles .entry)) (now (sources .entry))) (slices (now (pins .exit)) (now (levels .exit)) (now (cycles .exit)) (now (sources .exit))) (r .count) ⌝ }
 {
     let pin = encoding::word(calls, 1);
     let mode = encoding::word(calls, 2);
@@ -144,6 +145,7 @@ fn set_pin(
         pins,
         levels,
         cycles,
+        sources,
         pin,
         mode,
         open_drain,
@@ -162,15 +164,27 @@ fn drive_pin(
     pins: &mut [u8],
     levels: &mut [u8],
     cycles: &mut [u64],
+    sources: &mut [u8],
 ) -> Answer
-    ensures { λ r. ⌜ Answers (step (view (now (words .entry)) (now (reals .entry))) (E.bookCall 4 (now (calls .entry)) (places (slices (now (pins .entry)) (now (levels .entry)) (now (cycles .entry)))))) r (now (words .entry)) (now (words .exit)) (now (reals .entry)) (now (reals .exit)) ⌝ }
-    ensures { λ r. ⌜ Holds (step (view (now (words .entry)) (now (reals .entry))) (E.bookCall 4 (now (calls .entry)) (places (slices (now (pins .entry)) (now (levels .entry)) (now (cycles .entry))))) .entries) (slices (now (pins .entry)) (now (levels .entry)) (now (cycles .entry))) (slices (now (pins .exit)) (now (levels .exit)) (now (cycles .exit))) (r .count) ⌝ }
+    ensures { λ r. ⌜ Answers (step (view (now (words .entry)) (now (reals .entry))) (E.bookCall 4 (now (calls .entry)) (places (slices (now (pins .entry)) (now (levels .entry)) (now (cycles .entry)) (now (sources .entry)))))) r (now (words .entry)) (now (words .exit)) (now (reals .entry)) (now (reals .exit)) ⌝ }
+    ensures { λ r. ⌜ Holds (step (view (now (words .entry)) (now (reals .entry))) (E.bookCall 4 (now (calls .entry)) (places (slices (now (pins .entry)) (now (levels .entry)) (now (cycles .entry)) (now (sources .entry))))) .entries) (slices (now (pins .entry)) (now (levels .entry)) (now (cycles .entry)) (now (sources .entry))) (slices (now (pins .exit)) (now (levels .exit)) (now (cycles .exit)) (now (sources .exit))) (r .count) ⌝ }
 {
     let pin = encoding::word(calls, 1);
     let kind = encoding::word(calls, 2);
     let volts = encoding::real64(calls, 3);
     let cycle = encoding::word64(calls, 5);
-    pads::drive_pin(words, reals, pins, levels, cycles, pin, kind, volts, cycle)
+    pads::drive_pin(
+        words,
+        reals,
+        pins,
+        levels,
+        cycles,
+        sources,
+        pin,
+        kind,
+        volts,
+        cycle,
+    )
 }
 
 fn reset_pins(
@@ -180,12 +194,13 @@ fn reset_pins(
     pins: &mut [u8],
     levels: &mut [u8],
     cycles: &mut [u64],
+    sources: &mut [u8],
 ) -> Answer
-    ensures { λ r. ⌜ Answers (step (view (now (words .entry)) (now (reals .entry))) (E.bookCall 5 (now (calls .entry)) (places (slices (now (pins .entry)) (now (levels .entry)) (now (cycles .entry)))))) r (now (words .entry)) (now (words .exit)) (now (reals .entry)) (now (reals .exit)) ⌝ }
-    ensures { λ r. ⌜ Holds (step (view (now (words .entry)) (now (reals .entry))) (E.bookCall 5 (now (calls .entry)) (places (slices (now (pins .entry)) (now (levels .entry)) (now (cycles .entry))))) .entries) (slices (now (pins .entry)) (now (levels .entry)) (now (cycles .entry))) (slices (now (pins .exit)) (now (levels .exit)) (now (cycles .exit))) (r .count) ⌝ }
+    ensures { λ r. ⌜ Answers (step (view (now (words .entry)) (now (reals .entry))) (E.bookCall 5 (now (calls .entry)) (places (slices (now (pins .entry)) (now (levels .entry)) (now (cycles .entry)) (now (sources .entry)))))) r (now (words .entry)) (now (words .exit)) (now (reals .entry)) (now (reals .exit)) ⌝ }
+    ensures { λ r. ⌜ Holds (step (view (now (words .entry)) (now (reals .entry))) (E.bookCall 5 (now (calls .entry)) (places (slices (now (pins .entry)) (now (levels .entry)) (now (cycles .entry)) (now (sources .entry))))) .entries) (slices (now (pins .entry)) (now (levels .entry)) (now (cycles .entry)) (now (sources .entry))) (slices (now (pins .exit)) (now (levels .exit)) (now (cycles .exit)) (now (sources .exit))) (r .count) ⌝ }
 {
     let cycle = encoding::word64(calls, 1);
-    pads::reset_pins(words, reals, pins, levels, cycles, cycle)
+    pads::reset_pins(words, reals, pins, levels, cycles, sources, cycle)
 }
 
 fn write(
@@ -195,9 +210,10 @@ fn write(
     pins: &mut [u8],
     levels: &mut [u8],
     cycles: &mut [u64],
+    sources: &mut [u8],
 ) -> Answer
-    ensures { λ r. ⌜ Answers (step (view (now (words .entry)) (now (reals .entry))) (E.bookCall 7 (now (calls .entry)) (places (slices (now (pins .entry)) (now (levels .entry)) (now (cycles .entry)))))) r (now (words .entry)) (now (words .exit)) (now (reals .entry)) (now (reals .exit)) ⌝ }
-    ensures { λ r. ⌜ Holds (step (view (now (words .entry)) (now (reals .entry))) (E.bookCall 7 (now (calls .entry)) (places (slices (now (pins .entry)) (now (levels .entry)) (now (cycles .entry))))) .entries) (slices (now (pins .entry)) (now (levels .entry)) (now (cycles .entry))) (slices (now (pins .exit)) (now (levels .exit)) (now (cycles .exit))) (r .count) ⌝ }
+    ensures { λ r. ⌜ Answers (step (view (now (words .entry)) (now (reals .entry))) (E.bookCall 7 (now (calls .entry)) (places (slices (now (pins .entry)) (now (levels .entry)) (now (cycles .entry)) (now (sources .entry)))))) r (now (words .entry)) (now (words .exit)) (now (reals .entry)) (now (reals .exit)) ⌝ }
+    ensures { λ r. ⌜ Holds (step (view (now (words .entry)) (now (reals .entry))) (E.bookCall 7 (now (calls .entry)) (places (slices (now (pins .entry)) (now (levels .entry)) (now (cycles .entry)) (now (sources .entry))))) .entries) (slices (now (pins .entry)) (now (levels .entry)) (now (cycles .entry)) (now (sources .entry))) (slices (now (pins .exit)) (now (levels .exit)) (now (cycles .exit)) (now (sources .exit))) (r .count) ⌝ }
 {
     let timer = encoding::word(calls, 1);
     let offset = encoding::word(calls, 2);
@@ -210,6 +226,7 @@ fn write(
         pins,
         levels,
         cycles,
+        sources,
         timer,
         offset,
         size,
@@ -225,13 +242,14 @@ fn reset(
     pins: &mut [u8],
     levels: &mut [u8],
     cycles: &mut [u64],
+    sources: &mut [u8],
 ) -> Answer
-    ensures { λ r. ⌜ Answers (step (view (now (words .entry)) (now (reals .entry))) (E.bookCall 9 (now (calls .entry)) (places (slices (now (pins .entry)) (now (levels .entry)) (now (cycles .entry)))))) r (now (words .entry)) (now (words .exit)) (now (reals .entry)) (now (reals .exit)) ⌝ }
-    ensures { λ r. ⌜ Holds (step (view (now (words .entry)) (now (reals .entry))) (E.bookCall 9 (now (calls .entry)) (places (slices (now (pins .entry)) (now (levels .entry)) (now (cycles .entry))))) .entries) (slices (now (pins .entry)) (now (levels .entry)) (now (cycles .entry))) (slices (now (pins .exit)) (now (levels .exit)) (now (cycles .exit))) (r .count) ⌝ }
+    ensures { λ r. ⌜ Answers (step (view (now (words .entry)) (now (reals .entry))) (E.bookCall 9 (now (calls .entry)) (places (slices (now (pins .entry)) (now (levels .entry)) (now (cycles .entry)) (now (sources .entry)))))) r (now (words .entry)) (now (words .exit)) (now (reals .entry)) (now (reals .exit)) ⌝ }
+    ensures { λ r. ⌜ Holds (step (view (now (words .entry)) (now (reals .entry))) (E.bookCall 9 (now (calls .entry)) (places (slices (now (pins .entry)) (now (levels .entry)) (now (cycles .entry)) (now (sources .entry))))) .entries) (slices (now (pins .entry)) (now (levels .entry)) (now (cycles .entry)) (now (sources .entry))) (slices (now (pins .exit)) (now (levels .exit)) (now (cycles .exit)) (now (sources .exit))) (r .count) ⌝ }
 {
     let timer = encoding::word(calls, 1);
     let cycle = encoding::word64(calls, 2);
-    mmio::reset(words, reals, pins, levels, cycles, timer, cycle)
+    mmio::reset(words, reals, pins, levels, cycles, sources, timer, cycle)
 }
 
 fn deliver(
@@ -241,13 +259,14 @@ fn deliver(
     pins: &mut [u8],
     levels: &mut [u8],
     cycles: &mut [u64],
+    sources: &mut [u8],
 ) -> Answer
-    ensures { λ r. ⌜ Answers (step (view (now (words .entry)) (now (reals .entry))) (E.bookCall 10 (now (calls .entry)) (places (slices (now (pins .entry)) (now (levels .entry)) (now (cycles .entry)))))) r (now (words .entry)) (now (words .exit)) (now (reals .entry)) (now (reals .exit)) ⌝ }
-    ensures { λ r. ⌜ Holds (step (view (now (words .entry)) (now (reals .entry))) (E.bookCall 10 (now (calls .entry)) (places (slices (now (pins .entry)) (now (levels .entry)) (now (cycles .entry))))) .entries) (slices (now (pins .entry)) (now (levels .entry)) (now (cycles .entry))) (slices (now (pins .exit)) (now (levels .exit)) (now (cycles .exit))) (r .count) ⌝ }
+    ensures { λ r. ⌜ Answers (step (view (now (words .entry)) (now (reals .entry))) (E.bookCall 10 (now (calls .entry)) (places (slices (now (pins .entry)) (now (levels .entry)) (now (cycles .entry)) (now (sources .entry)))))) r (now (words .entry)) (now (words .exit)) (now (reals .entry)) (now (reals .exit)) ⌝ }
+    ensures { λ r. ⌜ Holds (step (view (now (words .entry)) (now (reals .entry))) (E.bookCall 10 (now (calls .entry)) (places (slices (now (pins .entry)) (now (levels .entry)) (now (cycles .entry)) (now (sources .entry))))) .entries) (slices (now (pins .entry)) (now (levels .entry)) (now (cycles .entry)) (now (sources .entry))) (slices (now (pins .exit)) (now (levels .exit)) (now (cycles .exit)) (now (sources .exit))) (r .count) ⌝ }
 {
     let timer = encoding::word(calls, 1);
     let cycle = encoding::word64(calls, 2);
-    mmio::deliver(words, reals, pins, levels, cycles, timer, cycle)
+    mmio::deliver(words, reals, pins, levels, cycles, sources, timer, cycle)
 }
 
 fn book_call(
@@ -257,18 +276,19 @@ fn book_call(
     pins: &mut [u8],
     levels: &mut [u8],
     cycles: &mut [u64],
+    sources: &mut [u8],
     op: u32,
 ) -> Answer
-    ensures { λ r. ⌜ Answers (step (view (now (words .entry)) (now (reals .entry))) (E.bookCall op (now (calls .entry)) (places (slices (now (pins .entry)) (now (levels .entry)) (now (cycles .entry)))))) r (now (words .entry)) (now (words .exit)) (now (reals .entry)) (now (reals .exit)) ⌝ }
-    ensures { λ r. ⌜ Holds (step (view (now (words .entry)) (now (reals .entry))) (E.bookCall op (now (calls .entry)) (places (slices (now (pins .entry)) (now (levels .entry)) (now (cycles .entry))))) .entries) (slices (now (pins .entry)) (now (levels .entry)) (now (cycles .entry))) (slices (now (pins .exit)) (now (levels .exit)) (now (cycles .exit))) (r .count) ⌝ }
+    ensures { λ r. ⌜ Answers (step (view (now (words .entry)) (now (reals .entry))) (E.bookCall op (now (calls .entry)) (places (slices (now (pins .entry)) (now (levels .entry)) (now (cycles .entry)) (now (sources .entry)))))) r (now (words .entry)) (now (words .exit)) (now (reals .entry)) (now (reals .exit)) ⌝ }
+    ensures { λ r. ⌜ Holds (step (view (now (words .entry)) (now (reals .entry))) (E.bookCall op (now (calls .entry)) (places (slices (now (pins .entry)) (now (levels .entry)) (now (cycles .entry)) (now (sources .entry))))) .entries) (slices (now (pins .entry)) (now (levels .entry)) (now (cycles .entry)) (now (sources .entry))) (slices (now (pins .exit)) (now (levels .exit)) (now (cycles .exit)) (now (sources .exit))) (r .count) ⌝ }
 {
     match op {
-        3 => set_pin(words, reals, calls, pins, levels, cycles),
-        4 => drive_pin(words, reals, calls, pins, levels, cycles),
-        5 => reset_pins(words, reals, calls, pins, levels, cycles),
-        7 => write(words, reals, calls, pins, levels, cycles),
-        9 => reset(words, reals, calls, pins, levels, cycles),
-        _ => deliver(words, reals, calls, pins, levels, cycles),
+        3 => set_pin(words, reals, calls, pins, levels, cycles, sources),
+        4 => drive_pin(words, reals, calls, pins, levels, cycles, sources),
+        5 => reset_pins(words, reals, calls, pins, levels, cycles, sources),
+        7 => write(words, reals, calls, pins, levels, cycles, sources),
+        9 => reset(words, reals, calls, pins, levels, cycles, sources),
+        _ => deliver(words, reals, calls, pins, levels, cycles, sources),
     }
 }
 
@@ -281,14 +301,15 @@ fn perform(
     pins: &mut [u8],
     levels: &mut [u8],
     cycles: &mut [u64],
+    sources: &mut [u8],
 ) -> Answer
     requires { ⌜ E.sizeOf (E.word (now calls) 0) (now calls) ≤ length (now calls) ⌝ }
-    ensures { λ r. ⌜ Answers (step (view (now (words .entry)) (now (reals .entry))) (E.callWith (now (calls .entry)) (places (slices (now (pins .entry)) (now (levels .entry)) (now (cycles .entry)))))) r (now (words .entry)) (now (words .exit)) (now (reals .entry)) (now (reals .exit)) ⌝ }
-    ensures { λ r. ⌜ Holds (step (view (now (words .entry)) (now (reals .entry))) (E.callWith (now (calls .entry)) (places (slices (now (pins .entry)) (now (levels .entry)) (now (cycles .entry))))) .entries) (slices (now (pins .entry)) (now (levels .entry)) (now (cycles .entry))) (slices (now (pins .exit)) (now (levels .exit)) (now (cycles .exit))) (r .count) ⌝ }
+    ensures { λ r. ⌜ Answers (step (view (now (words .entry)) (now (reals .entry))) (E.callWith (now (calls .entry)) (places (slices (now (pins .entry)) (now (levels .entry)) (now (cycles .entry)) (now (sources .entry)))))) r (now (words .entry)) (now (words .exit)) (now (reals .entry)) (now (reals .exit)) ⌝ }
+    ensures { λ r. ⌜ Holds (step (view (now (words .entry)) (now (reals .entry))) (E.callWith (now (calls .entry)) (places (slices (now (pins .entry)) (now (levels .entry)) (now (cycles .entry)) (now (sources .entry))))) .entries) (slices (now (pins .entry)) (now (levels .entry)) (now (cycles .entry)) (now (sources .entry))) (slices (now (pins .exit)) (now (levels .exit)) (now (cycles .exit)) (now (sources .exit))) (r .count) ⌝ }
 {
     let op = encoding::word(calls, 0);
     if encoding::has_book(op) {
-        return book_call(words, reals, calls, pins, levels, cycles, op);
+        return book_call(words, reals, calls, pins, levels, cycles, sources, op);
     }
     if encoding::is_change(op) {
         return change(words, reals, calls, op);
@@ -313,13 +334,14 @@ fn perform_at(
     pins: &mut [u8],
     levels: &mut [u8],
     cycles: &mut [u64],
+    sources: &mut [u8],
     at: usize,
     end: usize,
 ) -> Answer
     requires { ⌜ E.sizeOf (E.word (now calls) 0) (now calls) ≤ length (now calls) ⌝ }
-    requires { ⌜ (at + E.bookOf (now calls) ≡ end) × Room end (slices (now pins) (now levels) (now cycles)) ⌝ }
+    requires { ⌜ (at + E.bookOf (now calls) ≡ end) × Room end (slices (now pins) (now levels) (now cycles) (now sources)) ⌝ }
     ensures { λ r. ⌜ Answers (step (view (now (words .entry)) (now (reals .entry))) (E.callOf (now (calls .entry)))) r (now (words .entry)) (now (words .exit)) (now (reals .entry)) (now (reals .exit)) ⌝ }
-    ensures { λ r. ⌜ book (slices (now (pins .exit)) (now (levels .exit)) (now (cycles .exit))) (at + r .count) ≡ puts (book (slices (now (pins .entry)) (now (levels .entry)) (now (cycles .entry))) at) (step (view (now (words .entry)) (now (reals .entry))) (E.callOf (now (calls .entry))) .entries) ⌝ }
+    ensures { λ r. ⌜ book (slices (now (pins .exit)) (now (levels .exit)) (now (cycles .exit)) (now (sources .exit))) (at + r .count) ≡ puts (book (slices (now (pins .entry)) (now (levels .entry)) (now (cycles .entry)) (now (sources .entry))) at) (step (view (now (words .entry)) (now (reals .entry))) (E.callOf (now (calls .entry))) .entries) ⌝ }
 {
     perform(
         words,
@@ -328,6 +350,7 @@ fn perform_at(
         &mut pins[at..end],
         &mut levels[at..end],
         &mut cycles[at..end],
+        &mut sources[at..end],
     )
 }
 
@@ -350,17 +373,18 @@ fn perform_call(
     pins: &mut [u8],
     levels: &mut [u8],
     cycles: &mut [u64],
+    sources: &mut [u8],
     i: usize,
     at: usize,
     end: usize,
 ) -> usize
     requires { ⌜ E.sizeOf (E.word (now calls) 0) (now calls) ≤ length (now calls) ⌝ }
     requires { ⌜ i + 3 ≤ length (now answers) ⌝ }
-    requires { ⌜ (at + E.bookOf (now calls) ≡ end) × Room end (slices (now pins) (now levels) (now cycles)) ⌝ }
+    requires { ⌜ (at + E.bookOf (now calls) ≡ end) × Room end (slices (now pins) (now levels) (now cycles) (now sources)) ⌝ }
     ensures { λ r. ⌜ r ≡ length (step (view (now (words .entry)) (now (reals .entry))) (E.callOf (now (calls .entry))) .entries) ⌝ }
-    ensures { λ r. ⌜ Does (step (view (now (words .entry)) (now (reals .entry))) (E.callOf (now (calls .entry)))) (view (now (words .exit)) (now (reals .exit))) i (now (answers .entry)) (now (answers .exit)) (book (slices (now (pins .entry)) (now (levels .entry)) (now (cycles .entry))) at) (book (slices (now (pins .exit)) (now (levels .exit)) (now (cycles .exit))) (at + r)) ⌝ }
+    ensures { λ r. ⌜ Does (step (view (now (words .entry)) (now (reals .entry))) (E.callOf (now (calls .entry)))) (view (now (words .exit)) (now (reals .exit))) i (now (answers .entry)) (now (answers .exit)) (book (slices (now (pins .entry)) (now (levels .entry)) (now (cycles .entry)) (now (sources .entry))) at) (book (slices (now (pins .exit)) (now (levels .exit)) (now (cycles .exit)) (now (sources .exit))) (at + r)) ⌝ }
 {
-    let r = perform_at(words, reals, calls, pins, levels, cycles, at, end);
+    let r = perform_at(words, reals, calls, pins, levels, cycles, sources, at, end);
     put_answer(answers, i, r);
     r.count as usize
 }
@@ -382,10 +406,11 @@ pub fn run_calls(
     pins: &mut [u8],
     levels: &mut [u8],
     cycles: &mut [u64],
+    sources: &mut [u8],
 ) -> Ran
-    ensures { λ r. ⌜ Performs (now (calls .entry)) (now (words .entry)) (now (words .exit)) (now (reals .entry)) (now (reals .exit)) (now (answers .entry)) (now (answers .exit)) (slices (now (pins .entry)) (now (levels .entry)) (now (cycles .entry))) (slices (now (pins .exit)) (now (levels .exit)) (now (cycles .exit))) r ⌝ }
+    ensures { λ r. ⌜ Performs (now (calls .entry)) (now (words .entry)) (now (words .exit)) (now (reals .entry)) (now (reals .exit)) (now (answers .entry)) (now (answers .exit)) (slices (now (pins .entry)) (now (levels .entry)) (now (cycles .entry)) (now (sources .entry))) (slices (now (pins .exit)) (now (levels .exit)) (now (cycles .exit)) (now (sources .exit))) r ⌝ }
 {
-    let room = book::room(pins, levels, cycles);
+    let room = book::room(pins, levels, cycles, sources);
     let size = answers.len();
     let mut at: usize = 0;
     let mut done: usize = 0;
@@ -410,6 +435,7 @@ pub fn run_calls(
             pins,
             levels,
             cycles,
+            sources,
             i,
             entries,
             end,

@@ -1,8 +1,8 @@
--- A pin as 16 words and two floats: one word for each field, in the order of the struct's fields. Every content of the words is a value
--- in range: a word counts by its remainder. No word is spare.
+-- A pin as 16 words and two floats: one word for each field, in the order of the struct's fields; the source is in the level's word. Every content of
+-- the words is a value in range: a word counts by its remainder. No word is spare.
 use mathlib.Core.Bool.{Bool, cond}
 use mathlib.Core.List.{List, [], _∷_}
-use Prim.Native.Nat.{ℕ, _+_, _%_}
+use Prim.Native.Nat.{ℕ, _+_, _/_, _%_}
 use lib.Dec.{eqb}
 use lib.ListN.{getD}
 use lib.Ieee.{Float}
@@ -19,6 +19,10 @@ u8At b k = getD b k 0 % 256
 
 abbrev pub u1At : List ℕ → ℕ → ℕ
 u1At b k = getD b k 0 % 2
+
+-- the source, above the level's bit: 1, 2, 3, and 4 for 0, so that zeroed memory and a state without sources are only held
+abbrev pub sourceAt : List ℕ → ℕ → ℕ
+sourceAt b k = (getD b k 0 / 2 % 4 + 3) % 4 + 1
 
 abbrev pub flagAt : List ℕ → ℕ → Bool
 flagAt b k = eqb (getD b k 0 % 2) 1
@@ -58,6 +62,6 @@ extVolts (ext.Analog x) = x
 unfoldable pub decodeGpio : List ℕ → Float → Float → Gpio
 decodeGpio b volts x = record {
   cfg = cfgAt b 0;
-  pin = record { mcu = mcuAt b 5; ext = extOf (getD b 13 0 % 4) x; level = u1At b 14; volts = volts };
+  pin = record { mcu = mcuAt b 5; ext = extOf (getD b 13 0 % 4) x; level = u1At b 14; volts = volts; source = sourceAt b 14 };
   sig = u8At b 15;
 }

@@ -324,6 +324,7 @@ pub fn unpack_gpio(b: [u64; 16], volts: f64, ext: f64) -> Gpio
             ext: ext_of(b[13] % 4, ext),
             level: (b[14] % 2) as u8,
             volts,
+            source: ((b[14] / 2 % 4 + 3) % 4 + 1) as u8,
         },
         sig: (b[15] % 256) as u32,
     }
@@ -383,7 +384,7 @@ pub fn pack_gpio(g: Gpio) -> [u64; 16]
         mcu[6],
         mcu[7],
         ext,
-        p.level as u64,
+        p.level as u64 + 2 * (p.source as u64 % 4),
         g.sig as u64,
     ]
 }

@@ -15,7 +15,7 @@ use Rattle.real.specs.Real.{bitsOf}
 use Rattle.gpio.specs.declared.Gpio.{Gpio}
 use Rattle.machine.specs.Board.{Board, gpioAt, withNvic}
 use Rattle.machine.specs.Call.{Outcome, served, enable, queryBooked, queryNext, queryLevel, queryVolts, queryLine, queryTime, clearPending}
-use Rattle.machine.specs.Step.{step, refuseIf, cycleAstray}
+use Rattle.machine.specs.Step.{step, refuseIf, cycleAstray, levelQuery}
 use Rattle.state.specs.Board.{bookedAt, withEnr}
 use Rattle.state.specs.View.{view}
 use Rattle.answer.specs.declared.Answer.{Answer}
@@ -59,10 +59,10 @@ module _ (w : List ℕ) (x : List Float) (r : Answer) where
   unfolding step
   no-level n i k h e = turned _ 2 _ (missing n _ i k h) e
 
-  pub level-told : (n i : ℕ) (g : Gpio) → n ≡ view w x .counts .pins → i < n → g ≡ gpioAt (view w x .pads) i → r ≡ answer 0 (g .pin .level) 0
+  pub level-told : (n i : ℕ) (g : Gpio) → n ≡ view w x .counts .pins → i < n → g ≡ gpioAt (view w x .pads) i → r ≡ answer 0 (levelQuery (g .pin)) 0
       → Answers (step (view w x) (queryLevel i)) r w w x x
   unfolding step
-  level-told n i g k h l e = passed _ 2 (g .pin .level) _ (found n _ i k h) (ap (λ (y : Gpio). y .pin .level) l) e
+  level-told n i g k h l e = passed _ 2 (levelQuery (g .pin)) _ (found n _ i k h) (ap (λ (y : Gpio). levelQuery (y .pin)) l) e
 
   pub no-volts : (n i : ℕ) → n ≡ view w x .counts .pins → n ≤ i → r ≡ answer 2 0 0 → Answers (step (view w x) (queryVolts i)) r w w x x
   unfolding step

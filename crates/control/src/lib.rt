@@ -29,7 +29,7 @@ pub fn next_booked(words: &[u64; WORDS], reals: &[f64; REALS]) -> Answer
     answer::served(next)
 }
 
-// A pin's level.
+// A pin's level, and above it who holds it: level + 2 × source.
 pub fn level(words: &[u64; WORDS], reals: &[f64; REALS], pin: u32) -> Answer
     ensures { λ r. ⌜ Answers (step (view (now (words .entry)) (now (reals .entry))) (C.queryLevel pin)) r (now (words .entry)) (now (words .entry)) (now (reals .entry)) (now (reals .entry)) ⌝ }
 {
@@ -38,7 +38,7 @@ pub fn level(words: &[u64; WORDS], reals: &[f64; REALS], pin: u32) -> Answer
         return answer::refused(2);
     }
     let g = state::load_gpio(words, reals, i);
-    answer::served(g.pin.level as u64)
+    answer::served(g.pin.level as u64 + 2 * g.pin.source as u64)
 }
 
 // The bits of a pin's volts.

@@ -122,21 +122,36 @@ fn drive_four(
     pins: &mut [u8],
     levels: &mut [u8],
     cycles: &mut [u64],
+    sources: &mut [u8],
     k: usize,
     t: Timer,
     cnt: u32,
     at: u64,
 ) -> usize
     requires { ⌜ (2 ≤ t .inst .n) × (t .inst .n ≤ 4) ⌝ }
-    requires { ⌜ Room (k + 4) (slices (now pins) (now levels) (now cycles)) ⌝ }
-    ensures { λ r. ⌜ Driven (driveOutputs t cnt (view (now (words .entry)) (now (reals .entry)) .pads)) at (view (now (words .entry)) (now (reals .entry))) (view (now (words .exit)) (now (reals .exit))) (book (slices (now (pins .entry)) (now (levels .entry)) (now (cycles .entry))) k) (book (slices (now (pins .exit)) (now (levels .exit)) (now (cycles .exit))) r) ⌝ }
+    requires { ⌜ Room (k + 4) (slices (now pins) (now levels) (now cycles) (now sources)) ⌝ }
+    ensures { λ r. ⌜ Driven (driveOutputs t cnt (view (now (words .entry)) (now (reals .entry)) .pads)) at (view (now (words .entry)) (now (reals .entry))) (view (now (words .exit)) (now (reals .exit))) (book (slices (now (pins .entry)) (now (levels .entry)) (now (cycles .entry)) (now (sources .entry))) k) (book (slices (now (pins .exit)) (now (levels .exit)) (now (cycles .exit)) (now (sources .exit))) r) ⌝ }
     ensures { λ r. ⌜ r ≤ k + 4 ⌝ }
 {
     let s = sig::tim(t.inst.n as u8, 0) as usize;
     let x = t.inst.channels;
     let l = t.output(0, cnt);
     let l1 = t.output(1, cnt);
-    let m = outputs::drive_two(words, reals, pins, levels, cycles, k, x, 0, s, l, l1, at);
+    let m = outputs::drive_two(
+        words,
+        reals,
+        pins,
+        levels,
+        cycles,
+        sources,
+        k,
+        x,
+        0,
+        s,
+        l,
+        l1,
+        at,
+    );
     let l2 = t.output(2, cnt);
     let l3 = t.output(3, cnt);
     outputs::drive_two(
@@ -145,6 +160,7 @@ fn drive_four(
         pins,
         levels,
         cycles,
+        sources,
         m,
         x,
         2,
@@ -162,14 +178,15 @@ fn drive(
     pins: &mut [u8],
     levels: &mut [u8],
     cycles: &mut [u64],
+    sources: &mut [u8],
     n: usize,
     t: Timer,
     e: Next,
     at: u64,
 ) -> usize
     requires { ⌜ OfFour e ⌝ }
-    requires { ⌜ Room (n + 4) (slices (now pins) (now levels) (now cycles)) ⌝ }
-    ensures { λ r. ⌜ Driven (driveOutputs t (countAt t e) (view (now (words .entry)) (now (reals .entry)) .pads)) at (view (now (words .entry)) (now (reals .entry))) (view (now (words .exit)) (now (reals .exit))) (book (slices (now (pins .entry)) (now (levels .entry)) (now (cycles .entry))) n) (book (slices (now (pins .exit)) (now (levels .exit)) (now (cycles .exit))) r) ⌝ }
+    requires { ⌜ Room (n + 4) (slices (now pins) (now levels) (now cycles) (now sources)) ⌝ }
+    ensures { λ r. ⌜ Driven (driveOutputs t (countAt t e) (view (now (words .entry)) (now (reals .entry)) .pads)) at (view (now (words .entry)) (now (reals .entry))) (view (now (words .exit)) (now (reals .exit))) (book (slices (now (pins .entry)) (now (levels .entry)) (now (cycles .entry)) (now (sources .entry))) n) (book (slices (now (pins .exit)) (now (levels .exit)) (now (cycles .exit)) (now (sources .exit))) r) ⌝ }
     ensures { λ r. ⌜ r ≤ n + 4 ⌝ }
 {
     if t.inst.n < 2 {
@@ -179,7 +196,7 @@ fn drive(
         return n;
     }
     let cnt = count_at(t, e);
-    drive_four(words, reals, pins, levels, cycles, n, t, cnt, at)
+    drive_four(words, reals, pins, levels, cycles, sources, n, t, cnt, at)
 }
 
 // The next event and its steps. It and `due_of` are tim's own, written out here: so they are compiled into the loop, and the timer stays in
@@ -225,15 +242,16 @@ fn run(
     pins: &mut [u8],
     levels: &mut [u8],
     cycles: &mut [u64],
+    sources: &mut [u8],
     timer: Timer,
     div: u32,
     cycle: u64,
 ) -> Ran
     requires { ⌜ (Fit timer) × (1 ≤ div) × (div ≤ 8192) × (cycle < 9223372036854775808) ⌝ }
-    ensures { λ r. ⌜ Ends (handled mostEvents cycle div (places (slices (now (pins .entry)) (now (levels .entry)) (now (cycles .entry)))) timer (view (now (words .entry)) (now (reals .entry)) .pads)) (view (now (words .entry)) (now (reals .entry))) (view (now (words .exit)) (now (reals .exit))) (book (slices (now (pins .entry)) (now (levels .entry)) (now (cycles .entry))) 0) (book (slices (now (pins .exit)) (now (levels .exit)) (now (cycles .exit))) (r .count)) r ⌝ }
-    ensures { λ r. ⌜ (Fit (r .timer)) × (r .due ≡ nextEvent (r .timer)) × (Room (r .count) (slices (now (pins .entry)) (now (levels .entry)) (now (cycles .entry)))) × (r .count ≤ 400004) ⌝ }
+    ensures { λ r. ⌜ Ends (handled mostEvents cycle div (places (slices (now (pins .entry)) (now (levels .entry)) (now (cycles .entry)) (now (sources .entry)))) timer (view (now (words .entry)) (now (reals .entry)) .pads)) (view (now (words .entry)) (now (reals .entry))) (view (now (words .exit)) (now (reals .exit))) (book (slices (now (pins .entry)) (now (levels .entry)) (now (cycles .entry)) (now (sources .entry))) 0) (book (slices (now (pins .exit)) (now (levels .exit)) (now (cycles .exit)) (now (sources .exit))) (r .count)) r ⌝ }
+    ensures { λ r. ⌜ (Fit (r .timer)) × (r .due ≡ nextEvent (r .timer)) × (Room (r .count) (slices (now (pins .entry)) (now (levels .entry)) (now (cycles .entry)) (now (sources .entry)))) × (r .count ≤ 400004) ⌝ }
 {
-    let room = book::room(pins, levels, cycles);
+    let room = book::room(pins, levels, cycles, sources);
     let mut t = timer;
     let mut events: u64 = 0;
     let mut count: usize = 0;
@@ -259,7 +277,7 @@ fn run(
             };
         }
         t = apply(t, e, at, div);
-        count = drive(words, reals, pins, levels, cycles, count, t, e, at);
+        count = drive(words, reals, pins, levels, cycles, sources, count, t, e, at);
         events += 1;
     }
 }
@@ -282,16 +300,17 @@ pub fn deliver(
     pins: &mut [u8],
     levels: &mut [u8],
     cycles: &mut [u64],
+    sources: &mut [u8],
     i: usize,
     cycle: u64,
 ) -> Delivered
     requires { ⌜ (i < 8) × (cycle < 9223372036854775808) ⌝ }
-    ensures { λ r. ⌜ Delivers (delivered (view (now (words .entry)) (now (reals .entry))) i cycle (places (slices (now (pins .entry)) (now (levels .entry)) (now (cycles .entry))))) (view (now (words .entry)) (now (reals .entry))) i cycle (view (now (words .exit)) (now (reals .exit))) r (slices (now (pins .entry)) (now (levels .entry)) (now (cycles .entry))) (slices (now (pins .exit)) (now (levels .exit)) (now (cycles .exit))) ⌝ }
+    ensures { λ r. ⌜ Delivers (delivered (view (now (words .entry)) (now (reals .entry))) i cycle (places (slices (now (pins .entry)) (now (levels .entry)) (now (cycles .entry)) (now (sources .entry))))) (view (now (words .entry)) (now (reals .entry))) i cycle (view (now (words .exit)) (now (reals .exit))) r (slices (now (pins .entry)) (now (levels .entry)) (now (cycles .entry)) (now (sources .entry))) (slices (now (pins .exit)) (now (levels .exit)) (now (cycles .exit)) (now (sources .exit))) ⌝ }
     ensures { λ r. ⌜ r .count ≤ 400004 ⌝ }
 {
     let t = state::load_timer(words, i);
     let div = context::divider(words, reals, t);
-    let r = run(words, reals, pins, levels, cycles, t, div, cycle);
+    let r = run(words, reals, pins, levels, cycles, sources, t, div, cycle);
     let s = r.timer;
     let due = r.due;
     store(words, i, s, r.events);

@@ -14,7 +14,7 @@ use Rattle.gpio.specs.declared.Moved.{Moved}
 use Rattle.gpio.specs.Gpio.{signalOf, drives, sideOf, changed, updated, refreshed, isPushPull, pushPull, changeOf}
 
 -- the change is that of the level
-pub level-change : (i : ℕ) (g : Gpio) (level : ℕ) (vcc : Float) → refreshed i g level vcc .change ≡ changed i (g .pin .level) (refreshed i g level vcc .gpio .pin .level)
+pub level-change : (i : ℕ) (g : Gpio) (level : ℕ) (vcc : Float) → refreshed i g level vcc .change ≡ changed i (g .pin .level) (refreshed i g level vcc .gpio .pin .level) (refreshed i g level vcc .gpio .pin .source)
 unfolding refreshed updated
 level-change i g level vcc = refl
 
@@ -49,10 +49,12 @@ module _ (g : Gpio) (h : isPushPull (g .cfg) ≡ true) where
   signal-wins d i level vcc = rw (mode, d, closed)
 
 -- a change comes back from its number
-pub change-back : (p l : ℕ) → p < 256 → l < 256 → changeOf (1 + (p * 256 + l)) ≡ Level p l
+pub change-back : (p l s : ℕ) → p < 256 → l < 256 → s < 256 → changeOf (1 + ((p * 256 + l) * 256 + s)) ≡ Level p l s
 unfolding changeOf
-change-back p l h k =
-    let n : eqb (1 + (p * 256 + l)) 0 ≡ false = ne-eqb (1 + (p * 256 + l)) 0 (λ e. omega arith) in
-    let a : (1 + (p * 256 + l) - 1) / 256 % 256 ≡ p = omega arith in
-    let b : (1 + (p * 256 + l) - 1) % 256 ≡ l = omega arith in
-    rw (n, a, b)
+change-back p l s h k j =
+    let m : ℕ = (p * 256 + l) * 256 + s in
+    let n : eqb (1 + m) 0 ≡ false = ne-eqb (1 + m) 0 (λ e. omega arith) in
+    let a : (1 + m - 1) / 65536 % 256 ≡ p = omega arith in
+    let b : (1 + m - 1) / 256 % 256 ≡ l = omega arith in
+    let c : (1 + m - 1) % 256 ≡ s = omega arith in
+    rw (n, a, b, c)

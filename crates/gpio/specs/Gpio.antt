@@ -6,7 +6,7 @@ use lib.Ieee as Ieee
 use Rattle.pins.specs.declared.Pin.{Pin}
 use Rattle.pins.specs.declared.Mcu.{Mcu}
 use Rattle.pins.specs.declared.ExtDrive.{ExtDrive}
-use Rattle.pins.specs.Pins.{resolved, supplyAt}
+use Rattle.pins.specs.Pins.{byChip, resolved, supplyAt}
 use Rattle.gpio.specs.declared.Gpio.{Gpio}
 use Rattle.gpio.specs.declared.PinCfg.{PinCfg}
 use Rattle.sig.specs.Signal.{isInput}
@@ -14,12 +14,14 @@ use Rattle.gpio.specs.declared.Change.{Change}
 use Rattle.gpio.specs.declared.Change.the-variants.{Same, Level}
 use Rattle.gpio.specs.declared.Moved.{Moved}
 
--- the range of a pin: each level is 0 or 1, the signal one of the 256
+-- the range of a pin: each level is 0 or 1, the source one of the four, the signal one of the 256
 pub record GpioFit (g : Gpio) : Type 0 where
   pub odr : g .cfg .odr ≤ 1
   pub out : g .pin .mcu .out ≤ 1
   pub value : g .pin .mcu .«ov_value» ≤ 1
   pub level : g .pin .level ≤ 1
+  pub some-source : 1 ≤ g .pin .source
+  pub source : g .pin .source ≤ 4
   pub sig : g .sig < 256
 
 -- the modes: "A mode above 3 acts as input"
@@ -91,17 +93,18 @@ abbrev pub withPin : Gpio → Pin → Gpio
 withPin g p = record { cfg = g .cfg; pin = p; sig = g .sig }
 
 abbrev pub withMcu : Gpio → Mcu → Gpio
-withMcu g m = withPin g (record { mcu = m; ext = g .pin .ext; level = g .pin .level; volts = g .pin .volts })
+withMcu g m = withPin g (record { mcu = m; ext = g .pin .ext; level = g .pin .level; volts = g .pin .volts; source = g .pin .source })
 
--- "An entry is made exactly when a pin's level changes": the change of pin i from an old level
-abbrev pub changed : ℕ → ℕ → ℕ → Change
-changed i old new = cond (eqb new old) Same (Level i new)
+-- "An entry is made exactly when a pin's level changes", "A change of source alone makes no entry": the change of pin i from an old level to a new
+-- one, which a source gives it
+abbrev pub changed : ℕ → ℕ → ℕ → ℕ → Change
+changed i old new source = cond (eqb new old) Same (Level i new source)
 
 -- a pin resolved at the supply, and its change
 unfoldable pub updated : ℕ → Gpio → Ieee.Float → Moved
 updated i g vcc =
     let p = resolved (g .pin) vcc in
-    record { gpio = withPin g p; change = changed i (g .pin .level) (p .level) }
+    record { gpio = withPin g p; change = changed i (g .pin .level) (p .level) (p .source) }
 
 -- the chip's side made anew, then resolved
 unfoldable pub refreshed : ℕ → Gpio → ℕ → Ieee.Float → Moved
@@ -113,7 +116,7 @@ refreshed i g level vcc = updated i (withMcu g (sideOf g level)) vcc
 abbrev pub isPushPull : PinCfg → Bool
 isPushPull c = eqb (c .mode) alternateMode && not (c .«open_drain»)
 
--- such a pin at the level of a signal that drives it, whatever is connected
+-- such a pin at the level of a signal that drives it, whatever is connected: its source is the chip
 unfoldable pub pushPull : Gpio → ℕ → Ieee.Float → Gpio
 pushPull g l vcc = withPin g (record {
   mcu = record {
@@ -129,11 +132,12 @@ pushPull g l vcc = withPin g (record {
   ext = g .pin .ext;
   level = l;
   volts = supplyAt vcc l;
+  source = byChip;
 })
 
--- ---- a change as a number: 0 for none, else one more than 256 times the pin and the level
+-- ---- a change as a number: 0 for none, else one more than the pin, the level and the source as digits of 256
 unfoldable pub changeOf : ℕ → Change
-changeOf n = cond (eqb n 0) Same (Level ((n - 1) / 256 % 256) ((n - 1) % 256))
+changeOf n = cond (eqb n 0) Same (Level ((n - 1) / 65536 % 256) ((n - 1) / 256 % 256) ((n - 1) % 256))
 
 -- another configuration and signal
 abbrev pub configured : Gpio → PinCfg → ℕ → Gpio
@@ -141,4 +145,4 @@ configured g c s = record { cfg = c; pin = g .pin; sig = s }
 
 -- another outside drive
 abbrev pub connected : Gpio → ExtDrive → Gpio
-connected g e = withPin g (record { mcu = g .pin .mcu; ext = e; level = g .pin .level; volts = g .pin .volts })
+connected g e = withPin g (record { mcu = g .pin .mcu; ext = e; level = g .pin .level; volts = g .pin .volts; source = g .pin .source })

@@ -27,8 +27,8 @@ pub struct Gpio {
 // A pin's level change, or none.
 pub enum Change {
     Same,
-    // Pin and level.
-    Level(u8, u8),
+    // Pin, level, and the level's source.
+    Level(u8, u8, u8),
 }
 
 // A pin after its level was resolved, and the change.
@@ -151,14 +151,14 @@ fn with_mcu(mut g: Gpio, m: Mcu) -> Gpio
     g
 }
 
-// The change of pin i from an old level to a new one.
-pub fn changed(i: u8, old: u8, new: u8) -> Change
-    ensures { λ r. ⌜ r ≡ G.changed i old new ⌝ }
+// The change of pin i from an old level to a new one, which a source gives it.
+pub fn changed(i: u8, old: u8, new: u8, source: u8) -> Change
+    ensures { λ r. ⌜ r ≡ G.changed i old new source ⌝ }
 {
     if new == old {
         return Change::Same;
     }
-    Change::Level(i, new)
+    Change::Level(i, new, source)
 }
 
 // A change as a number, 0 for none: a number is handed back in a register, an enum through memory.
@@ -167,7 +167,7 @@ pub fn code_of(c: Change) -> u32
 {
     match c {
         Change::Same => 0,
-        Change::Level(p, l) => 1 + (p as u32 * 256 + l as u32),
+        Change::Level(p, l, s) => 1 + ((p as u32 * 256 + l as u32) * 256 + s as u32),
     }
 }
 
@@ -179,7 +179,11 @@ pub fn change_of(code: u32) -> Change
         return Change::Same;
     }
     let k = code - 1;
-    Change::Level((k / 256 % 256) as u8, (k % 256) as u8)
+    Change::Level(
+        (k / 65536 % 256) as u8,
+        (k / 256 % 256) as u8,
+        (k % 256) as u8,
+    )
 }
 
 // Re-resolves the level of pin i after any change of its inputs.
@@ -187,7 +191,7 @@ pub fn update(i: u8, g: Gpio, vcc: f64) -> Moved
     ensures { λ r. ⌜ r ≡ G.updated i g vcc ⌝ }
 {
     let p = g.pin.resolve(vcc);
-    let change = changed(i, g.pin.level, p.level);
+    let change = changed(i, g.pin.level, p.level, p.source);
     Moved {
         gpio: with_pin(g, p),
         change,
@@ -225,6 +229,7 @@ pub fn connect(g: Gpio, e: ExtDrive) -> Gpio
             ext: e,
             level: p.level,
             volts: p.volts,
+            source: p.source,
         },
     )
 }

@@ -2,7 +2,7 @@
 use mathlib.Core.Path.{_≡_, refl, ap, sym, _∙_}
 use mathlib.Core.Bool.{Bool, true, false, cond}
 use mathlib.Core.List.{List, [], _∷_}
-use Prim.Native.Nat.{ℕ, _+_, _*_, _%_, _<_, _≤_}
+use Prim.Native.Nat.{ℕ, _+_, _*_, _/_, _%_, _<_, _≤_}
 use native.Mathlib.Nat.{zero-add, add-zero, add-assoc}
 use native.Mathlib.Omega.{arith}
 use borrow.Author.Tests.{eqb-true, eqb-false}
@@ -107,7 +107,7 @@ driven up down level =
     ∷ record { place = 10; word = level }
     ∷ record { place = 11; word = 0 }
     ∷ record { place = 12; word = 0 }
-    ∷ record { place = 14; word = level }
+    ∷ record { place = 14; word = level + 2 }
     ∷ []
 
 -- a flag as a word
@@ -124,7 +124,10 @@ decode-driven : (l : List ℕ) (v u vcc : Float) (level : ℕ) → level ≤ 1
 unfolding decodeGpio stored front pushPull
 decode-driven l v u vcc level h =
     let e : level % 2 ≡ level = omega arith in
-    rw (e, flag-word (getD (front 0 16 l) 3 0), flag-word (getD (front 0 16 l) 4 0))
+    let lowest : (level + 2) % 2 ≡ level = omega arith in
+    let one : (level + 2) / 2 ≡ 1 = omega arith in
+    let source : ((level + 2) / 2 % 4 + 3) % 4 + 1 ≡ 1 = ap (λ (n : ℕ). (n % 4 + 3) % 4 + 1) one in
+    rw (e, lowest, source, flag-word (getD (front 0 16 l) 3 0), flag-word (getD (front 0 16 l) 4 0))
 
 module _ (w : List ℕ) (x : List Float) (size : length w ≡ 5276) (reals : length x ≡ 264) (p : ℕ) (h : p < 128) where
   pub driven-set : (level : ℕ) → level ≤ 1 → (v : Float) → v ≡ supplyAt (view w x .pads .vcc) level

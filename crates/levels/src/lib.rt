@@ -21,6 +21,14 @@ pub fn level(words: &[u64; WORDS], p: usize) -> u8
     (words[GPIO + (p * GPIO_WORDS + 14)] % 2) as u8
 }
 
+// Who holds the level.
+pub fn source(words: &[u64; WORDS], p: usize) -> u8
+    requires { ⌜ p < 128 ⌝ }
+    ensures { λ r. ⌜ ((x : List Float) → r ≡ pinAt (view (now (words .entry)) x) p .pin .source) ⌝ }
+{
+    ((words[GPIO + (p * GPIO_WORDS + 14)] / 2 % 4 + 3) % 4 + 1) as u8
+}
+
 // The selected signal.
 pub fn signal(words: &[u64; WORDS], p: usize) -> u32
     requires { ⌜ p < 128 ⌝ }
@@ -51,7 +59,8 @@ fn volts(reals: &[f64; REALS], level: u8) -> f64
     reals[VCC]
 }
 
-// Push-pull pin p at the level of a signal that drives it. What that leaves as it is is not stored.
+// Push-pull pin p at the level of a signal that drives it: the source is the chip, and stands in the level's word. What that leaves as it is is not
+// stored.
 pub fn drive_level(words: &mut [u64; WORDS], reals: &mut [f64; REALS], p: usize, level: u8)
     requires { ⌜ (p < 128) × (level ≤ 1) ⌝ }
     ensures { λ _. ⌜ view (now (words .exit)) (now (reals .exit)) ≡ pinSet (view (now (words .entry)) (now (reals .entry))) p (pushPull (pinAt (view (now (words .entry)) (now (reals .entry))) p) level (view (now (words .entry)) (now (reals .entry)) .pads .vcc)) ⌝ }
@@ -69,6 +78,6 @@ pub fn drive_level(words: &mut [u64; WORDS], reals: &mut [f64; REALS], p: usize,
     words[at + 10] = level as u64;
     words[at + 11] = 0;
     words[at + 12] = 0;
-    words[at + 14] = level as u64;
+    words[at + 14] = level as u64 + 2;
     reals[GPIO_REALS + p * 2] = v;
 }

@@ -39,7 +39,7 @@ every-imp P Q f (x ∷ xs) p = (f x (p .0), every-imp P Q f xs (p .1))
 pub entry-stamped : (at : ℕ) (c : Change) → Every (StampedAt at) (entryOf at c)
 unfolding Every entryOf
 entry-stamped at Same = tt
-entry-stamped at (Level p l) = (refl, tt)
+entry-stamped at (Level p l s) = (refl, tt)
 
 pub entries-stamped : (at : ℕ) (c : Changes) → Every (StampedAt at) (entriesOf at c)
 unfolding entriesOf
@@ -52,7 +52,7 @@ entries-stamped at c =
 pub entry-few : (at : ℕ) (c : Change) → length (entryOf at c) ≤ 1
 unfolding entryOf
 entry-few at Same = lit≤ tt
-entry-few at (Level p l) = lit≤ tt
+entry-few at (Level p l s) = lit≤ tt
 
 pub entries-few : (at : ℕ) (c : Changes) → length (entriesOf at c) ≤ 4
 unfolding entriesOf

@@ -9,3 +9,4 @@ pub mod TraceLaws
 pub mod Routing
 pub mod Reach
 pub mod LineLaws
+pub mod SourceLaws

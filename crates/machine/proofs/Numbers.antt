@@ -18,7 +18,7 @@ use Rattle.machine.specs.Call.{Setup, Call, setUp, setPin, drivePin, del
 use Rattle.real.specs.Real.{positive}
 use Rattle.machine.specs.Step.{step, withinLimits, deliveredTo, cfgOf}
 use Rattle.machine.specs.Refusals.{refusals, order, among, applies, first, ending, lastAfter}
-use Rattle.machine.specs.Demand1.{Unchanged, Numbered, EntriesFit, Every, StampedAt, StampedBy, pinLevel, edgeOf, Traced, stamps, Works, reached, Demand1}
+use Rattle.machine.specs.Demand1.{Unchanged, Numbered, EntriesFit, Every, StampedAt, StampedBy, pinLevel, pinSource, edgeOf, Traced, stamps, Works, reached, Demand1}
 use Rattle.machine.proofs.DeliverLaws.{every-none, turned-cycles}
 use Rattle.machine.proofs.NumberLaws.{Verdict, refuses, passes, no-both, answered, performed, step-given, performed-number, performed-last, performed-few, most-fits, delivered-law}
 use Rattle.machine.proofs.NumberLaws as N
@@ -183,14 +183,14 @@ due-stamped b i cycle places = go (answer b (deliver i cycle places))
 -- ---- pins
 
 pin-edge : (b : Board) (c : Call) (pin cycle : ℕ) → Answer b c
-    → (applies (refusals b c) ≡ false → performed b c .entries ≡ edgeOf pin (pinLevel (b .pads) pin) (pinLevel (performed b c .board .pads) pin) cycle)
-    → step b c .entries ≡ edgeOf pin (pinLevel (b .pads) pin) (pinLevel (step b c .board .pads) pin) cycle
+    → (applies (refusals b c) ≡ false → performed b c .entries ≡ edgeOf pin (pinLevel (b .pads) pin) (pinLevel (performed b c .board .pads) pin) (pinSource (performed b c .board .pads) pin) cycle)
+    → step b c .entries ≡ edgeOf pin (pinLevel (b .pads) pin) (pinLevel (step b c .board .pads) pin) (pinSource (step b c .board .pads) pin) cycle
 pin-edge b c pin cycle (turned-away u f a k) g = rw (k .entries, k .board, eq-eqb (pinLevel (b .pads) pin) (pinLevel (b .pads) pin) refl) refl
 pin-edge b c pin cycle (done a e z) f = rw e (f a)
 
 performed-set : (b : Board) (pin mode openDrain out pullup pulldown function cycle places : ℕ) → Placed b
     → let c = setPin pin mode openDrain out pullup pulldown function cycle places in
-    applies (refusals b c) ≡ false → performed b c .entries ≡ edgeOf pin (pinLevel (b .pads) pin) (pinLevel (performed b c .board .pads) pin) cycle
+    applies (refusals b c) ≡ false → performed b c .entries ≡ edgeOf pin (pinLevel (b .pads) pin) (pinLevel (performed b c .board .pads) pin) (pinSource (performed b c .board .pads) pin) cycle
 unfolding performed refusals
 performed-set b pin mode openDrain out pullup pulldown function cycle places s a =
     set-edge (b .pads) pin (cfgOf mode openDrain out pullup pulldown) function cycle
@@ -198,7 +198,7 @@ performed-set b pin mode openDrain out pullup pulldown function cycle places s a
 
 performed-drive : (b : Board) (pin : ℕ) (e : ExtDrive) (cycle places : ℕ) → Placed b
     → let c = drivePin pin e cycle places in
-    applies (refusals b c) ≡ false → performed b c .entries ≡ edgeOf pin (pinLevel (b .pads) pin) (pinLevel (performed b c .board .pads) pin) cycle
+    applies (refusals b c) ≡ false → performed b c .entries ≡ edgeOf pin (pinLevel (b .pads) pin) (pinLevel (performed b c .board .pads) pin) (pinSource (performed b c .board .pads) pin) cycle
 unfolding performed refusals
 performed-drive b pin e cycle places s a =
     drive-edge (b .pads) pin e cycle (omega (arith, s .pins, N.here pin (b .counts .pins) _ a))
@@ -207,13 +207,13 @@ performed-drive b pin e cycle places s a =
 -- call's cycle
 pub set-pin-entries : (b : Board) (pin mode openDrain out pullup pulldown function cycle places : ℕ) → Placed b
     → let o = step b (setPin pin mode openDrain out pullup pulldown function cycle places) in
-    o .entries ≡ edgeOf pin (pinLevel (b .pads) pin) (pinLevel (o .board .pads) pin) cycle
+    o .entries ≡ edgeOf pin (pinLevel (b .pads) pin) (pinLevel (o .board .pads) pin) (pinSource (o .board .pads) pin) cycle
 set-pin-entries b pin mode openDrain out pullup pulldown function cycle places s =
     let c = setPin pin mode openDrain out pullup pulldown function cycle places in
     pin-edge b c pin cycle (answer b c) (λ a. performed-set b pin mode openDrain out pullup pulldown function cycle places s a)
 
 pub drive-pin-entries : (b : Board) (pin : ℕ) (e : ExtDrive) (cycle places : ℕ) → Placed b
-    → let o = step b (drivePin pin e cycle places) in o .entries ≡ edgeOf pin (pinLevel (b .pads) pin) (pinLevel (o .board .pads) pin) cycle
+    → let o = step b (drivePin pin e cycle places) in o .entries ≡ edgeOf pin (pinLevel (b .pads) pin) (pinLevel (o .board .pads) pin) (pinSource (o .board .pads) pin) cycle
 drive-pin-entries b pin e cycle places s =
     let c = drivePin pin e cycle places in pin-edge b c pin cycle (answer b c) (λ a. performed-drive b pin e cycle places s a)
 

@@ -530,7 +530,7 @@ spared-append p (x ∷ xs) ys h k = (h .0, spared-append p xs ys (h .1) k)
 pub spared-entry : (p cycle : ℕ) (c : Change) → Elsewhere p c → Spared p (entryOf cycle c)
 unfolding entryOf
 spared-entry p cycle Same h = tt
-spared-entry p cycle (Level q l) h = (h, tt)
+spared-entry p cycle (Level q l s) h = (h, tt)
 
 pub spared-entries : (s p cycle : ℕ) (pads : Pads) (d : Sys.Drive) → SparesAll s p pads d → Spared p (entriesOf cycle (d .changes))
 unfolding entriesOf

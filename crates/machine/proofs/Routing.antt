@@ -87,7 +87,8 @@ refreshed-showing i g vcc s l m e =
 signal-of : (g : Gpio) (s : ℕ) → g .cfg .mode ≡ alternateMode → g .sig ≡ s → signalOf g ≡ s
 signal-of g s m e = rw (m, e)
 
-updated-level : (i : ℕ) (g : Gpio) (vcc : Float) (l : ℕ) → updated i g vcc .gpio .pin .level ≡ l → updated i g vcc .change ≡ changed i (g .pin .level) l
+updated-level : (i : ℕ) (g : Gpio) (vcc : Float) (l : ℕ) → updated i g vcc .gpio .pin .level ≡ l
+    → updated i g vcc .change ≡ changed i (g .pin .level) l (updated i g vcc .gpio .pin .source)
 unfolding updated
 updated-level i g vcc l e = rw e
 
@@ -621,18 +622,18 @@ held-trans h k = record {
   shown = k .shown ∙ h .shown;
 }
 
-pub elsewhere-changed : (p q old new : ℕ) → (q ≡ p → ⊥) → Elsewhere p (changed q old new)
-elsewhere-changed p q old new ne = either (Elsewhere p) (eqb new old) tt ne
+pub elsewhere-changed : (p q old new source : ℕ) → (q ≡ p → ⊥) → Elsewhere p (changed q old new source)
+elsewhere-changed p q old new source ne = either (Elsewhere p) (eqb new old) tt ne
 
 pub elsewhere-same : (p : ℕ) (c : Change) → c ≡ Same → Elsewhere p c
 elsewhere-same p c e = rw e tt
 
-pub changed-same : (p old : ℕ) → changed p old old ≡ Same
-changed-same p old = rw (eq-eqb old old refl)
+pub changed-same : (p old source : ℕ) → changed p old old source ≡ Same
+changed-same p old source = rw (eq-eqb old old refl)
 
 updated-elsewhere : (p q : ℕ) (g : Gpio) (vcc : Float) → (q ≡ p → ⊥) → Elsewhere p (updated q g vcc .change)
 unfolding updated
-updated-elsewhere p q g vcc ne = elsewhere-changed p q (g .pin .level) (resolved (g .pin) vcc .level) ne
+updated-elsewhere p q g vcc ne = elsewhere-changed p q (g .pin .level) (resolved (g .pin) vcc .level) (resolved (g .pin) vcc .source) ne
 
 -- a move that leaves the signal s and its pin p alone
 pub record Spares (s p : ℕ) (pads : Pads) (m : Move) : Type 0 where
@@ -735,7 +736,7 @@ module _ (pads : Pads) (s p : ℕ) (sound : SoundPads pads) (small : s < 256) (p
 
     pub same-update-own : updatePin pads p .change ≡ Same
     unfolding updatePin updated
-    same-update-own = rw stays (changed-same p (gpioAt pads p .pin .level))
+    same-update-own = rw stays (changed-same p (gpioAt pads p .pin .level) _)
 
 held-leave : (pads : Pads) (s p q o : ℕ) → routeOf pads s ≡ p → (q ≡ p → ⊥) → Held s p pads (leave pads q o)
 held-leave pads s p q o routes ne =
@@ -776,7 +777,8 @@ pub record Follows (s p l : ℕ) (pads : Pads) (m : Move) : Type 0 where
   pub cfg : gpioAt (m .pads) p .cfg ≡ gpioAt pads p .cfg
   pub sig : gpioAt (m .pads) p .sig ≡ gpioAt pads p .sig
   pub shown : gpioAt (m .pads) p .pin .level ≡ l
-  pub change : m .change ≡ changed p (gpioAt pads p .pin .level) l
+  pub source : ℕ
+  pub change : m .change ≡ changed p (gpioAt pads p .pin .level) l source
 
 -- the four changes of a timer's channels, none of them pin p's
 pub record SparesAll (s p : ℕ) (pads : Pads) (m : Drive) : Type 0 where
@@ -836,6 +838,7 @@ module _ (pads : Pads) (s p : ℕ) (sound : SoundPads pads) (small : s < 256) (p
           cfg = ap (λ (x : Gpio). x .cfg) e;
           sig = ap (λ (x : Gpio). x .sig) e;
           shown = ap (λ (x : Gpio). x .pin .level) e ∙ v;
+          source = m .gpio .pin .source;
           change = updated-level p (withMcu g (sideOf g w)) (pads .vcc) l v;
         }
 
@@ -847,7 +850,7 @@ module _ (pads : Pads) (s p : ℕ) (sound : SoundPads pads) (small : s < 256) (p
         (λ t.
         let e : levelOf pads s ≡ l = eqb-true (levelOf pads s) l t in
         let v : gpioAt pads p .pin .level ≡ l = sound .routed s p small pin routes .shows driving push-pull ∙ e in
-        record { route = routes; level = e; cfg = refl; sig = refl; shown = v; change = rw (v, eq-eqb l l refl) })
+        record { route = routes; level = e; cfg = refl; sig = refl; shown = v; source = 0; change = rw (v, eq-eqb l l refl) })
         (λ t. by-test (Follows s p l pads) (eqb (routeOf pads s) noPin)
         (λ u. absurd (omega (arith, eqb-true (routeOf pads s) noPin u)))
         (λ u. rw routes (follows-refresh l)))

@@ -26,7 +26,7 @@ use Rattle.machine.specs.Board.{Pads, gpioAt, routeOf, levelOf, withGpio
 use Rattle.machine.specs.Sys.{Move, still, updatePin, refreshPin, selectAf, selected, sigOut, Drive, driveChannel, driver, driveOutputs, setPin, drivePin, resetPin, resetFrom}
 use Rattle.machine.specs.Deliver.{Turn, turn, turnOf, applied, countAt}
 use Rattle.machine.specs.Step.{changesOf}
-use Rattle.machine.specs.Demand1.{edgeOf, pinLevel, levelAfter, Edges, Traced, afterEvents}
+use Rattle.machine.specs.Demand1.{edgeOf, pinLevel, pinSource, levelAfter, Edges, Traced, afterEvents}
 use Rattle.machine.proofs.NumberLaws.{either}
 use Rattle.machine.proofs.PinLaws.{update-edge, refresh-edge, select-gpio}
 
@@ -75,11 +75,11 @@ other-level p q i f j = go (eqb i j) refl
     go true t = sym (ap (λ (k : ℕ). pinLevel q k) (eqb-true i j t))
     go false t = f j (λ z. eqb-false i j t (sym z))
 
-traced-edge : (p q : Pads) (i cycle : ℕ) → ((j : ℕ) → (j ≡ i → ⊥) → pinLevel q j ≡ pinLevel p j) → Traced p q (edgeOf i (pinLevel p i) (pinLevel q i) cycle)
+traced-edge : (p q : Pads) (i cycle : ℕ) → ((j : ℕ) → (j ≡ i → ⊥) → pinLevel q j ≡ pinLevel p j) → Traced p q (edgeOf i (pinLevel p i) (pinLevel q i) (pinSource q i) cycle)
 unfolding levelAfter Edges
 traced-edge p q i cycle f = go (eqb (pinLevel q i) (pinLevel p i)) refl
   where
-    go : (s : Bool) → eqb (pinLevel q i) (pinLevel p i) ≡ s → Traced p q (cond s [] (record { pin = i; level = pinLevel q i; cycle = cycle } ∷ []))
+    go : (s : Bool) → eqb (pinLevel q i) (pinLevel p i) ≡ s → Traced p q (cond s [] (record { pin = i; level = pinLevel q i; cycle = cycle; source = pinSource q i } ∷ []))
     go true e = traced-none p q (same-level p q i (eqb-true (pinLevel q i) (pinLevel p i) e) f)
     go false e = record { after = other-level p q i f; edges = (e, tt) }
 

@@ -6,7 +6,7 @@ use lib.ListN.{getD, set, replicate, length}
 use lib.Ieee as Ieee
 use Rattle.tim.specs.declared.Inst.{Inst}
 use Rattle.tim.specs.Change.{resetState}
-use Rattle.pins.specs.Pins.{blank}
+use Rattle.pins.specs.Pins.{blank, onlyHeld}
 use Rattle.pins.specs.Clock as Clock
 use Rattle.clk.specs.Clk.{flatTree}
 use Rattle.nvic.specs.Nvic.{idle}
@@ -77,7 +77,7 @@ blankGpio = record { cfg = plainCfg; pin = blank; sig = 0 }
 
 -- past the last pin: as blank, without volts
 abbrev pub noGpio : Gpio
-noGpio = record { cfg = plainCfg; pin = record { mcu = blank .mcu; ext = blank .ext; level = 0; volts = Ieee.nan }; sig = 0 }
+noGpio = record { cfg = plainCfg; pin = record { mcu = blank .mcu; ext = blank .ext; level = 0; volts = Ieee.nan; source = onlyHeld }; sig = 0 }
 
 -- the route of a signal that no pin takes
 abbrev pub noPin : ℕ

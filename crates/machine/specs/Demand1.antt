@@ -66,9 +66,13 @@ StampedBy now e = e .cycle ≤ now
 abbrev pub pinLevel : Pads → ℕ → ℕ
 pinLevel p i = gpioAt p i .pin .level
 
--- a pin's level before and after a call at a cycle: no entry where they are the same, else one with the new level
-abbrev pub edgeOf : ℕ → ℕ → ℕ → ℕ → List Entry
-edgeOf pin before after cycle = cond (eqb after before) [] (record { pin = pin; level = after; cycle = cycle } ∷ [])
+abbrev pub pinSource : Pads → ℕ → ℕ
+pinSource p i = gpioAt p i .pin .source
+
+-- a pin's level before and after a call at a cycle: no entry where they are the same ("A change of source alone makes no entry"), else one with
+-- the new level and its source
+abbrev pub edgeOf : ℕ → ℕ → ℕ → ℕ → ℕ → List Entry
+edgeOf pin before after source cycle = cond (eqb after before) [] (record { pin = pin; level = after; cycle = cycle; source = source } ∷ [])
 
 -- a pin's level after entries, from a level: that of its last entry
 unfoldable pub levelAfter : List Entry → ℕ → ℕ → ℕ
@@ -152,13 +156,13 @@ pub record Demand1 : Type 0 where
   -- ---- of every board that calls lead to
   pub delivery : (cs : List Call) (i cycle places : ℕ) → applies (refusals (reached cs) (deliver i cycle places)) ≡ false
       → Works (reached cs) i cycle places (step (reached cs) (deliver i cycle places))
-  -- "An entry is made exactly when a pin's level changes": of a pin's call none where its level is the same after it, else one, with the new level and
-  -- the call's cycle
+  -- "An entry is made exactly when a pin's level changes": of a pin's call none where its level is the same after it, else one, with the new level, its
+  -- source on the board that the call leaves, and the call's cycle
   pub pin-setting : (cs : List Call) (pin mode openDrain out pullup pulldown function cycle places : ℕ)
       → let o = step (reached cs) (setPin pin mode openDrain out pullup pulldown function cycle places) in
-      o .entries ≡ edgeOf pin (pinLevel (reached cs .pads) pin) (pinLevel (o .board .pads) pin) cycle
+      o .entries ≡ edgeOf pin (pinLevel (reached cs .pads) pin) (pinLevel (o .board .pads) pin) (pinSource (o .board .pads) pin) cycle
   pub outside-drive : (cs : List Call) (pin : ℕ) (e : ExtDrive) (cycle places : ℕ)
       → let o = step (reached cs) (drivePin pin e cycle places) in
-      o .entries ≡ edgeOf pin (pinLevel (reached cs .pads) pin) (pinLevel (o .board .pads) pin) cycle
+      o .entries ≡ edgeOf pin (pinLevel (reached cs .pads) pin) (pinLevel (o .board .pads) pin) (pinSource (o .board .pads) pin) cycle
   -- of every call but set-up, over all pins
   pub changes : (cs : List Call) (c : Call) → isSetUp c ≡ false → Traced (reached cs .pads) (step (reached cs) c .board .pads) (step (reached cs) c .entries)

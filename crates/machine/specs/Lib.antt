@@ -8,3 +8,4 @@ pub mod Sound
 pub mod Demand1
 pub mod Sockets
 pub mod Lines
+pub mod Sources

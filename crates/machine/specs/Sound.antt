@@ -49,4 +49,4 @@ pub record Held (s p : ℕ) (a b : Pads) : Type 0 where
 -- a level change that is not pin p's
 abbrev pub Elsewhere : ℕ → Change → Type 0
 Elsewhere p Same = Unit {0}
-Elsewhere p (Level q l) = q ≡ p → ⊥
+Elsewhere p (Level q l s) = q ≡ p → ⊥

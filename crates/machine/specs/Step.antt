@@ -16,6 +16,7 @@ use Rattle.clk.specs.declared.ClockTree.{ClockTree}
 use Rattle.clk.specs.Clk.{good, differing}
 use Rattle.pins.specs.Clock as Clock
 use Rattle.gpio.specs.declared.PinCfg.{PinCfg}
+use Rattle.pins.specs.declared.Pin.{Pin}
 use Rattle.nvic.specs.Nvic as N
 use Rattle.scheduler.specs.Booking as S
 use Rattle.gpio.specs.declared.Change.{Change}
@@ -182,6 +183,10 @@ asking b (volts pin) o = refuseIf (absent pin (b .counts .pins)) 2 b o
 asking b (line irq) o = o
 asking b (time cycle) o = refuseIf (cycleAstray b cycle) 5 b o
 
+-- "The pin level query's value becomes level + 2 × source" (document 02, F-5)
+abbrev pub levelQuery : Pin → ℕ
+levelQuery p = p .level + 2 * p .source
+
 -- the value: "the register for a read or peek, .. what a query asks"
 abbrev pub told : Board → Question → ℕ
 told b (reading timer offset size cycle) =
@@ -189,7 +194,7 @@ told b (reading timer offset size cycle) =
 told b (peeking timer offset cycle) = R.regRead (timerAt b timer) (register offset) cycle
 told b (booked timer) = S.cycleOf (b .booking) timer
 told b next = S.least (b .booking)
-told b (level pin) = gpioAt (b .pads) pin .pin .level
+told b (level pin) = levelQuery (gpioAt (b .pads) pin .pin)
 told b (volts pin) = bitsOf (gpioAt (b .pads) pin .pin .volts)
 told b (line irq) = N.stateOf (N.lineAt (b .nvic) irq)
 told b (time cycle) = bitsOf (Clock.timeAt (b .clocks .clock) cycle)

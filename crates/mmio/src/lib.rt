@@ -136,18 +136,30 @@ fn drive(
     pins: &mut [u8],
     levels: &mut [u8],
     cycles: &mut [u64],
+    sources: &mut [u8],
     on: bool,
     i: usize,
     cnt: u32,
     cycle: u64,
 ) -> usize
     requires { ⌜ i < 8 ⌝ }
-    requires { ⌜ Room 4 (slices (now pins) (now levels) (now cycles)) ⌝ }
-    ensures { λ r. ⌜ DrivenIf on (timerAt (view (now (words .entry)) (now (reals .entry))) i) cnt cycle (view (now (words .entry)) (now (reals .entry))) (view (now (words .exit)) (now (reals .exit))) (book (slices (now (pins .entry)) (now (levels .entry)) (now (cycles .entry))) 0) (book (slices (now (pins .exit)) (now (levels .exit)) (now (cycles .exit))) r) ⌝ }
+    requires { ⌜ Room 4 (slices (now pins) (now levels) (now cycles) (now sources)) ⌝ }
+    ensures { λ r. ⌜ DrivenIf on (timerAt (view (now (words .entry)) (now (reals .entry))) i) cnt cycle (view (now (words .entry)) (now (reals .entry))) (view (now (words .exit)) (now (reals .exit))) (book (slices (now (pins .entry)) (now (levels .entry)) (now (cycles .entry)) (now (sources .entry))) 0) (book (slices (now (pins .exit)) (now (levels .exit)) (now (cycles .exit)) (now (sources .exit))) r) ⌝ }
     ensures { λ r. ⌜ r ≤ 4 ⌝ }
 {
     if on {
-        return outputs::drive_outputs(words, reals, pins, levels, cycles, 0, i, cnt, cycle);
+        return outputs::drive_outputs(
+            words,
+            reals,
+            pins,
+            levels,
+            cycles,
+            sources,
+            0,
+            i,
+            cnt,
+            cycle,
+        );
     }
     0
 }
@@ -184,13 +196,25 @@ pub fn follow(
     pins: &mut [u8],
     levels: &mut [u8],
     cycles: &mut [u64],
+    sources: &mut [u8],
 ) -> usize
     requires { ⌜ i < 8 ⌝ }
-    requires { ⌜ Room 4 (slices (now pins) (now levels) (now cycles)) ⌝ }
-    ensures { λ r. ⌜ Leaves (after (view (now (words .entry)) (now (reals .entry))) i cycle driven cnt lined booked) (view (now (words .exit)) (now (reals .exit))) (book (slices (now (pins .entry)) (now (levels .entry)) (now (cycles .entry))) 0) (book (slices (now (pins .exit)) (now (levels .exit)) (now (cycles .exit))) r) ⌝ }
+    requires { ⌜ Room 4 (slices (now pins) (now levels) (now cycles) (now sources)) ⌝ }
+    ensures { λ r. ⌜ Leaves (after (view (now (words .entry)) (now (reals .entry))) i cycle driven cnt lined booked) (view (now (words .exit)) (now (reals .exit))) (book (slices (now (pins .entry)) (now (levels .entry)) (now (cycles .entry)) (now (sources .entry))) 0) (book (slices (now (pins .exit)) (now (levels .exit)) (now (cycles .exit)) (now (sources .exit))) r) ⌝ }
     ensures { λ r. ⌜ r ≤ 4 ⌝ }
 {
-    let k = drive(words, reals, pins, levels, cycles, driven, i, cnt, cycle);
+    let k = drive(
+        words,
+        reals,
+        pins,
+        levels,
+        cycles,
+        sources,
+        driven,
+        i,
+        cnt,
+        cycle,
+    );
     settle_line_if(words, lined, i);
     rebook_if(words, booked, i, cycle);
     state::set_last(words, cycle);
@@ -206,12 +230,13 @@ fn reset_timer(
     pins: &mut [u8],
     levels: &mut [u8],
     cycles: &mut [u64],
+    sources: &mut [u8],
     i: usize,
     cycle: u64,
 ) -> usize
     requires { ⌜ i < 8 ⌝ }
-    requires { ⌜ Room 4 (slices (now pins) (now levels) (now cycles)) ⌝ }
-    ensures { λ r. ⌜ Leaves (timerReset (view (now (words .entry)) (now (reals .entry))) i cycle) (view (now (words .exit)) (now (reals .exit))) (book (slices (now (pins .entry)) (now (levels .entry)) (now (cycles .entry))) 0) (book (slices (now (pins .exit)) (now (levels .exit)) (now (cycles .exit))) r) ⌝ }
+    requires { ⌜ Room 4 (slices (now pins) (now levels) (now cycles) (now sources)) ⌝ }
+    ensures { λ r. ⌜ Leaves (timerReset (view (now (words .entry)) (now (reals .entry))) i cycle) (view (now (words .exit)) (now (reals .exit))) (book (slices (now (pins .entry)) (now (levels .entry)) (now (cycles .entry)) (now (sources .entry))) 0) (book (slices (now (pins .exit)) (now (levels .exit)) (now (cycles .exit)) (now (sources .exit))) r) ⌝ }
     ensures { λ r. ⌜ r ≤ 4 ⌝ }
 {
     let t = state::load_timer(words, i);
@@ -230,6 +255,7 @@ fn reset_timer(
         pins,
         levels,
         cycles,
+        sources,
     )
 }
 
@@ -239,17 +265,27 @@ pub fn reset(
     pins: &mut [u8],
     levels: &mut [u8],
     cycles: &mut [u64],
+    sources: &mut [u8],
     timer: u32,
     cycle: u64,
 ) -> Answer
-    ensures { λ r. ⌜ Answers (step (view (now (words .entry)) (now (reals .entry))) (Call.resetTimer timer cycle (places (slices (now (pins .entry)) (now (levels .entry)) (now (cycles .entry)))))) r (now (words .entry)) (now (words .exit)) (now (reals .entry)) (now (reals .exit)) ⌝ }
-    ensures { λ r. ⌜ Holds (step (view (now (words .entry)) (now (reals .entry))) (Call.resetTimer timer cycle (places (slices (now (pins .entry)) (now (levels .entry)) (now (cycles .entry))))) .entries) (slices (now (pins .entry)) (now (levels .entry)) (now (cycles .entry))) (slices (now (pins .exit)) (now (levels .exit)) (now (cycles .exit))) (r .count) ⌝ }
+    ensures { λ r. ⌜ Answers (step (view (now (words .entry)) (now (reals .entry))) (Call.resetTimer timer cycle (places (slices (now (pins .entry)) (now (levels .entry)) (now (cycles .entry)) (now (sources .entry)))))) r (now (words .entry)) (now (words .exit)) (now (reals .entry)) (now (reals .exit)) ⌝ }
+    ensures { λ r. ⌜ Holds (step (view (now (words .entry)) (now (reals .entry))) (Call.resetTimer timer cycle (places (slices (now (pins .entry)) (now (levels .entry)) (now (cycles .entry)) (now (sources .entry))))) .entries) (slices (now (pins .entry)) (now (levels .entry)) (now (cycles .entry)) (now (sources .entry))) (slices (now (pins .exit)) (now (levels .exit)) (now (cycles .exit)) (now (sources .exit))) (r .count) ⌝ }
 {
-    let no = answer::book_refusal(words, timer, 4, cycle, pins, levels, cycles);
+    let no = answer::book_refusal(words, timer, 4, cycle, pins, levels, cycles, sources);
     if no != 0 {
         return answer::refused(no);
     }
-    let count = reset_timer(words, reals, pins, levels, cycles, timer as usize, cycle);
+    let count = reset_timer(
+        words,
+        reals,
+        pins,
+        levels,
+        cycles,
+        sources,
+        timer as usize,
+        cycle,
+    );
     Answer {
         value: 0,
         number: 0,
@@ -266,17 +302,27 @@ pub fn deliver(
     pins: &mut [u8],
     levels: &mut [u8],
     cycles: &mut [u64],
+    sources: &mut [u8],
     timer: u32,
     cycle: u64,
 ) -> Answer
-    ensures { λ r. ⌜ Answers (step (view (now (words .entry)) (now (reals .entry))) (Call.deliver timer cycle (places (slices (now (pins .entry)) (now (levels .entry)) (now (cycles .entry)))))) r (now (words .entry)) (now (words .exit)) (now (reals .entry)) (now (reals .exit)) ⌝ }
-    ensures { λ r. ⌜ Holds (step (view (now (words .entry)) (now (reals .entry))) (Call.deliver timer cycle (places (slices (now (pins .entry)) (now (levels .entry)) (now (cycles .entry))))) .entries) (slices (now (pins .entry)) (now (levels .entry)) (now (cycles .entry))) (slices (now (pins .exit)) (now (levels .exit)) (now (cycles .exit))) (r .count) ⌝ }
+    ensures { λ r. ⌜ Answers (step (view (now (words .entry)) (now (reals .entry))) (Call.deliver timer cycle (places (slices (now (pins .entry)) (now (levels .entry)) (now (cycles .entry)) (now (sources .entry)))))) r (now (words .entry)) (now (words .exit)) (now (reals .entry)) (now (reals .exit)) ⌝ }
+    ensures { λ r. ⌜ Holds (step (view (now (words .entry)) (now (reals .entry))) (Call.deliver timer cycle (places (slices (now (pins .entry)) (now (levels .entry)) (now (cycles .entry)) (now (sources .entry))))) .entries) (slices (now (pins .entry)) (now (levels .entry)) (now (cycles .entry)) (now (sources .entry))) (slices (now (pins .exit)) (now (levels .exit)) (now (cycles .exit)) (now (sources .exit))) (r .count) ⌝ }
 {
-    let no = answer::book_refusal(words, timer, 4, cycle, pins, levels, cycles);
+    let no = answer::book_refusal(words, timer, 4, cycle, pins, levels, cycles, sources);
     if no != 0 {
         return answer::refused(no);
     }
-    let d = delivery::deliver(words, reals, pins, levels, cycles, timer as usize, cycle);
+    let d = delivery::deliver(
+        words,
+        reals,
+        pins,
+        levels,
+        cycles,
+        sources,
+        timer as usize,
+        cycle,
+    );
     state::set_last(words, cycle);
     Answer {
         value: d.events,

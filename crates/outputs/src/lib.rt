@@ -48,6 +48,7 @@ pub fn drive_two(
     pins: &mut [u8],
     levels: &mut [u8],
     cycles: &mut [u64],
+    sources: &mut [u8],
     k: usize,
     channels: u32,
     ch: u32,
@@ -57,14 +58,14 @@ pub fn drive_two(
     at: u64,
 ) -> usize
     requires { ⌜ (s < 255) × (ch < 4) ⌝ }
-    requires { ⌜ Room (k + 2) (slices (now pins) (now levels) (now cycles)) ⌝ }
-    ensures { λ r. ⌜ DrivenTwo channels ch s l l1 at (view (now (words .entry)) (now (reals .entry))) (view (now (words .exit)) (now (reals .exit))) (book (slices (now (pins .entry)) (now (levels .entry)) (now (cycles .entry))) k) (book (slices (now (pins .exit)) (now (levels .exit)) (now (cycles .exit))) r) ⌝ }
+    requires { ⌜ Room (k + 2) (slices (now pins) (now levels) (now cycles) (now sources)) ⌝ }
+    ensures { λ r. ⌜ DrivenTwo channels ch s l l1 at (view (now (words .entry)) (now (reals .entry))) (view (now (words .exit)) (now (reals .exit))) (book (slices (now (pins .entry)) (now (levels .entry)) (now (cycles .entry)) (now (sources .entry))) k) (book (slices (now (pins .exit)) (now (levels .exit)) (now (cycles .exit)) (now (sources .exit))) r) ⌝ }
     ensures { λ r. ⌜ r ≤ k + 2 ⌝ }
 {
     let a = drive_channel(words, reals, channels, ch, s, l);
-    let m = book::append(pins, levels, cycles, k, gpio::change_of(a), at);
+    let m = book::append(pins, levels, cycles, sources, k, gpio::change_of(a), at);
     let b = drive_channel(words, reals, channels, ch + 1, s + 1, l1);
-    book::append(pins, levels, cycles, m, gpio::change_of(b), at)
+    book::append(pins, levels, cycles, sources, m, gpio::change_of(b), at)
 }
 
 // Drives the outputs of timer i at a count, and writes their level changes at a cycle from place k on; the next place.
@@ -74,14 +75,15 @@ pub fn drive_outputs(
     pins: &mut [u8],
     levels: &mut [u8],
     cycles: &mut [u64],
+    sources: &mut [u8],
     k: usize,
     i: usize,
     cnt: u32,
     at: u64,
 ) -> usize
     requires { ⌜ i < 8 ⌝ }
-    requires { ⌜ Room (k + 4) (slices (now pins) (now levels) (now cycles)) ⌝ }
-    ensures { λ r. ⌜ Driven (S.driveOutputs (timerAt (view (now (words .entry)) (now (reals .entry))) i) cnt (view (now (words .entry)) (now (reals .entry)) .pads)) at (view (now (words .entry)) (now (reals .entry))) (view (now (words .exit)) (now (reals .exit))) (book (slices (now (pins .entry)) (now (levels .entry)) (now (cycles .entry))) k) (book (slices (now (pins .exit)) (now (levels .exit)) (now (cycles .exit))) r) ⌝ }
+    requires { ⌜ Room (k + 4) (slices (now pins) (now levels) (now cycles) (now sources)) ⌝ }
+    ensures { λ r. ⌜ Driven (S.driveOutputs (timerAt (view (now (words .entry)) (now (reals .entry))) i) cnt (view (now (words .entry)) (now (reals .entry)) .pads)) at (view (now (words .entry)) (now (reals .entry))) (view (now (words .exit)) (now (reals .exit))) (book (slices (now (pins .entry)) (now (levels .entry)) (now (cycles .entry)) (now (sources .entry))) k) (book (slices (now (pins .exit)) (now (levels .exit)) (now (cycles .exit)) (now (sources .exit))) r) ⌝ }
     ensures { λ r. ⌜ r ≤ k + 4 ⌝ }
 {
     let t = state::load_timer(words, i);
@@ -97,13 +99,28 @@ pub fn drive_outputs(
     let l1 = t.output(1, cnt);
     let l2 = t.output(2, cnt);
     let l3 = t.output(3, cnt);
-    let m = drive_two(words, reals, pins, levels, cycles, k, x, 0, s, l, l1, at);
+    let m = drive_two(
+        words,
+        reals,
+        pins,
+        levels,
+        cycles,
+        sources,
+        k,
+        x,
+        0,
+        s,
+        l,
+        l1,
+        at,
+    );
     drive_two(
         words,
         reals,
         pins,
         levels,
         cycles,
+        sources,
         m,
         x,
         2,

@@ -160,7 +160,7 @@ pin-moved w w₁ w₂ x x₁ u u₁ call n cycle r m change h z does room moves 
     served w w₂ x x₁ u u₁ call n r (entryOf cycle (m .change)) (withLast (withPads (view w x) (m .pads)) cycle) h z does e
     (last ∙ ap (λ (b : Board). withLast b cycle) (moves .board))
     (holds (entryOf cycle (m .change)) u u₁ (r .count)
-    (put ∙ ap (λ (d : Change). puts (book u 0) (entryOf cycle d)) (moves .change)) (omega arith, omega arith, omega arith))
+    (put ∙ ap (λ (d : Change). puts (book u 0) (entryOf cycle d)) (moves .change)) (omega arith, omega arith, omega arith, omega arith))
 
 pub pin-set : (w w₁ w₂ : List ℕ) (x x₁ : List Float) (u u₁ : Lent) (pin mode drain out up down function n cycle : ℕ) (r : Answer) (g : PinCfg) (change : Change)
     → n ≡ asked (view w x) pin cycle (places u) (S.taken (view w x .pads) pin (S.selected (view w x .pads) pin g function)) → n ≡ 0
@@ -202,6 +202,6 @@ pins-reset w w₁ w₂ x x₁ u u₁ n k cycle r h z reset few last e =
     let room : view w x .counts .pins ≤ places u = reset-room (view w x) cycle (places u) n h z in
     let same : r .count ≡ k = ap (λ (y : Answer). y .count) e in
     let held : Holds (changesOf cycle (o .changes)) u u₁ k =
-    holds (changesOf cycle (o .changes)) u u₁ k (reset .entries) (omega arith, omega arith, omega arith) in
+    holds (changesOf cycle (o .changes)) u u₁ k (reset .entries) (omega arith, omega arith, omega arith, omega arith) in
     served w w₂ x x₁ u u₁ (resetPins cycle (places u)) n r (changesOf cycle (o .changes)) (withLast (withPads (view w x) (o .pads)) cycle) h z
     refl (e ∙ ap (answer 0 0) (sym same)) (last ∙ ap (λ (b : Board). withLast b cycle) (reset .board)) (rw same held)

@@ -69,13 +69,14 @@ fn refusal(
     pins: &[u8],
     levels: &[u8],
     cycles: &[u64],
+    sources: &[u8],
     pin: u32,
     cycle: u64,
 ) -> u8
-    ensures { λ r. ⌜ ((x : List Float) → r ≡ first (noSuchIndex pin (view (now (words .entry)) x .counts .pins) ∷ clockAstray (view (now (words .entry)) x) cycle ∷ bookFull 4 (places (slices (now (pins .entry)) (now (levels .entry)) (now (cycles .entry)))) ∷ [])) ⌝ }
+    ensures { λ r. ⌜ ((x : List Float) → r ≡ first (noSuchIndex pin (view (now (words .entry)) x .counts .pins) ∷ clockAstray (view (now (words .entry)) x) cycle ∷ bookFull 4 (places (slices (now (pins .entry)) (now (levels .entry)) (now (cycles .entry)) (now (sources .entry)))) ∷ [])) ⌝ }
 {
     let count = state::pin_count(words);
-    let room = book::room(pins, levels, cycles);
+    let room = book::room(pins, levels, cycles, sources);
     answer::refusal(words, pin, count, 4, cycle, 4, room)
 }
 
@@ -85,12 +86,13 @@ fn setting_refusal(
     pins: &[u8],
     levels: &[u8],
     cycles: &[u64],
+    sources: &[u8],
     pin: u32,
     cfg: PinCfg,
     function: u32,
     cycle: u64,
 ) -> u8
-    ensures { λ r. ⌜ ((x : List Float) → r ≡ first (noSuchIndex pin (view (now (words .entry)) x .counts .pins) ∷ clockAstray (view (now (words .entry)) x) cycle ∷ (11 when S.taken (view (now (words .entry)) x .pads) pin (S.selected (view (now (words .entry)) x .pads) pin cfg function)) ∷ bookFull 4 (places (slices (now (pins .entry)) (now (levels .entry)) (now (cycles .entry)))) ∷ [])) ⌝ }
+    ensures { λ r. ⌜ ((x : List Float) → r ≡ first (noSuchIndex pin (view (now (words .entry)) x .counts .pins) ∷ clockAstray (view (now (words .entry)) x) cycle ∷ (11 when S.taken (view (now (words .entry)) x .pads) pin (S.selected (view (now (words .entry)) x .pads) pin cfg function)) ∷ bookFull 4 (places (slices (now (pins .entry)) (now (levels .entry)) (now (cycles .entry)) (now (sources .entry)))) ∷ [])) ⌝ }
 {
     let count = state::pin_count(words);
     if count <= pin as usize {
@@ -98,7 +100,7 @@ fn setting_refusal(
     }
     let astray = answer::is_astray(words, cycle);
     let taken = sys::is_taken(words, pin as usize, cfg, function);
-    let room = book::room(pins, levels, cycles);
+    let room = book::room(pins, levels, cycles, sources);
     if astray {
         return 5;
     }
@@ -117,17 +119,18 @@ fn changed(
     pins: &mut [u8],
     levels: &mut [u8],
     cycles: &mut [u64],
+    sources: &mut [u8],
     change: Change,
     at: u64,
 ) -> Answer
-    requires { ⌜ Room 1 (slices (now pins) (now levels) (now cycles)) ⌝ }
+    requires { ⌜ Room 1 (slices (now pins) (now levels) (now cycles) (now sources)) ⌝ }
     ensures { λ r. ⌜ ((x : List Float) → view (now (words .exit)) x ≡ withLast (view (now (words .entry)) x) at) ⌝ }
     ensures { λ r. ⌜ r ≡ answer 0 0 (r .count) ⌝ }
-    ensures { λ r. ⌜ book (slices (now (pins .exit)) (now (levels .exit)) (now (cycles .exit))) (r .count) ≡ puts (book (slices (now (pins .entry)) (now (levels .entry)) (now (cycles .entry))) 0) (entryOf at change) ⌝ }
+    ensures { λ r. ⌜ book (slices (now (pins .exit)) (now (levels .exit)) (now (cycles .exit)) (now (sources .exit))) (r .count) ≡ puts (book (slices (now (pins .entry)) (now (levels .entry)) (now (cycles .entry)) (now (sources .entry))) 0) (entryOf at change) ⌝ }
     ensures { λ r. ⌜ r .count ≤ 1 ⌝ }
 {
     state::set_last(words, at);
-    let count = book::append(pins, levels, cycles, 0, change, at);
+    let count = book::append(pins, levels, cycles, sources, 0, change, at);
     Answer {
         value: 0,
         number: 0,
@@ -142,6 +145,7 @@ pub fn set_pin(
     pins: &mut [u8],
     levels: &mut [u8],
     cycles: &mut [u64],
+    sources: &mut [u8],
     pin: u32,
     mode: u32,
     open_drain: u32,
@@ -151,16 +155,26 @@ pub fn set_pin(
     function: u32,
     cycle: u64,
 ) -> Answer
-    ensures { λ r. ⌜ Answers (step (view (now (words .entry)) (now (reals .entry))) (C.setPin pin mode «open_drain» out pullup pulldown function cycle (places (slices (now (pins .entry)) (now (levels .entry)) (now (cycles .entry)))))) r (now (words .entry)) (now (words .exit)) (now (reals .entry)) (now (reals .exit)) ⌝ }
-    ensures { λ r. ⌜ Holds (step (view (now (words .entry)) (now (reals .entry))) (C.setPin pin mode «open_drain» out pullup pulldown function cycle (places (slices (now (pins .entry)) (now (levels .entry)) (now (cycles .entry))))) .entries) (slices (now (pins .entry)) (now (levels .entry)) (now (cycles .entry))) (slices (now (pins .exit)) (now (levels .exit)) (now (cycles .exit))) (r .count) ⌝ }
+    ensures { λ r. ⌜ Answers (step (view (now (words .entry)) (now (reals .entry))) (C.setPin pin mode «open_drain» out pullup pulldown function cycle (places (slices (now (pins .entry)) (now (levels .entry)) (now (cycles .entry)) (now (sources .entry)))))) r (now (words .entry)) (now (words .exit)) (now (reals .entry)) (now (reals .exit)) ⌝ }
+    ensures { λ r. ⌜ Holds (step (view (now (words .entry)) (now (reals .entry))) (C.setPin pin mode «open_drain» out pullup pulldown function cycle (places (slices (now (pins .entry)) (now (levels .entry)) (now (cycles .entry)) (now (sources .entry))))) .entries) (slices (now (pins .entry)) (now (levels .entry)) (now (cycles .entry)) (now (sources .entry))) (slices (now (pins .exit)) (now (levels .exit)) (now (cycles .exit)) (now (sources .exit))) (r .count) ⌝ }
 {
     let cfg = cfg_of(mode, open_drain, out, pullup, pulldown);
-    let n = setting_refusal(words, pins, levels, cycles, pin, cfg, function, cycle);
+    let n = setting_refusal(
+        words,
+        pins,
+        levels,
+        cycles,
+        sources,
+        pin,
+        cfg,
+        function,
+        cycle,
+    );
     if n != 0 {
         return answer::refused(n);
     }
     let change = sys::set_pin(words, reals, pin as usize, cfg, function);
-    changed(words, pins, levels, cycles, change, cycle)
+    changed(words, pins, levels, cycles, sources, change, cycle)
 }
 
 // Drives a pin from outside.
@@ -170,21 +184,22 @@ pub fn drive_pin(
     pins: &mut [u8],
     levels: &mut [u8],
     cycles: &mut [u64],
+    sources: &mut [u8],
     pin: u32,
     kind: u32,
     volts: f64,
     cycle: u64,
 ) -> Answer
-    ensures { λ r. ⌜ Answers (step (view (now (words .entry)) (now (reals .entry))) (C.drivePin pin (driveOf kind volts) cycle (places (slices (now (pins .entry)) (now (levels .entry)) (now (cycles .entry)))))) r (now (words .entry)) (now (words .exit)) (now (reals .entry)) (now (reals .exit)) ⌝ }
-    ensures { λ r. ⌜ Holds (step (view (now (words .entry)) (now (reals .entry))) (C.drivePin pin (driveOf kind volts) cycle (places (slices (now (pins .entry)) (now (levels .entry)) (now (cycles .entry))))) .entries) (slices (now (pins .entry)) (now (levels .entry)) (now (cycles .entry))) (slices (now (pins .exit)) (now (levels .exit)) (now (cycles .exit))) (r .count) ⌝ }
+    ensures { λ r. ⌜ Answers (step (view (now (words .entry)) (now (reals .entry))) (C.drivePin pin (driveOf kind volts) cycle (places (slices (now (pins .entry)) (now (levels .entry)) (now (cycles .entry)) (now (sources .entry)))))) r (now (words .entry)) (now (words .exit)) (now (reals .entry)) (now (reals .exit)) ⌝ }
+    ensures { λ r. ⌜ Holds (step (view (now (words .entry)) (now (reals .entry))) (C.drivePin pin (driveOf kind volts) cycle (places (slices (now (pins .entry)) (now (levels .entry)) (now (cycles .entry)) (now (sources .entry))))) .entries) (slices (now (pins .entry)) (now (levels .entry)) (now (cycles .entry)) (now (sources .entry))) (slices (now (pins .exit)) (now (levels .exit)) (now (cycles .exit)) (now (sources .exit))) (r .count) ⌝ }
 {
-    let number = refusal(words, pins, levels, cycles, pin, cycle);
+    let number = refusal(words, pins, levels, cycles, sources, pin, cycle);
     if number != 0 {
         return answer::refused(number);
     }
     let ext = ext_of(kind, volts);
     let change = sys::drive_pin(words, reals, pin as usize, ext);
-    changed(words, pins, levels, cycles, change, cycle)
+    changed(words, pins, levels, cycles, sources, change, cycle)
 }
 
 // Resets every pin.
@@ -194,18 +209,19 @@ pub fn reset_pins(
     pins: &mut [u8],
     levels: &mut [u8],
     cycles: &mut [u64],
+    sources: &mut [u8],
     cycle: u64,
 ) -> Answer
-    ensures { λ r. ⌜ Answers (step (view (now (words .entry)) (now (reals .entry))) (C.resetPins cycle (places (slices (now (pins .entry)) (now (levels .entry)) (now (cycles .entry)))))) r (now (words .entry)) (now (words .exit)) (now (reals .entry)) (now (reals .exit)) ⌝ }
-    ensures { λ r. ⌜ Holds (step (view (now (words .entry)) (now (reals .entry))) (C.resetPins cycle (places (slices (now (pins .entry)) (now (levels .entry)) (now (cycles .entry))))) .entries) (slices (now (pins .entry)) (now (levels .entry)) (now (cycles .entry))) (slices (now (pins .exit)) (now (levels .exit)) (now (cycles .exit))) (r .count) ⌝ }
+    ensures { λ r. ⌜ Answers (step (view (now (words .entry)) (now (reals .entry))) (C.resetPins cycle (places (slices (now (pins .entry)) (now (levels .entry)) (now (cycles .entry)) (now (sources .entry)))))) r (now (words .entry)) (now (words .exit)) (now (reals .entry)) (now (reals .exit)) ⌝ }
+    ensures { λ r. ⌜ Holds (step (view (now (words .entry)) (now (reals .entry))) (C.resetPins cycle (places (slices (now (pins .entry)) (now (levels .entry)) (now (cycles .entry)) (now (sources .entry))))) .entries) (slices (now (pins .entry)) (now (levels .entry)) (now (cycles .entry)) (now (sources .entry))) (slices (now (pins .exit)) (now (levels .exit)) (now (cycles .exit)) (now (sources .exit))) (r .count) ⌝ }
 {
     let need = state::pin_count(words);
-    let room = book::room(pins, levels, cycles);
+    let room = book::room(pins, levels, cycles, sources);
     let n = answer::refusal(words, 0, 1, 4, cycle, need, room);
     if n != 0 {
         return answer::refused(n);
     }
-    let count = sys::reset_pins(words, reals, pins, levels, cycles, cycle);
+    let count = sys::reset_pins(words, reals, pins, levels, cycles, sources, cycle);
     state::set_last(words, cycle);
     Answer {
         value: 0,

@@ -1,6 +1,6 @@
 // A pin's electrical model, and the clock's time.
 ghost use mathlib.Core.Path.{_≡_};
-ghost use Rattle.pins.specs.Pins.{blank, effectiveDir, drivenLevel, supplyAt, clamped, triggered, withLevel, sensedFrom, resolved};
+ghost use Rattle.pins.specs.Pins.{blank, effectiveDir, drivenLevel, supplyAt, clamped, triggered, settledBy, withLevel, sensedFrom, resolved};
 ghost use Rattle.pins.specs.Clock.{newClock, timeAt, hzSet};
 
 // What the outside world connects to a pin.
@@ -35,6 +35,8 @@ pub struct Pin {
     // Resolved.
     pub level: u8,
     pub volts: f64,
+    // Who holds the level: 1 the chip, 2 the outside, 3 a pull, 4 it is only held.
+    pub source: u8,
 }
 
 // The volts that the supply gives at a level.
@@ -70,6 +72,19 @@ fn trigger(v: f64, vcc: f64, level: u8) -> u8
     level
 }
 
+// The source of the trigger's level: the outside, or between the thresholds none.
+fn settled_by(v: f64, vcc: f64) -> u8
+    ensures { λ r. ⌜ r ≡ settledBy v vcc ⌝ }
+{
+    if v >= 0.6 * vcc {
+        return 2;
+    }
+    if v <= 0.3 * vcc {
+        return 2;
+    }
+    4
+}
+
 impl Pin {
     pub fn new() -> Pin
         ensures { λ r. ⌜ r ≡ blank ⌝ }
@@ -88,6 +103,7 @@ impl Pin {
             ext: ExtDrive::Float,
             level: 0,
             volts: 0.0,
+            source: 4,
         }
     }
 
@@ -113,11 +129,12 @@ impl Pin {
         }
     }
 
-    fn at_level(mut self, level: u8, volts: f64) -> Pin
-        ensures { λ r. ⌜ r ≡ withLevel self level volts ⌝ }
+    fn at_level(mut self, level: u8, volts: f64, source: u8) -> Pin
+        ensures { λ r. ⌜ r ≡ withLevel self level volts source ⌝ }
     {
         self.level = level;
         self.volts = volts;
+        self.source = source;
         self
     }
 
@@ -127,32 +144,32 @@ impl Pin {
     {
         let e = self.ext;
         match e {
-            ExtDrive::Low => self.at_level(0, 0.0),
-            ExtDrive::High => self.at_level(1, vcc),
+            ExtDrive::Low => self.at_level(0, 0.0, 2),
+            ExtDrive::High => self.at_level(1, vcc, 2),
             ExtDrive::Analog(x) => {
                 let v = clamp(x, vcc);
-                self.at_level(trigger(v, vcc, self.level), v)
+                self.at_level(trigger(v, vcc, self.level), v, settled_by(v, vcc))
             }
             ExtDrive::Float => {
                 if self.mcu.pullup != 0 {
-                    return self.at_level(1, vcc);
+                    return self.at_level(1, vcc, 3);
                 }
                 if self.mcu.pulldown != 0 {
-                    return self.at_level(0, 0.0);
+                    return self.at_level(0, 0.0, 3);
                 }
                 // Keeps the last level.
-                self.at_level(self.level, supply_at(vcc, self.level))
+                self.at_level(self.level, supply_at(vcc, self.level), 4)
             }
         }
     }
 
-    // The pin with its level and volts resolved.
+    // The pin with its level, volts and source resolved.
     pub fn resolve(self, vcc: f64) -> Pin
         ensures { λ r. ⌜ r ≡ resolved self vcc ⌝ }
     {
         if self.effective_dir() != 0 {
             let v = self.driven();
-            return self.at_level(v, supply_at(vcc, v));
+            return self.at_level(v, supply_at(vcc, v), 1);
         }
         self.sensed(vcc)
     }

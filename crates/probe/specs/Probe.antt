@@ -8,7 +8,7 @@ use Rattle.machine.specs.Sys.{Move}
 
 abbrev pub moves : Change → ℕ
 moves Same = 0
-moves (Level p l) = 1
+moves (Level p l s) = 1
 
 pub record Moved (m : Move) (b b₁ : Board) (r : ℕ) : Type 0 where
   pub board : b₁ ≡ withPads b (m .pads)

@@ -20,23 +20,23 @@ use Rattle.recorded.specs.Recorded.{Made, found, leaves, Kept, Chain, en
 
 -- ---- what a book holds is what was put into it
 
-entries-later : (i n x y z : ℕ) (p l c : List ℕ) → entriesFrom (suc i) n (slices (x ∷ p) (y ∷ l) (z ∷ c)) ≡ entriesFrom i n (slices p l c)
+entries-later : (i n x y z v : ℕ) (p l c s : List ℕ) → entriesFrom (suc i) n (slices (x ∷ p) (y ∷ l) (z ∷ c) (v ∷ s)) ≡ entriesFrom i n (slices p l c s)
 unfolding entriesFrom
-entries-later i zero x y z p l c = refl
-entries-later i (suc n) x y z p l c =
-    ap (λ (es : List Entry). record { pin = getD p i 0; level = getD l i 0; cycle = getD c i 0 } ∷ es) (entries-later (suc i) n x y z p l c)
+entries-later i zero x y z v p l c s = refl
+entries-later i (suc n) x y z v p l c s =
+    ap (λ (es : List Entry). record { pin = getD p i 0; level = getD l i 0; cycle = getD c i 0; source = getD s i 0 } ∷ es) (entries-later (suc i) n x y z v p l c s)
 
-entries-over : (es : List Entry) (p l c : List ℕ)
-    → entriesFrom 0 (length es) (slices (map (λ (e : Entry). e .pin) es ++ p) (map (λ (e : Entry). e .level) es ++ l) (map (λ (e : Entry). e .cycle) es ++ c)) ≡ es
+entries-over : (es : List Entry) (p l c s : List ℕ)
+    → entriesFrom 0 (length es) (slices (map (λ (e : Entry). e .pin) es ++ p) (map (λ (e : Entry). e .level) es ++ l) (map (λ (e : Entry). e .cycle) es ++ c) (map (λ (e : Entry). e .source) es ++ s)) ≡ es
 unfolding entriesFrom
-entries-over [] p l c = refl
-entries-over (e ∷ es) p l c = ap (λ (ds : List Entry). e ∷ ds) (entries-later 0 (length es) _ _ _ _ _ _ ∙ entries-over es p l c)
+entries-over [] p l c s = refl
+entries-over (e ∷ es) p l c s = ap (λ (ds : List Entry). e ∷ ds) (entries-later 0 (length es) _ _ _ _ _ _ _ _ ∙ entries-over es p l c s)
 
 entries-held : (es : List Entry) (u u₁ : Lent) (n : ℕ) → Holds es u u₁ n → entriesFrom 0 n u₁ ≡ es
 entries-held es u u₁ n h =
     ap (λ (k : ℕ). entriesFrom 0 k u₁) (h .count)
-    ∙ ap (λ (v : Lent). entriesFrom 0 (length es) v) (rw (h .pins, h .levels, h .cycles))
-    ∙ entries-over es (drop (length (map (λ (e : Entry). e .pin) es)) (u .pins)) (drop (length (map (λ (e : Entry). e .level) es)) (u .levels)) (drop (length (map (λ (e : Entry). e .cycle) es)) (u .cycles))
+    ∙ ap (λ (v : Lent). entriesFrom 0 (length es) v) (rw (h .pins, h .levels, h .cycles, h .sources))
+    ∙ entries-over es (drop (length (map (λ (e : Entry). e .pin) es)) (u .pins)) (drop (length (map (λ (e : Entry). e .level) es)) (u .levels)) (drop (length (map (λ (e : Entry). e .cycle) es)) (u .cycles)) (drop (length (map (λ (e : Entry). e .source) es)) (u .sources))
 
 -- ---- lists one behind the other
 
@@ -129,7 +129,7 @@ empty (e ∷ es) h = absurd (omega arith)
 
 -- a call without a book, by its promise
 pub by-bookless : (c : Call) → lent c ≡ 0 → (r : Answer) (w w₁ : List ℕ) (x x₁ : List Float) → Answers (step (view w x) c) r w w₁ x x₁
-    → Kept (record { calls = c ∷ []; words = w; words₁ = w₁; reals = x; reals₁ = x₁; lent = slices [] [] []; left = slices [] [] []; count = 0 })
+    → Kept (record { calls = c ∷ []; words = w; words₁ = w₁; reals = x; reals₁ = x₁; lent = slices [] [] [] []; left = slices [] [] [] []; count = 0 })
 unfolding boardAfter run joined
 by-bookless c z r w w₁ x x₁ a =
     let e : step (view w x) c .entries ≡ [] = empty (step (view w x) c .entries) (omega (arith, entries-fit (view w x) c .places)) in

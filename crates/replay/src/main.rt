@@ -53,12 +53,22 @@ fn run(
     pins: &mut [u8],
     levels: &mut [u8],
     cycles: &mut [u64],
+    sources: &mut [u8],
     out: &mut [u8; OUT],
     n: usize,
 ) -> usize {
     let mut answers = [0u64; 3];
-    let ran = calls::run_calls(words, reals, call, &mut answers, pins, levels, cycles);
-    reply::answer(out, n, &answers, pins, levels, cycles, ran.entries)
+    let ran = calls::run_calls(
+        words,
+        reals,
+        call,
+        &mut answers,
+        pins,
+        levels,
+        cycles,
+        sources,
+    );
+    reply::answer(out, n, &answers, pins, levels, cycles, sources, ran.entries)
 }
 
 // The call asks for as many places as it is lent: its last number.
@@ -83,6 +93,7 @@ fn lend(
     pins: &mut [u8],
     levels: &mut [u8],
     cycles: &mut [u64],
+    sources: &mut [u8],
     places: usize,
     out: &mut [u8; OUT],
     n: usize,
@@ -99,6 +110,9 @@ fn lend(
     if cycles.len() < places {
         return n;
     }
+    if sources.len() < places {
+        return n;
+    }
     run(
         words,
         reals,
@@ -106,6 +120,7 @@ fn lend(
         &mut pins[..places],
         &mut levels[..places],
         &mut cycles[..places],
+        &mut sources[..places],
         out,
         n,
     )
@@ -261,6 +276,7 @@ fn act(
     pins: &mut [u8; PLACES],
     levels: &mut [u8; PLACES],
     cycles: &mut [u64; PLACES],
+    sources: &mut [u8; PLACES],
     out: &mut [u8; OUT],
 ) -> bool {
     let used = line::size(state[USED]);
@@ -282,6 +298,7 @@ fn act(
             pins,
             levels,
             cycles,
+            sources,
             places,
             out,
             used,
@@ -306,13 +323,25 @@ fn pass(
     pins: &mut [u8; PLACES],
     levels: &mut [u8; PLACES],
     cycles: &mut [u64; PLACES],
+    sources: &mut [u8; PLACES],
     out: &mut [u8; OUT],
 ) -> bool {
     let mut i = 0;
     while i < part.len() {
         let e = line::feed(state, word, call, part[i]);
         if e != line::GO_ON {
-            if !act(e, state, call, words, reals, pins, levels, cycles, out) {
+            if !act(
+                e,
+                state,
+                call,
+                words,
+                reals,
+                pins,
+                levels,
+                cycles,
+                sources,
+                out,
+            ) {
                 return false;
             }
         }
@@ -331,6 +360,7 @@ fn turn(
     pins: &mut [u8; PLACES],
     levels: &mut [u8; PLACES],
     cycles: &mut [u64; PLACES],
+    sources: &mut [u8; PLACES],
     out: &mut [u8; OUT],
 ) -> u8 {
     let mut part = io::large_buffer();
@@ -352,6 +382,7 @@ fn turn(
         pins,
         levels,
         cycles,
+        sources,
         out,
     ) {
         return MORE;
@@ -369,11 +400,23 @@ fn last(
     pins: &mut [u8; PLACES],
     levels: &mut [u8; PLACES],
     cycles: &mut [u64; PLACES],
+    sources: &mut [u8; PLACES],
     out: &mut [u8; OUT],
 ) {
     let e = line::line_end(state, word, call);
     if e != line::GO_ON {
-        act(e, state, call, words, reals, pins, levels, cycles, out);
+        act(
+            e,
+            state,
+            call,
+            words,
+            reals,
+            pins,
+            levels,
+            cycles,
+            sources,
+            out,
+        );
     }
 }
 
@@ -389,12 +432,24 @@ fn finish(
     pins: &mut [u8; PLACES],
     levels: &mut [u8; PLACES],
     cycles: &mut [u64; PLACES],
+    sources: &mut [u8; PLACES],
     out: &mut [u8; OUT],
 ) {
     if told == UNREAD {
         io::write_all(2, b"replay: a read failed: the list ends before its end\n");
     } else {
-        last(state, word, call, words, reals, pins, levels, cycles, out);
+        last(
+            state,
+            word,
+            call,
+            words,
+            reals,
+            pins,
+            levels,
+            cycles,
+            sources,
+            out,
+        );
     }
     if !reply::flush(out, line::size(state[USED])) {
         io::write_all(2, b"replay: a write failed: answers are missing\n");
@@ -413,6 +468,7 @@ fn main() {
     let mut pins = [0u8; PLACES];
     let mut levels = [0u8; PLACES];
     let mut cycles = [0u64; PLACES];
+    let mut sources = [0u8; PLACES];
     let mut out = [0u8; OUT];
     blank::clear(&mut words, &mut reals, 1.0, 1.0);
     let mut told = MORE;
@@ -427,6 +483,7 @@ fn main() {
             &mut pins,
             &mut levels,
             &mut cycles,
+            &mut sources,
             &mut out,
         );
         turns -= 1;
@@ -441,6 +498,7 @@ fn main() {
         &mut pins,
         &mut levels,
         &mut cycles,
+        &mut sources,
         &mut out,
     );
 }

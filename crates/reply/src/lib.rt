@@ -50,15 +50,17 @@ pub fn number(out: &mut [u8; OUT], n: usize, x: u64) -> usize {
     }
 }
 
-// ` PIN:LEVEL@CYCLE`
-fn entry(out: &mut [u8; OUT], n: usize, pin: u8, level: u8, cycle: u64) -> usize {
+// ` PIN:LEVEL@CYCLE/SOURCE`
+fn entry(out: &mut [u8; OUT], n: usize, pin: u8, level: u8, cycle: u64, source: u8) -> usize {
     let a = room(out, n);
     let b = put(out, a, b' ');
     let c = number(out, b, pin as u64);
     let d = put(out, c, b':');
     let e = number(out, d, level as u64);
     let f = put(out, e, b'@');
-    number(out, f, cycle)
+    let g = number(out, f, cycle);
+    let h = put(out, g, b'/');
+    number(out, h, source as u64)
 }
 
 // `NUMBER VALUE COUNT`
@@ -78,6 +80,7 @@ fn entry_at(
     pins: &[u8],
     levels: &[u8],
     cycles: &[u64],
+    sources: &[u8],
     i: usize,
 ) -> usize {
     if pins.len() <= i {
@@ -89,7 +92,10 @@ fn entry_at(
     if cycles.len() <= i {
         return n;
     }
-    entry(out, n, pins[i], levels[i], cycles[i])
+    if sources.len() <= i {
+        return n;
+    }
+    entry(out, n, pins[i], levels[i], cycles[i], sources[i])
 }
 
 // An answer's line.
@@ -100,12 +106,13 @@ pub fn answer(
     pins: &[u8],
     levels: &[u8],
     cycles: &[u64],
+    sources: &[u8],
     entries: usize,
 ) -> usize {
     let mut at = head(out, n, answer);
     let mut i = 0;
     while i < entries {
-        at = entry_at(out, at, pins, levels, cycles, i);
+        at = entry_at(out, at, pins, levels, cycles, sources, i);
         i += 1;
     }
     let last = room(out, at);

@@ -16,6 +16,7 @@ use Rattle.accuracy.proofs.Aim.{due}
 use Rattle.accuracy.proofs.Levels.{Upward}
 use Rattle.accuracy.proofs.Accurate.{accurate, in-order, pin-is}
 use Rattle.shift.specs.Shift.{Shift, levelBefore, highIn, cycleBefore, misplaced, outOfOrder, numberOf, Figures, figures, figuresAt, Reports}
+use Rattle.shift.proofs.Sources.{number-bare, report-bare}
 use Rattle.reported.specs.Planned.{entriesAfter, Planned, ReportClaim, OrderClaim, OnlyOf, ServedClaim}
 
 -- the report's high cycles are demand 3's
@@ -24,7 +25,8 @@ same-high π s p = ap (λ (l : ℕ). highs (levelAt (π .pin) (entriesAfter π) 
 
 pub reported : ReportClaim
 reported π st s p number high lent left r z =
-    let f : figuresAt left (π .pin) ≡ figures s (entriesAfter π) (π .pin) = r .each (sym (r .answered) ∙ z) (π .pin) (pin-is π st) in
+    let q = report-bare s (entriesAfter π) number high lent left r in
+    let f : figuresAt left (π .pin) ≡ figures s (entriesAfter π) (π .pin) = q .each (sym (q .answered) ∙ z) (π .pin) (pin-is π st) in
     let h : getD left (3 * π .pin) 0 ≡ highs (recorded π) (s .from) (s .to - s .from) = ap (λ (x : Figures). x .high) f ∙ same-high π s p in
     subst (λ (n : ℕ). WithinBound n (s .to - s .from) (periodOf (board₁ π) (π .timer)) (highOf (board₁ π) (π .timer) (π .ch))) (sym h)
     (accurate π st (s .from) (s .to - s .from) (p .window))
@@ -57,7 +59,10 @@ only-order pin [] o all h before k = refl
 only-order pin (e ∷ es) o all h before k =
     rw (h before e es k (o .0)) (only-order pin es (o .1) all h (before ++ (e ∷ [])) (k ∙ sym (append-assoc before (e ∷ []) es)))
 
-pub served : ServedClaim
+with-sources : (π : Pilot) → Steady π → OnlyOf (π .pin) (entriesAfter π) → (s : Shift) → s .from ≤ s .to → numberOf s (entriesAfter π) ≡ 0
 unfolding numberOf
-served π st only s le =
+with-sources π st only s le =
     rw (le-ltb (s .to) (s .from) le, only-order (π .pin) (entriesAfter π) only (entriesAfter π) (orderly π st) [] refl)
+
+pub served : ServedClaim
+served π st only s le = number-bare s (entriesAfter π) ∙ with-sources π st only s le

@@ -13,11 +13,10 @@ use lib.ListN.{length, getD, set, length-set}
 use lib.Pow.{pow-mono}
 use lib.Seq.{getD-set-same, getD-set-other}
 use borrow.Author.Tests.{eqb-true, eqb-false}
-use Rattle.book.specs.Book.{Entry, Lent, places}
-use Rattle.book.specs.Level.{entriesFrom}
+use Rattle.book.specs.Book.{Entry}
 use Rattle.shift.specs.declared.Track.{Track}
 use Rattle.shift.specs.declared.Summary.{Summary}
-use Rattle.shift.specs.Shift.{Shift, levelBit, levelBefore, isEdge, edges, highPins, outOfOrder, numberOf, entriesIn, Figures, figures, figuresAt, Reports}
+use Rattle.shift.specs.Shift.{Shift, Piece, lengthOf, sourceless, levelBit, levelBefore, isEdge, edges, highPins, outOfOrder, numberOf, unsourcedFrom, entriesIn, Figures, figures, figuresAt, Reports}
 use Rattle.shift.specs.Kept.{trackAt, freshTrack, Fresh, putTrack, numberKept, entered, fed, figuresOf, putFigures, Written, highTracks, numberGiven, Ended, Told, Stands}
 use Rattle.shift.proofs.Standing.{put-length, put-same, put-apart, byTests, stands-fed}
 
@@ -81,38 +80,38 @@ fresh-more words from to n w w₁ t lt f e k =
         put-apart w n t pin d ∙ f .each pin (omega (arith, d))
 
 -- feed: what is left to feed leads to the same words
-pub entries-first : (i n : ℕ) (u : Lent) → i < n
-    → entriesFrom i (n - i) u ≡ record { pin = getD (u .pins) i 0; level = getD (u .levels) i 0; cycle = getD (u .cycles) i 0 } ∷ entriesFrom (i + 1) (n - (i + 1)) u
-unfolding entriesFrom
+pub entries-first : (i n : ℕ) (u : Piece) → i < n
+    → unsourcedFrom i (n - i) u ≡ sourceless (getD (u .pins) i 0) (getD (u .levels) i 0) (getD (u .cycles) i 0) ∷ unsourcedFrom (i + 1) (n - (i + 1)) u
+unfolding unsourcedFrom
 entries-first i n u lt =
     let k : n - i ≡ suc (n - (i + 1)) = omega arith in
-    ap (λ (m : ℕ). entriesFrom i m u) k ∙ rw (sym (add-one i))
+    ap (λ (m : ℕ). unsourcedFrom i m u) k ∙ rw (sym (add-one i))
 
-pub fed-more : (w w₀ w₁ : List ℕ) (i n : ℕ) (u : Lent) → i < n → fed w (entriesFrom i (n - i) u) ≡ fed w₀ (entriesFrom 0 n u)
-    → w₁ ≡ entered w (record { pin = getD (u .pins) i 0; level = getD (u .levels) i 0; cycle = getD (u .cycles) i 0 })
-    → fed w₁ (entriesFrom (i + 1) (n - (i + 1)) u) ≡ fed w₀ (entriesFrom 0 n u)
+pub fed-more : (w w₀ w₁ : List ℕ) (i n : ℕ) (u : Piece) → i < n → fed w (unsourcedFrom i (n - i) u) ≡ fed w₀ (unsourcedFrom 0 n u)
+    → w₁ ≡ entered w (sourceless (getD (u .pins) i 0) (getD (u .levels) i 0) (getD (u .cycles) i 0))
+    → fed w₁ (unsourcedFrom (i + 1) (n - (i + 1)) u) ≡ fed w₀ (unsourcedFrom 0 n u)
 unfolding fed
 fed-more w w₀ w₁ i n u lt h k =
-    ap (λ (x : List ℕ). fed x (entriesFrom (i + 1) (n - (i + 1)) u)) k ∙ sym (ap (λ (l : List Entry). fed w l) (entries-first i n u lt)) ∙ h
+    ap (λ (x : List ℕ). fed x (unsourcedFrom (i + 1) (n - (i + 1)) u)) k ∙ sym (ap (λ (l : List Entry). fed w l) (entries-first i n u lt)) ∙ h
 
-pub fed-done : (w w₀ : List ℕ) (i n : ℕ) (u : Lent) → n ≤ i → fed w (entriesFrom i (n - i) u) ≡ fed w₀ (entriesFrom 0 n u) → w ≡ fed w₀ (entriesFrom 0 n u)
-unfolding fed entriesFrom
+pub fed-done : (w w₀ : List ℕ) (i n : ℕ) (u : Piece) → n ≤ i → fed w (unsourcedFrom i (n - i) u) ≡ fed w₀ (unsourcedFrom 0 n u) → w ≡ fed w₀ (unsourcedFrom 0 n u)
+unfolding fed unsourcedFrom
 fed-done w w₀ i n u le h =
     let k : n - i ≡ 0 = omega arith in
-    sym (ap (λ (m : ℕ). fed w (entriesFrom i m u)) k) ∙ h
+    sym (ap (λ (m : ℕ). fed w (unsourcedFrom i m u)) k) ∙ h
 
-pub fed-begins : (w : List ℕ) (n : ℕ) (u : Lent) → fed w (entriesFrom 0 (n - 0) u) ≡ fed w (entriesFrom 0 n u)
-fed-begins w n u = ap (λ (m : ℕ). fed w (entriesFrom 0 m u)) (omega arith)
+pub fed-begins : (w : List ℕ) (n : ℕ) (u : Piece) → fed w (unsourcedFrom 0 (n - 0) u) ≡ fed w (unsourcedFrom 0 n u)
+fed-begins w n u = ap (λ (m : ℕ). fed w (unsourcedFrom 0 m u)) (omega arith)
 
 -- what `shift_feed` promises
-pub fed-both : (w w₀ : List ℕ) (i n : ℕ) (u : Lent) → n ≤ i → fed w (entriesFrom i (n - i) u) ≡ fed w₀ (entriesFrom 0 n u) → n ≡ places u
+pub fed-both : (w w₀ : List ℕ) (i n : ℕ) (u : Piece) → n ≤ i → fed w (unsourcedFrom i (n - i) u) ≡ fed w₀ (unsourcedFrom 0 n u) → n ≡ lengthOf u
     → (w ≡ fed w₀ (entriesIn u)) × ((s : Shift) (es : List Entry) → Stands s es w₀ → Stands s (es ++ entriesIn u) w)
 fed-both w w₀ i n u le h e =
-    let k : w ≡ fed w₀ (entriesIn u) = fed-done w w₀ i n u le h ∙ ap (λ (m : ℕ). fed w₀ (entriesFrom 0 m u)) e in
+    let k : w ≡ fed w₀ (entriesIn u) = fed-done w w₀ i n u le h ∙ ap (λ (m : ℕ). fed w₀ (unsourcedFrom 0 m u)) e in
     (k, λ s es st. subst (λ (x : List ℕ). Stands s (es ++ entriesIn u) x) (sym k) (stands-fed s es (entriesIn u) w₀ st))
 
-pub entries-length : (i n : ℕ) (u : Lent) → length (entriesFrom i n u) ≡ n
-unfolding entriesFrom
+pub entries-length : (i n : ℕ) (u : Piece) → length (unsourcedFrom i n u) ≡ n
+unfolding unsourcedFrom
 entries-length i zero u = refl
 entries-length i (suc n) u = ap suc (entries-length (suc i) n u)
 

@@ -5,10 +5,10 @@ use Prim.Native.Nat.{ℕ, _+_, _-_, _<_}
 use native.Mathlib.Omega.{arith}
 use lib.ListN.{length}
 use borrow.Author.Tests.{ne-eqb}
-use Rattle.book.specs.Book.{Entry, Lent}
+use Rattle.book.specs.Book.{Entry}
 use Rattle.book.specs.Level.{levelAt}
 use Rattle.shift.specs.declared.Summary.{Summary}
-use Rattle.shift.specs.Shift.{Shift, levelBefore, levelIn, highIn, edges, figures, entriesIn, Reports}
+use Rattle.shift.specs.Shift.{Shift, Piece, levelBefore, levelIn, highIn, edges, figures, entriesIn, Reports}
 use Rattle.shift.specs.Kept.{fed, Ended, Stands}
 use Rattle.shift.proofs.Laws.{highs-same, highs-most}
 use Rattle.shift.proofs.Standing.{highs-still, stands-fed}
@@ -44,21 +44,21 @@ idle s es pin h z =
 
 -- ---- every way to cut a book: what the pieces leave stands for the joined books, and the end reports them
 
-unfoldable pub joinedBooks : List Lent → List Entry
+unfoldable pub joinedBooks : List Piece → List Entry
 joinedBooks [] = []
 joinedBooks (u ∷ us) = entriesIn u ++ joinedBooks us
 
 -- the words after each piece has been fed (`shift_feed`'s first promise, one book after the other)
-unfoldable pub fedBooks : List ℕ → List Lent → List ℕ
+unfoldable pub fedBooks : List ℕ → List Piece → List ℕ
 fedBooks w [] = w
 fedBooks w (u ∷ us) = fedBooks (fed w (entriesIn u)) us
 
-stands-books : (s : Shift) (es : List Entry) (us : List Lent) (w : List ℕ) → Stands s es w → Stands s (es ++ joinedBooks us) (fedBooks w us)
+stands-books : (s : Shift) (es : List Entry) (us : List Piece) (w : List ℕ) → Stands s es w → Stands s (es ++ joinedBooks us) (fedBooks w us)
 unfolding joinedBooks fedBooks
 stands-books s es [] w h = rw append-nil h
 stands-books s es (u ∷ us) w h =
     rw append-assoc at (stands-books s (es ++ entriesIn u) us (fed w (entriesIn u)) (stands-fed s es (entriesIn u) w h))
 
-pub pieces : (s : Shift) (us : List Lent) (w : List ℕ) (r : Summary) (f f₁ : List ℕ) → Stands s [] w → length (joinedBooks us) < 18446744073709551616
+pub pieces : (s : Shift) (us : List Piece) (w : List ℕ) (r : Summary) (f f₁ : List ℕ) → Stands s [] w → length (joinedBooks us) < 18446744073709551616
     → Ended (fedBooks w us) r f f₁ → Reports s (joinedBooks us) (r .number) (r .high) f f₁
 pieces s us w r f f₁ h few e = reports s (joinedBooks us) (fedBooks w us) (stands-books s [] us w h) r f f₁ few e

@@ -2,11 +2,11 @@
 use mathlib.Core.Path.{_≡_}
 use mathlib.Core.Bool.{Bool, true, false, cond, not, _&&_, _||_}
 use mathlib.Core.List.{List, [], _∷_, _++_}
-use Prim.Native.Nat.{ℕ, zero, suc, _+_, _-_, _*_, _/_, _%_, _^_, _<_}
+use Prim.Native.Nat.{ℕ, zero, suc, _+_, _-_, _*_, _/_, _%_, _^_, _<_, min}
 use lib.Dec.{eqb, ltb}
-use lib.ListN.{getD}
-use Rattle.book.specs.Book.{Entry, Lent, places}
-use Rattle.book.specs.Level.{entriesFrom, levelAt, highs}
+use lib.ListN.{getD, length}
+use Rattle.book.specs.Book.{Entry}
+use Rattle.book.specs.Level.{levelAt, highs}
 
 -- "every pin's level before the first entry (four 32-bit words ..) and cycles from and to"
 pub record Shift : Type 0 where
@@ -24,10 +24,34 @@ levelBit words pin = getD words (pin / 32) 0 / 2 ^ (pin % 32) % 2
 abbrev pub levelBefore : Shift → ℕ → ℕ
 levelBefore s pin = levelBit (s .words) pin
 
--- ---- "Given the joined book": its entries, as many as its shortest slice has places
+-- ---- "Given the joined book": its entries, as many as its shortest slice has places. "The shift report takes no sources" (F-5): it is given three of
+-- the four slices, and an entry's source stands as 0. proofs/Sources.antt: no source makes another report.
 
-abbrev pub entriesIn : Lent → List Entry
-entriesIn u = entriesFrom 0 (places u) u
+pub record Piece : Type 0 where
+  pub pins : List ℕ
+  pub levels : List ℕ
+  pub cycles : List ℕ
+
+abbrev pub piece : List ℕ → List ℕ → List ℕ → Piece
+piece p l c = record { pins = p; levels = l; cycles = c }
+
+abbrev pub lengthOf : Piece → ℕ
+lengthOf u = min (length (u .pins)) (min (length (u .levels)) (length (u .cycles)))
+
+abbrev pub sourceless : ℕ → ℕ → ℕ → Entry
+sourceless pin level cycle = record { pin = pin; level = level; cycle = cycle; source = 0 }
+
+-- an entry of a book as the report is given it
+abbrev pub unsourced : Entry → Entry
+unsourced e = sourceless (e .pin) (e .level) (e .cycle)
+
+-- n entries from place i on
+unfoldable pub unsourcedFrom : ℕ → ℕ → Piece → List Entry
+unsourcedFrom i zero u = []
+unsourcedFrom i (suc n) u = sourceless (getD (u .pins) i 0) (getD (u .levels) i 0) (getD (u .cycles) i 0) ∷ unsourcedFrom (suc i) n u
+
+abbrev pub entriesIn : Piece → List Entry
+entriesIn u = unsourcedFrom 0 (lengthOf u) u
 
 -- ---- "for each of the 128 pins its high cycles, low cycles and edges, cycle to excluded"
 

@@ -7,8 +7,8 @@ ghost use Prim.Native.Nat.{ℕ, _+_, _-_, _≤_, _<_, max};
 ghost use lib.Dec.{eqb, ltb};
 ghost use lib.Count.{ones};
 ghost use lib.ListN.{length};
-ghost use Rattle.book.specs.Book.{Entry, slices};
-ghost use Rattle.shift.specs.Shift.{Shift, shift, levelBit, entriesIn, Reports};
+ghost use Rattle.book.specs.Book.{Entry};
+ghost use Rattle.shift.specs.Shift.{piece, sourceless, Shift, shift, levelBit, entriesIn, Reports};
 ghost use Rattle.shift.specs.Kept.{counts, turnedHigh, moreEdges, took, trackAt, putTrack, freshTrack, Fresh, numberKept, numberGiven, entered, fed, putFigures, Written, highTracks, Ended, Stands};
 
 // The kept words: four a pin, from, to, the number.
@@ -151,7 +151,7 @@ fn store(kept: &mut [u64; KEPT], pin: usize, t: Track)
 
 // One entry. Once there is a number, nothing.
 fn enter(kept: &mut [u64; KEPT], pin: u8, level: u8, cycle: u64)
-    ensures { λ _. ⌜ now (kept .exit) ≡ entered (now (kept .entry)) (record { pin = pin; level = level; cycle = cycle }) ⌝ }
+    ensures { λ _. ⌜ now (kept .exit) ≡ entered (now (kept .entry)) (sourceless pin level cycle) ⌝ }
 {
     if kept[NUMBER] != 0 {
         return;
@@ -235,10 +235,10 @@ pub extern "C" fn shift_begin(kept: &mut [u64; KEPT], words: &[u32; 4], from: u6
 // The entries of a book more, as many as its shortest slice has places.
 #[no_mangle]
 pub extern "C" fn shift_feed(kept: &mut [u64; KEPT], pins: &[u8], levels: &[u8], cycles: &[u64])
-    ensures { λ _. ⌜ now (kept .exit) ≡ fed (now (kept .entry)) (entriesIn (slices (now (pins .entry)) (now (levels .entry)) (now (cycles .entry)))) ⌝ }
-    ensures { λ _. ⌜ ((s : Shift) (es : List Entry) → Stands s es (now (kept .entry)) → Stands s (es ++ entriesIn (slices (now (pins .entry)) (now (levels .entry)) (now (cycles .entry)))) (now (kept .exit))) ⌝ }
+    ensures { λ _. ⌜ now (kept .exit) ≡ fed (now (kept .entry)) (entriesIn (piece (now (pins .entry)) (now (levels .entry)) (now (cycles .entry)))) ⌝ }
+    ensures { λ _. ⌜ ((s : Shift) (es : List Entry) → Stands s es (now (kept .entry)) → Stands s (es ++ entriesIn (piece (now (pins .entry)) (now (levels .entry)) (now (cycles .entry)))) (now (kept .exit))) ⌝ }
 {
-    let n = book::room(pins, levels, cycles);
+    let n = book::lesser(pins.len(), book::lesser(levels.len(), cycles.len()));
     let mut i = 0;
     while i < n {
         enter(kept, pins[i], levels[i], cycles[i]);
@@ -356,7 +356,7 @@ pub extern "C" fn shift_report(
     levels: &[u8],
     cycles: &[u64],
 ) -> Summary
-    ensures { λ r. ⌜ Reports (shift (now (words .entry)) from to) (entriesIn (slices (now (pins .entry)) (now (levels .entry)) (now (cycles .entry)))) (r .number) (r .high) (now (figures .entry)) (now (figures .exit)) ⌝ }
+    ensures { λ r. ⌜ Reports (shift (now (words .entry)) from to) (entriesIn (piece (now (pins .entry)) (now (levels .entry)) (now (cycles .entry)))) (r .number) (r .high) (now (figures .entry)) (now (figures .exit)) ⌝ }
 {
     let mut kept = [0u64; KEPT];
     shift_begin(&mut kept, words, from, to);

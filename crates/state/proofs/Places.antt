@@ -2,7 +2,7 @@
 use mathlib.Core.Path.{_≡_, refl, ap, sym, _∙_}
 use mathlib.Core.Bool.{Bool, true, false, not}
 use mathlib.Core.List.{List, [], _∷_, map}
-use Prim.Native.Nat.{ℕ, zero, suc, _+_, _*_, _%_, _<_, _≤_, min}
+use Prim.Native.Nat.{ℕ, zero, suc, _+_, _*_, _/_, _%_, _<_, _≤_, min}
 use native.Mathlib.Nat.{add-zero, add-assoc}
 use native.Mathlib.Omega.{arith}
 use borrow.Author.Tests.{lt-ltb, le-ltb, ltb-true, ltb-false, eq-eqb, ne-eqb, eqb-true, eqb-false}
@@ -153,6 +153,10 @@ module _ (w : List ℕ) (x : List Float) where
     pub pin-level : pinAt (view w x) p .pin .level ≡ getD w (1116 + (p * 16 + 14)) 0 % 2
     unfolding decodeGpio
     pin-level = ap (λ (g : Gpio). g .pin .level) (gpio-read p h) ∙ ap (λ (n : ℕ). n % 2) (gpio-word p 14 (lit≤ tt))
+
+    pub pin-source : pinAt (view w x) p .pin .source ≡ (getD w (1116 + (p * 16 + 14)) 0 / 2 % 4 + 3) % 4 + 1
+    unfolding decodeGpio
+    pin-source = ap (λ (g : Gpio). g .pin .source) (gpio-read p h) ∙ ap (λ (n : ℕ). (n / 2 % 4 + 3) % 4 + 1) (gpio-word p 14 (lit≤ tt))
 
     pub pin-signal : pinAt (view w x) p .sig ≡ getD w (1116 + (p * 16 + 15)) 0 % 256
     unfolding decodeGpio

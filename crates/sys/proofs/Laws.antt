@@ -9,6 +9,7 @@ use lib.Ieee.{Float}
 use lib.ListN.{length}
 use lib.Seq.{getD-set-same}
 use borrow.Author.Tests.{eq-eqb, ne-eqb}
+use Rattle.pins.specs.Pins.{byChip}
 use Rattle.gpio.specs.declared.Gpio.{Gpio}
 use Rattle.gpio.specs.declared.PinCfg.{PinCfg}
 use Rattle.gpio.specs.declared.Change.{Change}
@@ -71,28 +72,41 @@ module _ (b b₁ : Board) (i : ℕ) where
       sym (ap (λ (y : Board). gpioAt (y .pads) i .pin .level) e
       ∙ ap (λ (x : Gpio). x .pin .level) (getD-set-same (b .pads .gpio) i (pushPull (gpioAt (b .pads) i) l (b .pads .vcc)) noGpio h))
 
-  -- its change, from its level before and after
+  -- and the chip as its source
+  push-source : (l : ℕ) → i < length (b .pads .gpio) → b₁ ≡ withPads b (withGpio (b .pads) i (pushPull (gpioAt (b .pads) i) l (b .pads .vcc)))
+      → byChip ≡ gpioAt (b₁ .pads) i .pin .source
+  unfolding pushPull
+  push-source l h e =
+      sym (ap (λ (y : Board). gpioAt (y .pads) i .pin .source) e
+      ∙ ap (λ (x : Gpio). x .pin .source) (getD-set-same (b .pads .gpio) i (pushPull (gpioAt (b .pads) i) l (b .pads .vcc)) noGpio h))
+
+  -- its change, from its level before and after, and its source after
   pub refresh-moves : i < length (b .pads .gpio) → b₁ ≡ withPads b (refreshPin (b .pads) i .pads)
-      → (was now : ℕ) → was ≡ gpioAt (b .pads) i .pin .level → now ≡ gpioAt (b₁ .pads) i .pin .level
-      → (r : Change) → r ≡ changed i was now → Moves (refreshPin (b .pads) i) b b₁ r
+      → (was now by : ℕ) → was ≡ gpioAt (b .pads) i .pin .level → now ≡ gpioAt (b₁ .pads) i .pin .level → by ≡ gpioAt (b₁ .pads) i .pin .source
+      → (r : Change) → r ≡ changed i was now by → Moves (refreshPin (b .pads) i) b b₁ r
   unfolding refreshPin
-  refresh-moves h e was now p q r c =
+  refresh-moves h e was now by p q o r c =
       let g : Gpio = gpioAt (b .pads) i in
       let m : Moved = refreshed i g (levelOf (b .pads) (signalOf g)) (b .pads .vcc) in
       let new : now ≡ m .gpio .pin .level =
       q ∙ ap (λ (y : Board). gpioAt (y .pads) i .pin .level) e
       ∙ ap (λ (x : Gpio). x .pin .level) (getD-set-same (b .pads .gpio) i (m .gpio) noGpio h) in
+      let held : by ≡ m .gpio .pin .source =
+      o ∙ ap (λ (y : Board). gpioAt (y .pads) i .pin .source) e
+      ∙ ap (λ (x : Gpio). x .pin .source) (getD-set-same (b .pads .gpio) i (m .gpio) noGpio h) in
       record {
         board = e;
-        change = c ∙ ap (λ (n : ℕ). changed i n now) p ∙ ap (changed i (g .pin .level)) new ∙ sym (level-change i g (levelOf (b .pads) (signalOf g)) (b .pads .vcc));
+        change =
+            c ∙ ap (λ (n : ℕ). changed i n now by) p ∙ ap (λ (n : ℕ). changed i (g .pin .level) n by) new ∙ ap (changed i (g .pin .level) (m .gpio .pin .level)) held
+            ∙ sym (level-change i g (levelOf (b .pads) (signalOf g)) (b .pads .vcc));
       }
 
   -- the change of a push-pull pin that its signal drives
   pub push-moves : i < length (b .pads .gpio) → (s l was : ℕ) → isPushPull (gpioAt (b .pads) i .cfg) ≡ true → s ≡ gpioAt (b .pads) i .sig → drives s ≡ true
       → l ≡ levelOf (b .pads) s → was ≡ gpioAt (b .pads) i .pin .level
       → b₁ ≡ withPads b (withGpio (b .pads) i (pushPull (gpioAt (b .pads) i) l (b .pads .vcc)))
-      → (r : Change) → r ≡ changed i was l → Moves (refreshPin (b .pads) i) b b₁ r
-  push-moves h s l was p q d k o e r c = refresh-moves h (push-sets s l p q d k e) was l o (push-level l h e) r c
+      → (r : Change) → r ≡ changed i was l byChip → Moves (refreshPin (b .pads) i) b b₁ r
+  push-moves h s l was p q d k o e r c = refresh-moves h (push-sets s l p q d k e) was l byChip o (push-level l h e) (push-source l h e) r c
 
 -- ---- a pin configured, and its routes
 pub select-sets : (b b₁ b₂ b₃ : Board) (i : ℕ) (g g₁ : Gpio) (c : PinCfg) (f new : ℕ)

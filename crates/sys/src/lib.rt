@@ -50,7 +50,7 @@ fn refresh_driven(words: &mut [u64; WORDS], reals: &mut [f64; REALS], i: usize) 
     let was = levels::level(words, i);
     let l = state::sig_level(words, levels::signal(words, i) as usize);
     levels::drive_level(words, reals, i, l);
-    gpio::code_of(gpio::changed(i as u8, was, l))
+    gpio::code_of(gpio::changed(i as u8, was, l, 1))
 }
 
 // Any pin refreshed. It has two callers, so that it is not inlined into the short way.
@@ -60,7 +60,12 @@ fn refresh_slow(words: &mut [u64; WORDS], reals: &mut [f64; REALS], i: usize) ->
 {
     let was = levels::level(words, i);
     refresh_any(words, reals, i);
-    gpio::code_of(gpio::changed(i as u8, was, levels::level(words, i)))
+    gpio::code_of(gpio::changed(
+        i as u8,
+        was,
+        levels::level(words, i),
+        levels::source(words, i),
+    ))
 }
 
 // Pin i refreshed; its change as a number.
@@ -245,10 +250,11 @@ pub fn reset_pins(
     pins: &mut [u8],
     levels: &mut [u8],
     cycles: &mut [u64],
+    sources: &mut [u8],
     cycle: u64,
 ) -> usize
-    requires { ⌜ Room (view (now words) (now reals) .counts .pins) (slices (now pins) (now levels) (now cycles)) ⌝ }
-    ensures { λ r. ⌜ Reset (view (now (words .entry)) (now (reals .entry))) (view (now (words .exit)) (now (reals .exit))) cycle (book (slices (now (pins .entry)) (now (levels .entry)) (now (cycles .entry))) 0) (book (slices (now (pins .exit)) (now (levels .exit)) (now (cycles .exit))) r) ⌝ }
+    requires { ⌜ Room (view (now words) (now reals) .counts .pins) (slices (now pins) (now levels) (now cycles) (now sources)) ⌝ }
+    ensures { λ r. ⌜ Reset (view (now (words .entry)) (now (reals .entry))) (view (now (words .exit)) (now (reals .exit))) cycle (book (slices (now (pins .entry)) (now (levels .entry)) (now (cycles .entry)) (now (sources .entry))) 0) (book (slices (now (pins .exit)) (now (levels .exit)) (now (cycles .exit)) (now (sources .exit))) r) ⌝ }
     ensures { λ r. ⌜ r ≤ view (now (words .entry)) (now (reals .entry)) .counts .pins ⌝ }
 {
     blank::unroute(words);
@@ -257,7 +263,7 @@ pub fn reset_pins(
     let mut k: usize = 0;
     while i < n {
         let c = reset_pin(words, reals, i);
-        k = book::append(pins, levels, cycles, k, c, cycle);
+        k = book::append(pins, levels, cycles, sources, k, c, cycle);
         i += 1;
     }
     k

@@ -97,11 +97,12 @@ fn write_timer(
     pins: &mut [u8],
     levels: &mut [u8],
     cycles: &mut [u64],
+    sources: &mut [u8],
 ) -> u64
     requires { ⌜ (i < 8) × (cycle ≤ 4611686018427387904) ⌝ }
-    requires { ⌜ Room 4 (slices (now pins) (now levels) (now cycles)) ⌝ }
+    requires { ⌜ Room 4 (slices (now pins) (now levels) (now cycles) (now sources)) ⌝ }
     ensures { λ r. ⌜ Answers (writtenBy (view (now (words .entry)) (now (reals .entry))) i off v cycle) (answerOf r) (now (words .entry)) (now (words .exit)) (now (reals .entry)) (now (reals .exit)) ⌝ }
-    ensures { λ r. ⌜ Holds (writtenBy (view (now (words .entry)) (now (reals .entry))) i off v cycle .entries) (slices (now (pins .entry)) (now (levels .entry)) (now (cycles .entry))) (slices (now (pins .exit)) (now (levels .exit)) (now (cycles .exit))) (answerOf r .count) ⌝ }
+    ensures { λ r. ⌜ Holds (writtenBy (view (now (words .entry)) (now (reals .entry))) i off v cycle .entries) (slices (now (pins .entry)) (now (levels .entry)) (now (cycles .entry)) (now (sources .entry))) (slices (now (pins .exit)) (now (levels .exit)) (now (cycles .exit)) (now (sources .exit))) (answerOf r .count) ⌝ }
 {
     let t = state::load_timer(words, i);
     let div = context::divider(words, reals, t);
@@ -123,6 +124,7 @@ fn write_timer(
         pins,
         levels,
         cycles,
+        sources,
     );
     made(count)
 }
@@ -139,18 +141,19 @@ fn write_cr1(
     pins: &mut [u8],
     levels: &mut [u8],
     cycles: &mut [u64],
+    sources: &mut [u8],
 ) -> u64
     requires { ⌜ (i < 8) × (cycle ≤ 4611686018427387904) ⌝ }
-    requires { ⌜ Room 4 (slices (now pins) (now levels) (now cycles)) ⌝ }
+    requires { ⌜ Room 4 (slices (now pins) (now levels) (now cycles) (now sources)) ⌝ }
     ensures { λ r. ⌜ Answers (writtenBy (view (now (words .entry)) (now (reals .entry))) i 0 v cycle) (answerOf r) (now (words .entry)) (now (words .exit)) (now (reals .entry)) (now (reals .exit)) ⌝ }
-    ensures { λ r. ⌜ Holds (writtenBy (view (now (words .entry)) (now (reals .entry))) i 0 v cycle .entries) (slices (now (pins .entry)) (now (levels .entry)) (now (cycles .entry))) (slices (now (pins .exit)) (now (levels .exit)) (now (cycles .exit))) (answerOf r .count) ⌝ }
+    ensures { λ r. ⌜ Holds (writtenBy (view (now (words .entry)) (now (reals .entry))) i 0 v cycle .entries) (slices (now (pins .entry)) (now (levels .entry)) (now (cycles .entry)) (now (sources .entry))) (slices (now (pins .exit)) (now (levels .exit)) (now (cycles .exit)) (now (sources .exit))) (answerOf r .count) ⌝ }
 {
     if regfile::write_cr1(words, i, v, cycle) {
         context::rebook(words, i, cycle);
         state::set_last(words, cycle);
         return 0;
     }
-    write_timer(words, reals, i, 0, v, cycle, pins, levels, cycles)
+    write_timer(words, reals, i, 0, v, cycle, pins, levels, cycles, sources)
 }
 
 // DIER: the interrupt line follows.
@@ -185,13 +188,14 @@ fn drive_written(
     pins: &mut [u8],
     levels: &mut [u8],
     cycles: &mut [u64],
+    sources: &mut [u8],
     i: usize,
     cnt: u32,
     at: u64,
 ) -> usize
     requires { ⌜ i < 8 ⌝ }
-    requires { ⌜ Room 4 (slices (now pins) (now levels) (now cycles)) ⌝ }
-    ensures { λ r. ⌜ O.Driven (driveOutputs (timerAt (view (now (words .entry)) (now (reals .entry))) i) cnt (view (now (words .entry)) (now (reals .entry)) .pads)) at (view (now (words .entry)) (now (reals .entry))) (view (now (words .exit)) (now (reals .exit))) (book (slices (now (pins .entry)) (now (levels .entry)) (now (cycles .entry))) 0) (book (slices (now (pins .exit)) (now (levels .exit)) (now (cycles .exit))) r) ⌝ }
+    requires { ⌜ Room 4 (slices (now pins) (now levels) (now cycles) (now sources)) ⌝ }
+    ensures { λ r. ⌜ O.Driven (driveOutputs (timerAt (view (now (words .entry)) (now (reals .entry))) i) cnt (view (now (words .entry)) (now (reals .entry)) .pads)) at (view (now (words .entry)) (now (reals .entry))) (view (now (words .exit)) (now (reals .exit))) (book (slices (now (pins .entry)) (now (levels .entry)) (now (cycles .entry)) (now (sources .entry))) 0) (book (slices (now (pins .exit)) (now (levels .exit)) (now (cycles .exit)) (now (sources .exit))) r) ⌝ }
     ensures { λ r. ⌜ r ≤ 4 ⌝ }
 {
     let t = state::load_timer(words, i);
@@ -207,13 +211,28 @@ fn drive_written(
     let l1 = t.output(1, cnt);
     let l2 = t.output(2, cnt);
     let l3 = t.output(3, cnt);
-    let m = outputs::drive_two(words, reals, pins, levels, cycles, 0, x, 0, s, l, l1, at);
+    let m = outputs::drive_two(
+        words,
+        reals,
+        pins,
+        levels,
+        cycles,
+        sources,
+        0,
+        x,
+        0,
+        s,
+        l,
+        l1,
+        at,
+    );
     outputs::drive_two(
         words,
         reals,
         pins,
         levels,
         cycles,
+        sources,
         m,
         x,
         2,
@@ -234,13 +253,14 @@ fn follow_compare(
     pins: &mut [u8],
     levels: &mut [u8],
     cycles: &mut [u64],
+    sources: &mut [u8],
 ) -> usize
     requires { ⌜ i < 8 ⌝ }
-    requires { ⌜ Room 4 (slices (now pins) (now levels) (now cycles)) ⌝ }
-    ensures { λ r. ⌜ Leaves (after (view (now (words .entry)) (now (reals .entry))) i cycle true cnt false true) (view (now (words .exit)) (now (reals .exit))) (book (slices (now (pins .entry)) (now (levels .entry)) (now (cycles .entry))) 0) (book (slices (now (pins .exit)) (now (levels .exit)) (now (cycles .exit))) r) ⌝ }
+    requires { ⌜ Room 4 (slices (now pins) (now levels) (now cycles) (now sources)) ⌝ }
+    ensures { λ r. ⌜ Leaves (after (view (now (words .entry)) (now (reals .entry))) i cycle true cnt false true) (view (now (words .exit)) (now (reals .exit))) (book (slices (now (pins .entry)) (now (levels .entry)) (now (cycles .entry)) (now (sources .entry))) 0) (book (slices (now (pins .exit)) (now (levels .exit)) (now (cycles .exit)) (now (sources .exit))) r) ⌝ }
     ensures { λ r. ⌜ r ≤ 4 ⌝ }
 {
-    let k = drive_written(words, reals, pins, levels, cycles, i, cnt, cycle);
+    let k = drive_written(words, reals, pins, levels, cycles, sources, i, cnt, cycle);
     context::rebook(words, i, cycle);
     state::set_last(words, cycle);
     k
@@ -258,11 +278,12 @@ fn write_compare(
     pins: &mut [u8],
     levels: &mut [u8],
     cycles: &mut [u64],
+    sources: &mut [u8],
 ) -> u64
     requires { ⌜ (i < 8) × (R.isCcr off ≡ true) × (cycle < 9223372036854775808) ⌝ }
-    requires { ⌜ Room 4 (slices (now pins) (now levels) (now cycles)) ⌝ }
+    requires { ⌜ Room 4 (slices (now pins) (now levels) (now cycles) (now sources)) ⌝ }
     ensures { λ r. ⌜ Answers (writtenBy (view (now (words .entry)) (now (reals .entry))) i off v cycle) (answerOf r) (now (words .entry)) (now (words .exit)) (now (reals .entry)) (now (reals .exit)) ⌝ }
-    ensures { λ r. ⌜ Holds (writtenBy (view (now (words .entry)) (now (reals .entry))) i off v cycle .entries) (slices (now (pins .entry)) (now (levels .entry)) (now (cycles .entry))) (slices (now (pins .exit)) (now (levels .exit)) (now (cycles .exit))) (answerOf r .count) ⌝ }
+    ensures { λ r. ⌜ Holds (writtenBy (view (now (words .entry)) (now (reals .entry))) i off v cycle .entries) (slices (now (pins .entry)) (now (levels .entry)) (now (cycles .entry)) (now (sources .entry))) (slices (now (pins .exit)) (now (levels .exit)) (now (cycles .exit)) (now (sources .exit))) (answerOf r .count) ⌝ }
 {
     let t = fields::inst(words, i);
     if t.channels == 0 {
@@ -277,7 +298,7 @@ fn write_compare(
         return 0;
     }
     let cnt = fields::cnt0(words, i);
-    let count = follow_compare(words, reals, i, cnt, cycle, pins, levels, cycles);
+    let count = follow_compare(words, reals, i, cnt, cycle, pins, levels, cycles, sources);
     made(count)
 }
 
@@ -294,16 +315,39 @@ fn write_other(
     pins: &mut [u8],
     levels: &mut [u8],
     cycles: &mut [u64],
+    sources: &mut [u8],
 ) -> u64
     requires { ⌜ (i < 8) × (cycle ≤ 4611686018427387904) ⌝ }
-    requires { ⌜ Room 4 (slices (now pins) (now levels) (now cycles)) ⌝ }
+    requires { ⌜ Room 4 (slices (now pins) (now levels) (now cycles) (now sources)) ⌝ }
     ensures { λ r. ⌜ Answers (writtenBy (view (now (words .entry)) (now (reals .entry))) i off v cycle) (answerOf r) (now (words .entry)) (now (words .exit)) (now (reals .entry)) (now (reals .exit)) ⌝ }
-    ensures { λ r. ⌜ Holds (writtenBy (view (now (words .entry)) (now (reals .entry))) i off v cycle .entries) (slices (now (pins .entry)) (now (levels .entry)) (now (cycles .entry))) (slices (now (pins .exit)) (now (levels .exit)) (now (cycles .exit))) (answerOf r .count) ⌝ }
+    ensures { λ r. ⌜ Holds (writtenBy (view (now (words .entry)) (now (reals .entry))) i off v cycle .entries) (slices (now (pins .entry)) (now (levels .entry)) (now (cycles .entry)) (now (sources .entry))) (slices (now (pins .exit)) (now (levels .exit)) (now (cycles .exit)) (now (sources .exit))) (answerOf r .count) ⌝ }
 {
     match off {
-        0x00 => write_cr1(words, reals, i, v, cycle, pins, levels, cycles),
-        0x34..=0x40 => write_compare(words, reals, i, off, v, cycle, pins, levels, cycles),
-        _ => write_timer(words, reals, i, off, v, cycle, pins, levels, cycles),
+        0x00 => write_cr1(words, reals, i, v, cycle, pins, levels, cycles, sources),
+        0x34..=0x40 => write_compare(
+            words,
+            reals,
+            i,
+            off,
+            v,
+            cycle,
+            pins,
+            levels,
+            cycles,
+            sources,
+        ),
+        _ => write_timer(
+            words,
+            reals,
+            i,
+            off,
+            v,
+            cycle,
+            pins,
+            levels,
+            cycles,
+            sources,
+        ),
     }
 }
 
@@ -321,11 +365,12 @@ fn write_any(
     pins: &mut [u8],
     levels: &mut [u8],
     cycles: &mut [u64],
+    sources: &mut [u8],
 ) -> u64
     requires { ⌜ (i < 8) × (size ≤ 4) × (cycle ≤ 4611686018427387904) ⌝ }
-    requires { ⌜ Room 4 (slices (now pins) (now levels) (now cycles)) ⌝ }
+    requires { ⌜ Room 4 (slices (now pins) (now levels) (now cycles) (now sources)) ⌝ }
     ensures { λ r. ⌜ Answers (writtenOn (view (now (words .entry)) (now (reals .entry))) i offset size value cycle) (answerOf r) (now (words .entry)) (now (words .exit)) (now (reals .entry)) (now (reals .exit)) ⌝ }
-    ensures { λ r. ⌜ Holds (writtenOn (view (now (words .entry)) (now (reals .entry))) i offset size value cycle .entries) (slices (now (pins .entry)) (now (levels .entry)) (now (cycles .entry))) (slices (now (pins .exit)) (now (levels .exit)) (now (cycles .exit))) (answerOf r .count) ⌝ }
+    ensures { λ r. ⌜ Holds (writtenOn (view (now (words .entry)) (now (reals .entry))) i offset size value cycle .entries) (slices (now (pins .entry)) (now (levels .entry)) (now (cycles .entry)) (now (sources .entry))) (slices (now (pins .exit)) (now (levels .exit)) (now (cycles .exit)) (now (sources .exit))) (answerOf r .count) ⌝ }
 {
     let v = merged(words, i, offset, size, value, cycle);
     write_other(
@@ -338,6 +383,7 @@ fn write_any(
         pins,
         levels,
         cycles,
+        sources,
     )
 }
 
@@ -354,18 +400,42 @@ fn write_quick(
     pins: &mut [u8],
     levels: &mut [u8],
     cycles: &mut [u64],
+    sources: &mut [u8],
 ) -> u64
     requires { ⌜ (i < 8) × (register off ≡ off) × (cycle ≤ 4611686018427387904) × (size ≡ 4) ⌝ }
-    requires { ⌜ Room 4 (slices (now pins) (now levels) (now cycles)) ⌝ }
+    requires { ⌜ Room 4 (slices (now pins) (now levels) (now cycles) (now sources)) ⌝ }
     ensures { λ r. ⌜ Answers (writtenBy (view (now (words .entry)) (now (reals .entry))) i off v cycle) (answerOf r) (now (words .entry)) (now (words .exit)) (now (reals .entry)) (now (reals .exit)) ⌝ }
-    ensures { λ r. ⌜ Holds (writtenBy (view (now (words .entry)) (now (reals .entry))) i off v cycle .entries) (slices (now (pins .entry)) (now (levels .entry)) (now (cycles .entry))) (slices (now (pins .exit)) (now (levels .exit)) (now (cycles .exit))) (answerOf r .count) ⌝ }
+    ensures { λ r. ⌜ Holds (writtenBy (view (now (words .entry)) (now (reals .entry))) i off v cycle .entries) (slices (now (pins .entry)) (now (levels .entry)) (now (cycles .entry)) (now (sources .entry))) (slices (now (pins .exit)) (now (levels .exit)) (now (cycles .exit)) (now (sources .exit))) (answerOf r .count) ⌝ }
 {
     match off {
-        0x00 => write_cr1(words, reals, i, v, cycle, pins, levels, cycles),
+        0x00 => write_cr1(words, reals, i, v, cycle, pins, levels, cycles, sources),
         0x0c => write_dier(words, i, v, cycle),
         0x10 => write_sr(words, i, v, cycle),
-        0x34..=0x40 => write_compare(words, reals, i, off, v, cycle, pins, levels, cycles),
-        _ => write_any(words, reals, i, off, size, v, cycle, pins, levels, cycles),
+        0x34..=0x40 => write_compare(
+            words,
+            reals,
+            i,
+            off,
+            v,
+            cycle,
+            pins,
+            levels,
+            cycles,
+            sources,
+        ),
+        _ => write_any(
+            words,
+            reals,
+            i,
+            off,
+            size,
+            v,
+            cycle,
+            pins,
+            levels,
+            cycles,
+            sources,
+        ),
     }
 }
 
@@ -390,11 +460,12 @@ fn write_on(
     pins: &mut [u8],
     levels: &mut [u8],
     cycles: &mut [u64],
+    sources: &mut [u8],
 ) -> u64
     requires { ⌜ (i < 8) × (size ≤ 4) × (cycle ≤ 4611686018427387904) ⌝ }
-    requires { ⌜ Room 4 (slices (now pins) (now levels) (now cycles)) ⌝ }
+    requires { ⌜ Room 4 (slices (now pins) (now levels) (now cycles) (now sources)) ⌝ }
     ensures { λ r. ⌜ Answers (writtenOn (view (now (words .entry)) (now (reals .entry))) i offset size value cycle) (answerOf r) (now (words .entry)) (now (words .exit)) (now (reals .entry)) (now (reals .exit)) ⌝ }
-    ensures { λ r. ⌜ Holds (writtenOn (view (now (words .entry)) (now (reals .entry))) i offset size value cycle .entries) (slices (now (pins .entry)) (now (levels .entry)) (now (cycles .entry))) (slices (now (pins .exit)) (now (levels .exit)) (now (cycles .exit))) (answerOf r .count) ⌝ }
+    ensures { λ r. ⌜ Holds (writtenOn (view (now (words .entry)) (now (reals .entry))) i offset size value cycle .entries) (slices (now (pins .entry)) (now (levels .entry)) (now (cycles .entry)) (now (sources .entry))) (slices (now (pins .exit)) (now (levels .exit)) (now (cycles .exit)) (now (sources .exit))) (answerOf r .count) ⌝ }
 {
     if quick(size) {
         return write_quick(
@@ -408,6 +479,7 @@ fn write_on(
             pins,
             levels,
             cycles,
+            sources,
         );
     }
     write_any(
@@ -421,6 +493,7 @@ fn write_on(
         pins,
         levels,
         cycles,
+        sources,
     )
 }
 
@@ -431,16 +504,17 @@ pub fn write(
     pins: &mut [u8],
     levels: &mut [u8],
     cycles: &mut [u64],
+    sources: &mut [u8],
     timer: u32,
     offset: u32,
     size: u32,
     value: u32,
     cycle: u64,
 ) -> Answer
-    ensures { λ r. ⌜ Answers (step (view (now (words .entry)) (now (reals .entry))) (Call.write timer offset size value cycle (places (slices (now (pins .entry)) (now (levels .entry)) (now (cycles .entry)))))) r (now (words .entry)) (now (words .exit)) (now (reals .entry)) (now (reals .exit)) ⌝ }
-    ensures { λ r. ⌜ Holds (step (view (now (words .entry)) (now (reals .entry))) (Call.write timer offset size value cycle (places (slices (now (pins .entry)) (now (levels .entry)) (now (cycles .entry))))) .entries) (slices (now (pins .entry)) (now (levels .entry)) (now (cycles .entry))) (slices (now (pins .exit)) (now (levels .exit)) (now (cycles .exit))) (r .count) ⌝ }
+    ensures { λ r. ⌜ Answers (step (view (now (words .entry)) (now (reals .entry))) (Call.write timer offset size value cycle (places (slices (now (pins .entry)) (now (levels .entry)) (now (cycles .entry)) (now (sources .entry)))))) r (now (words .entry)) (now (words .exit)) (now (reals .entry)) (now (reals .exit)) ⌝ }
+    ensures { λ r. ⌜ Holds (step (view (now (words .entry)) (now (reals .entry))) (Call.write timer offset size value cycle (places (slices (now (pins .entry)) (now (levels .entry)) (now (cycles .entry)) (now (sources .entry))))) .entries) (slices (now (pins .entry)) (now (levels .entry)) (now (cycles .entry)) (now (sources .entry))) (slices (now (pins .exit)) (now (levels .exit)) (now (cycles .exit)) (now (sources .exit))) (r .count) ⌝ }
 {
-    let no = answer::book_refusal(words, timer, size, cycle, pins, levels, cycles);
+    let no = answer::book_refusal(words, timer, size, cycle, pins, levels, cycles, sources);
     if no != 0 {
         return answer::refused(no);
     }
@@ -460,6 +534,7 @@ pub fn write(
         pins,
         levels,
         cycles,
+        sources,
     );
     answer_of(code)
 }

@@ -32,6 +32,15 @@ part-perform-start-3 c = omega (arith, c .before .before .before .before .before
 part-perform-end-3 : tie.Need-part-perform-end-3
 part-perform-end-3 c = omega (arith, c .before .before .before .before .before .before .before .before .pre)
 
+sub-perform-4 : tie.Need-sub-perform-4
+sub-perform-4 c = omega (arith, c .pre)
+
+part-perform-start-4 : tie.Need-part-perform-start-4
+part-perform-start-4 c = omega (arith, c .pre)
+
+part-perform-end-4 : tie.Need-part-perform-end-4
+part-perform-end-4 c = omega (arith, c .pre)
+
 perform-requires : tie.Need-perform-requires
 perform-requires c κs = c .before .before .before .before .before .before .before .before .before .pre .0
 
@@ -43,6 +52,9 @@ same-length-2 c = whole-length (c .before .before .before .before .before .befor
 
 same-length-3 : tie.Need-same-length-3
 same-length-3 c = whole-length (c .before .before .before .before .before .before .before .before .before .before .before .before .before .before .before .before .args .at) (c .before .before .before .before .before .before .before .before .before .before .before .before .before .before .before .before .args .end) _ (c .before .before .before .before .before .before .perform .last .1 .1 .1 .1 .1 .0) (omega (arith, c .before .before .before .before .before .before .before .before .before .before .before .before .before .before .before .before .pre)) (omega (arith, c .before .before .before .before .before .before .before .before .before .before .before .before .before .before .before .before .pre)) (c .before .before .before .before .before .before .perform .kept .1 .1 .1 .1 .1 .0)
+
+same-length-4 : tie.Need-same-length-4
+same-length-4 c = whole-length (c .args .at) (c .args .end) _ (c .perform .last .1 .1 .1 .1 .1 .1 .0) (omega (arith, c .pre)) (omega (arith, c .pre)) (c .perform .kept .1 .1 .1 .1 .1 .1 .0)
 
 returns : tie.Need-returns
 returns c = part-does (c .before .before .before .before .before .before .before .before .before .before .before .before .before .before .before .before .args .calls .now) _ _ _ _ _ _ _ _ _ _ (c .before .before .before .before .before .before .before .before .before .before .before .before .before .before .before .before .pre .1 .0) (c .before .before .before .before .before .before .before .before .before .before .before .before .before .before .before .before .pre .1 .1) (c .before .before .before .before .before .before .perform .ensures)

@@ -1,6 +1,6 @@
 -- Part by part; the drive comes back from its number and its volts.
 use Prim.Native.Nat.{_%_}
-use Rattle.codec.proofs.PinLaws.{drive}
+use Rattle.codec.proofs.PinLaws.{drive, level-back, source-back}
 use Rattle.codec.specs.Pin.{decodeGpio}
 use borrow.Author.Needs.{needs}
 use mathlib.Core.Path.{_≡_}
@@ -10,7 +10,7 @@ use Rattle.codec.proofs.pack_gpio.Tie as tie
 
 returns : tie.Need-returns
 unfolding decodeGpio
-returns c = let g = c .before .before .before .before .before .before .args .g in let s : g .sig % 256 ≡ g .sig = omega arith in let l : g .pin .level % 2 ≡ g .pin .level = omega arith in simp (c .before .before .before .before .pack-cfg .ensures, c .before .before .before .pack-mcu .ensures, c .before .before .ext-code .ensures, drive, s, l)
+returns c = let g = c .before .before .before .before .before .before .before .args .g in let s : g .sig % 256 ≡ g .sig = omega arith in let l = level-back (g .pin .level) (g .pin .source) (omega arith) in let k = source-back (g .pin .level) (g .pin .source) (omega arith) (omega arith) (omega arith) in simp (c .before .before .before .before .before .pack-cfg .ensures, c .before .before .before .before .pack-mcu .ensures, c .before .before .before .ext-code .ensures, drive, s, l, k)
 
 pub pack-gpio-spec : {M : Type 1} → statement M
 pack-gpio-spec =
@@ -18,4 +18,4 @@ pack-gpio-spec =
     (tie.spec (λ c κs. search needs) (λ c κs. search needs) (λ c κs. search needs) (λ c. search needs) (λ c. search needs)
     (λ c. search needs) (λ c. search needs) (λ c. search needs) (λ c. search needs) (λ c. search needs) (λ c. search needs)
     (λ c. search needs) (λ c. search needs) (λ c. search needs) (λ c. search needs) (λ c. search needs) (λ c. search needs)
-    (λ c. search needs) returns)
+    (λ c. search needs) (λ c. search needs) (λ c. search needs) (λ c. search needs) returns)

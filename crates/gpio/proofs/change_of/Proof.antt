@@ -14,4 +14,4 @@ unfolding changeOf
 returns-2 c = rw (ne-eqb _ _ (c .if1 .left))
 
 pub change-of-spec : {M : Type 1} → statement M
-change-of-spec = tie.close (tie.spec returns (λ c. search needs) (λ c. search needs) (λ c. search needs) returns-2)
+change-of-spec = tie.close (tie.spec returns (λ c. search needs) (λ c. search needs) (λ c. search needs) (λ c. search needs) returns-2)

@@ -17,6 +17,9 @@ returns-3 c = search needs
 returns-4 : tie.Need-returns-4
 returns-4 c = search needs
 
+returns-5 : tie.Need-returns-5
+returns-5 c = search needs
+
 slice-aggregate-run : tie.Need-slice-aggregate-run
 slice-aggregate-run c = sym (length-take-le _ _ (c .before .before .before .before .before .before .if1 .left))
 
@@ -38,6 +41,12 @@ slice-relend-prefix-run-3 c = search needs
 slice-aggregate-run-4 : tie.Need-slice-aggregate-run-4
 slice-aggregate-run-4 c = sym (length-take-le _ _ (c .before .before .before .before .before .before .if4 .left))
 
+slice-relend-prefix-run-4 : tie.Need-slice-relend-prefix-run-4
+slice-relend-prefix-run-4 c = search needs
+
+slice-aggregate-run-5 : tie.Need-slice-aggregate-run-5
+slice-aggregate-run-5 c = sym (length-take-le _ _ (c .if5 .left))
+
 run-requires : tie.Need-run-requires
 run-requires c κs = search needs
 
@@ -50,8 +59,11 @@ same-length-2 c = search needs
 same-length-3 : tie.Need-same-length-3
 same-length-3 c = search needs
 
-returns-5 : tie.Need-returns-5
-returns-5 c = search needs
+same-length-4 : tie.Need-same-length-4
+same-length-4 c = search needs
+
+returns-6 : tie.Need-returns-6
+returns-6 c = search needs
 
 pub lend-spec : {M : Type 1} → statement M
 lend-spec =

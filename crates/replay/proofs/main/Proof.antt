@@ -5,11 +5,11 @@ use Rattle.replay.proofs.main.Statement.{statement}
 use Rattle.replay.proofs.main.Tie as tie
 
 abbrev Inv-loop : tie.InvT-loop
-Inv-loop state₀ word₀ call₀ words₀ reals₀ pins₀ levels₀ cycles₀ out₀ told₀ turns₀ state word call words reals pins levels cycles out told turns =
+Inv-loop state₀ word₀ call₀ words₀ reals₀ pins₀ levels₀ cycles₀ sources₀ out₀ told₀ turns₀ state word call words reals pins levels cycles sources out told turns =
     Unit {0}
 
 abbrev μ-loop : tie.MeasureT-loop
-μ-loop state₀ word₀ call₀ words₀ reals₀ pins₀ levels₀ cycles₀ out₀ told₀ turns₀ state word call words reals pins levels cycles out told turns =
+μ-loop state₀ word₀ call₀ words₀ reals₀ pins₀ levels₀ cycles₀ sources₀ out₀ told₀ turns₀ state word call words reals pins levels cycles sources out told turns =
     turns
 
 array-write-state : tie.Need-array-write-state Inv-loop μ-loop

@@ -7,11 +7,11 @@ use Rattle.replay.proofs.pass.Statement.{statement}
 use Rattle.replay.proofs.pass.Tie as tie
 
 abbrev Inv-loop : tie.InvT-loop
-Inv-loop part state₀ word₀ call₀ words₀ reals₀ pins₀ levels₀ cycles₀ out₀ i₀ state word call words reals pins levels cycles out i =
+Inv-loop part state₀ word₀ call₀ words₀ reals₀ pins₀ levels₀ cycles₀ sources₀ out₀ i₀ state word call words reals pins levels cycles sources out i =
     Unit {0}
 
 abbrev μ-loop : tie.MeasureT-loop
-μ-loop part state₀ word₀ call₀ words₀ reals₀ pins₀ levels₀ cycles₀ out₀ i₀ state word call words reals pins levels cycles out i =
+μ-loop part state₀ word₀ call₀ words₀ reals₀ pins₀ levels₀ cycles₀ sources₀ out₀ i₀ state word call words reals pins levels cycles sources out i =
     length part - i
 
 loop-holds : tie.Need-loop-holds Inv-loop μ-loop

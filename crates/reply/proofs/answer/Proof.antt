@@ -6,10 +6,10 @@ use Rattle.reply.proofs.answer.Statement.{statement}
 use Rattle.reply.proofs.answer.Tie as tie
 
 abbrev Inv-loop : tie.InvT-loop
-Inv-loop out₀ n answer pins levels cycles entries at₀ i₀ out at i = Unit {0}
+Inv-loop out₀ n answer pins levels cycles sources entries at₀ i₀ out at i = Unit {0}
 
 abbrev μ-loop : tie.MeasureT-loop
-μ-loop out₀ n answer pins levels cycles entries at₀ i₀ out at i = entries - i
+μ-loop out₀ n answer pins levels cycles sources entries at₀ i₀ out at i = entries - i
 
 loop-holds : tie.Need-loop-holds Inv-loop μ-loop
 loop-holds c = tt

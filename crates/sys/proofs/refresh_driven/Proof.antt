@@ -18,40 +18,31 @@ use Rattle.levels.proofs.level.Reads as level-reads
 use Rattle.levels.proofs.signal.Reads as signal-reads
 use Rattle.state.proofs.sig_level.Reads as sig-level-reads
 
--- src/lib.rt:50:9
 level-requires : tie.Need-level-requires
 level-requires c κs = search needs
 
--- src/lib.rt:51:37
 signal-requires : tie.Need-signal-requires
 signal-requires c κs = search needs
 
--- src/lib.rt:51:37
 cast-sig-level : tie.Need-cast-sig-level
 cast-sig-level c = search needs
 
--- src/lib.rt:51:9
 sig-level-requires : tie.Need-sig-level-requires
 sig-level-requires c κs = search needs
 
--- src/lib.rt:52:5
 drive-level-requires : tie.Need-drive-level-requires
 drive-level-requires c κs =
     omega (arith, c .before .before .before .before .before .before .before .pre .0, level-small (c .before .before .before .before .before .before .before .args .words .now) (c .before .before .before .before .before .before .before .args .reals .now) _ (c .before .before .sig-level .ensures (c .before .before .before .before .before .before .before .args .reals .now)))
 
--- src/lib.rt:53:33
 cast-changed : tie.Need-cast-changed
 cast-changed c = search needs
 
--- src/lib.rt:53:19
 changed-requires : tie.Need-changed-requires
 changed-requires c κs = search needs
 
--- src/lib.rt:53:5
 code-of-requires : tie.Need-code-of-requires
 code-of-requires c κs = search needs
 
--- src/lib.rt:46:1
 returns : tie.Need-returns
 returns c =
     let g = gpioAt (view (c .before .before .before .before .before .before .before .before .before .before .args .words .now) (c .before .before .before .before .before .before .before .before .before .before .args .reals .now) .pads) (c .before .before .before .before .before .before .before .before .before .before .args .i) in told _ _ _ _ _ (c .code-of .ensures) (push-moves _ _ (c .before .before .before .before .before .before .before .before .before .before .args .i) (pin-there (c .before .before .before .before .before .before .before .before .before .before .args .words .now) (c .before .before .before .before .before .before .before .before .before .before .args .reals .now) (c .before .before .before .before .before .before .before .before .before .before .pre .0)) _ _ _ (both-left (isPushPull (g .cfg)) (drives (g .sig)) (c .before .before .before .before .before .before .before .before .before .before .pre .1)) (c .before .before .before .before .before .before .signal .ensures .0 (c .before .before .before .before .before .before .before .before .before .before .args .reals .now)) (ap drives (c .before .before .before .before .before .before .signal .ensures .0 (c .before .before .before .before .before .before .before .before .before .before .args .reals .now)) ∙ both-right (isPushPull (g .cfg)) (drives (g .sig)) (c .before .before .before .before .before .before .before .before .before .before .pre .1)) (c .before .before .before .before .before .sig-level .ensures (c .before .before .before .before .before .before .before .before .before .before .args .reals .now)) (c .before .before .before .before .before .before .before .before .level .ensures (c .before .before .before .before .before .before .before .before .before .before .args .reals .now)) (c .before .before .drive-level .ensures) _ (c .before .changed .ensures))

@@ -24,18 +24,12 @@ same-length-3 c = search needs
 
 returns : tie.Need-returns
 returns c =
-    let s = c .before .before .before .before .before .before .before .before .before .before .before .before .before .before .before .before .before .before .before in
-    let d = c .before .before .before .before .before .before .before .before .before .before .drive-written .ensures in
+    let s = c .before .before .before .before .before .before .before .before .before .before .before .before .before .before .before .before .before .before .before .before .before .before .before in
+    let d = c .before .before .before .before .before .before .before .before .before .before .before .before .drive-written .ensures in
     (acts-follow _ _ _ _ (s .args .i) (s .args .cycle) (s .args .cnt) _ _ (d .0) (c .before .before .rebook .ensures _) (c .set-last .ensures _), d .1)
 
 pub follow-compare-spec : {M : Type 1} → statement M
 follow-compare-spec =
     tie.close
-    (tie.spec
-    drive-written-requires
-    rebook-requires
-    set-last-requires
-    same-length
-    same-length-2
-    same-length-3
-    returns)
+    (tie.spec drive-written-requires rebook-requires set-last-requires same-length same-length-2 same-length-3
+    (λ c. search needs) returns)

@@ -18,7 +18,7 @@ mul-write-quick : tie.Need-mul-write-quick
 mul-write-quick c = search needs
 
 write-quick-requires : tie.Need-write-quick-requires
-write-quick-requires c κs = let s = c .before .before .before .before .before .before .before .before .before .before in ((s .pre .0 .0, aligned (s .args .offset), s .pre .0 .2, eqb-true (s .args .size) 4 (sym (c .before .before .before .before .before .before .quick .ensures) ∙ c .before .before .before .before .before .if1 .taken)), s .pre .1)
+write-quick-requires c κs = let s = c .before .before .before .before .before .before .before .before .before .before .before .before in ((s .pre .0 .0, aligned (s .args .offset), s .pre .0 .2, eqb-true (s .args .size) 4 (sym (c .before .before .before .before .before .before .before .quick .ensures) ∙ c .before .before .before .before .before .before .if1 .taken)), s .pre .1)
 
 same-length : tie.Need-same-length
 same-length c = search needs
@@ -31,9 +31,9 @@ same-length-3 c = search needs
 
 returns : tie.Need-returns
 returns c =
-    let s = c .before .before .before .before .before .before .before .before .before .before .before .before .before .before .before .before .before in
-    let f = c .before .before .before .before .before .before .write-quick .ensures in
-    let k = eqb-true (s .args .size) 4 (sym (c .before .before .before .before .before .before .before .before .before .before .before .before .before .quick .ensures) ∙ c .before .before .before .before .before .before .before .before .before .before .before .before .if1 .taken) in
+    let s = c .before .before .before .before .before .before .before .before .before .before .before .before .before .before .before .before .before .before .before .before .before in
+    let f = c .before .before .before .before .before .before .before .before .write-quick .ensures in
+    let k = eqb-true (s .args .size) 4 (sym (c .before .before .before .before .before .before .before .before .before .before .before .before .before .before .before .before .quick .ensures) ∙ c .before .before .before .before .before .before .before .before .before .before .before .before .before .before .before .if1 .taken) in
     (on-merged (s .args .words .now) (s .args .reals .now) (s .args .i) (s .args .offset) (s .args .size) (s .args .value) (s .args .cycle) _ (whole _ _ (s .args .size) _ k) _ _ _ (f .0), on-merged-book (s .args .words .now) (s .args .reals .now) (s .args .i) (s .args .offset) (s .args .size) (s .args .value) (s .args .cycle) _ (whole _ _ (s .args .size) _ k) _ _ _ (f .1))
 
 write-any-requires : tie.Need-write-any-requires
@@ -54,16 +54,5 @@ returns-2 c = search needs
 pub write-on-spec : {M : Type 1} → statement M
 write-on-spec =
     tie.close
-    (tie.spec
-    quick-requires
-    mul-write-quick
-    write-quick-requires
-    same-length
-    same-length-2
-    same-length-3
-    returns
-    write-any-requires
-    same-length-4
-    same-length-5
-    same-length-6
-    returns-2)
+    (tie.spec quick-requires mul-write-quick write-quick-requires same-length same-length-2 same-length-3 same-length-4
+    returns write-any-requires same-length-5 same-length-6 (λ c. search needs) (λ c. search needs) returns-2)

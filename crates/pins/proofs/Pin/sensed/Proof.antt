@@ -26,7 +26,7 @@ returns-5 : tie.Need-returns-5
 unfolding sensedFrom
 returns-5 c =
     c .at-level3 .ensures
-    ∙ rw (c .before .trigger .ensures, c .before .before .clamp .ensures) (sym (ap (sensedFrom _ _) (c .before .before .before .before .e .given .1)))
+    ∙ rw (c .before .settled-by .ensures, c .before .before .trigger .ensures, c .before .before .before .clamp .ensures) (sym (ap (sensedFrom _ _) (c .before .before .before .before .before .e .given .1)))
 
 returns-6 : tie.Need-returns-6
 returns-6 c =
@@ -37,5 +37,5 @@ pub sensed-spec : {M : Type 1} → statement M
 sensed-spec =
     tie.close
     (tie.spec (λ c. search needs) (λ c κs. search needs) (λ c. search needs) (λ c κs. search needs) (λ c. search needs)
-    (λ c κs. search needs) (λ c κs. search needs) (λ c κs. search needs) (λ c. search needs) (λ c κs. search needs) returns
+    (λ c κs. search needs) (λ c κs. search needs) (λ c κs. search needs) (λ c κs. search needs) (λ c. search needs) (λ c κs. search needs) returns
     (λ c κs. search needs) returns-2 (λ c κs. search needs) (λ c κs. search needs) returns-3 returns-4 returns-5 returns-6)
