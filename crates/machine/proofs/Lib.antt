@@ -8,3 +8,4 @@ pub mod Traces
 pub mod TraceLaws
 pub mod Routing
 pub mod Reach
+pub mod Whys

@@ -1,9 +1,11 @@
 pub mod Board
 pub mod Sys
 pub mod Deliver
+pub mod Why
 pub mod Call
 pub mod Step
 pub mod Refusals
 pub mod Sound
 pub mod Demand1
 pub mod Sockets
+pub mod Explains
