@@ -149,6 +149,7 @@ impl Port {
             Call::Line { irq } => s.line(irq),
             Call::Time { cycle } => s.time(cycle),
             Call::Clear { irq } => s.clear_pending(irq),
+            Call::Why { pin, cycle } => s.why(pin, cycle),
         }
     }
 
@@ -218,5 +219,6 @@ fn changes(call: &Call) -> bool {
     !matches!(
         call,
         Call::Read { .. } | Call::Peek { .. } | Call::Booked { .. } | Call::Next | Call::Level { .. } | Call::Volts { .. } | Call::Line { .. } | Call::Time { .. }
+            | Call::Why { .. }
     )
 }

@@ -302,6 +302,7 @@ fn fields(call: &mut Call) -> Vec<Field<'_>> {
         Call::Level { pin } | Call::Volts { pin } => vec![S(pin)],
         Call::Line { irq } | Call::Clear { irq } => vec![S(irq)],
         Call::Time { cycle } => vec![W(cycle)],
+        Call::Why { pin, cycle } => vec![S(pin), W(cycle)],
     }
 }
 
@@ -316,7 +317,8 @@ fn cycle_of(call: &mut Call) -> Option<&mut u64> {
         | Call::Peek { cycle, .. }
         | Call::Reset { cycle, .. }
         | Call::Deliver { cycle, .. }
-        | Call::Time { cycle } => Some(cycle),
+        | Call::Time { cycle }
+        | Call::Why { cycle, .. } => Some(cycle),
         _ => None,
     }
 }

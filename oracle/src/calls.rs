@@ -52,6 +52,7 @@ pub enum Call {
     Line { irq: u32 },
     Time { cycle: u64 },
     Clear { irq: u32 },
+    Why { pin: u32, cycle: u64 },
 }
 
 /// One entry of the book.
@@ -223,6 +224,7 @@ pub fn parse(line: &[u8]) -> Result<Option<Call>, Malformed> {
         b"line" => Call::Line { irq: w.short()? },
         b"time" => Call::Time { cycle: w.wide()? },
         b"clear" => Call::Clear { irq: w.short()? },
+        b"why" => Call::Why { pin: w.short()?, cycle: w.wide()? },
         _ => return Err(Malformed::UnknownWord),
     };
     match w.0.next() {
@@ -266,6 +268,7 @@ impl Display for Call {
             Call::Line { irq } => write!(f, "line {irq}"),
             Call::Time { cycle } => write!(f, "time {cycle}"),
             Call::Clear { irq } => write!(f, "clear {irq}"),
+            Call::Why { pin, cycle } => write!(f, "why {pin} {cycle}"),
         }
     }
 }

@@ -109,6 +109,7 @@ impl Gen {
         let asks = matches!(
             call,
             Call::Peek { .. } | Call::Booked { .. } | Call::Next | Call::Level { .. } | Call::Volts { .. } | Call::Line { .. } | Call::Time { .. }
+                | Call::Why { .. }
         );
         assert!(asks, "{call} may change the board");
         self.board.call(call)
@@ -978,7 +979,8 @@ fn cycle_of(call: &mut Call) -> Option<&mut u64> {
         | Call::Peek { cycle, .. }
         | Call::Reset { cycle, .. }
         | Call::Deliver { cycle, .. }
-        | Call::Time { cycle } => Some(cycle),
+        | Call::Time { cycle }
+        | Call::Why { cycle, .. } => Some(cycle),
         _ => None,
     }
 }

@@ -39,6 +39,7 @@ pub enum Call {
     Line { irq: u32 },
     Time { cycle: u64 },
     Clear { irq: u32 },
+    Why { pin: u32, cycle: u64 },
 }
 
 /// How the numbers behind a call's word make the call.
@@ -85,6 +86,7 @@ const FORMS: &[(&str, Form)] = &[
     ("line", |n| Ok(Call::Line { irq: n.short()? })),
     ("time", |n| Ok(Call::Time { cycle: n.wide()? })),
     ("clear", |n| Ok(Call::Clear { irq: n.short()? })),
+    ("why", |n| Ok(Call::Why { pin: n.short()?, cycle: n.wide()? })),
 ];
 
 /// A table of this many entries is as wrong as any longer one: the most that is right is 128 pins of 16.

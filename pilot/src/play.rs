@@ -70,6 +70,7 @@ impl Player {
             Call::Line { irq } => s.line(irq),
             Call::Time { cycle } => s.time(cycle),
             Call::Clear { irq } => s.clear_pending(irq),
+            Call::Why { pin, cycle } => s.why(pin, cycle),
         };
         self.answer()
     }

@@ -75,6 +75,7 @@ mod save;
 mod setup;
 mod shift;
 mod time;
+mod why;
 
 pub use board::{Board, Delivered, Entry, Line, Written};
 pub use error::{is_refusal, word, ClockField, Disorder, Error, Index, Limit};
@@ -84,3 +85,4 @@ pub use save::RestoreError;
 pub use setup::{signal, ClockTree, Drive, Mode, PinConfig, Setup, TimerIndex, TimerSpec};
 pub use shift::{Duty, PinReport, Report, Shift, PINS};
 pub use time::{Clock, Timing, LAST_CYCLE};
+pub use why::Reason;

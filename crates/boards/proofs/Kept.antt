@@ -37,7 +37,7 @@ use Rattle.machine.specs.Board.{Board, Pads, timerAt, noTimer, withTimer, withP
 use Rattle.machine.specs.Sys as Sys
 use Rattle.machine.specs.Deliver.{Run, dividerOf, lineSettled, rebooked, turn, turnOf, dueBy, mostEvents, delivered, afterDelivery}
 use Rattle.machine.specs.Deliver as D
-use Rattle.machine.specs.Call.{Setup, Call, setUp, clockTree, enable, setPin, drivePin, resetPins, read, write, peek, resetTimer, deliver, queryBooked, queryNext, queryLevel, queryVolts, queryLine, queryTime, clearPending, Outcome, Question, reading, peeking, booked, next, level, volts, line, time, BookCall, pinSetting, outsideDrive, pinReset, writing, resetting, delivery, ask, lend}
+use Rattle.machine.specs.Call.{Setup, Call, setUp, clockTree, enable, setPin, drivePin, resetPins, read, write, peek, resetTimer, deliver, queryBooked, queryNext, queryLevel, queryVolts, queryLine, queryTime, queryWhy, clearPending, Outcome, Question, reading, peeking, booked, next, level, volts, line, time, why, BookCall, pinSetting, outsideDrive, pinReset, writing, resetting, delivery, ask, lend}
 use Rattle.machine.specs.Step.{absent, oddSize, cycleAstray, bookFull, socketTaken, withinLimits, clockOn, register, present, written, counterAstray, followed, timerReset, deliveredTo, timerRetimed, allRetimed, treeSet, step, boardAfter}
 use Rattle.machine.specs.Sound.{Sound, SoundPads}
 use Rattle.machine.proofs.Routing.{either, by-test}
@@ -368,6 +368,10 @@ module _ (b : Board) (s : Sound b) (h : Timers b) where
   unfolding step
   kept-rest x = (h, h, either Good (cycleAstray b x) h h, h)
 
+  kept-why : (pin cycle : ℕ) → Good (step b (queryWhy pin cycle))
+  unfolding step
+  kept-why pin cycle = either Good (absent pin (b .counts .pins)) h (either Good (cycleAstray b cycle) h h)
+
   kept-asked : (q : Question) → Timers (step b (ask q) .board)
   kept-asked (reading timer offset size cycle) = kept-read timer offset size cycle
   kept-asked (peeking timer offset cycle) = kept-peek timer offset cycle
@@ -377,6 +381,7 @@ module _ (b : Board) (s : Sound b) (h : Timers b) where
   kept-asked (volts pin) = kept-pin pin .1
   kept-asked (line irq) = kept-rest irq .1
   kept-asked (time cycle) = kept-rest cycle .2
+  kept-asked (why pin cycle) = kept-why pin cycle
 
   kept-lent : (k : BookCall) (cycle places : ℕ) → Timers (step b (lend k cycle places) .board)
   kept-lent (pinSetting pin mode od out pu pd f) cycle places = kept-setPin pin mode od out pu pd f cycle places

@@ -98,7 +98,7 @@ fn named(word: &[u8], n: usize) -> u8 {
     if n <= word.len() {
         return text::call_of(&word[..n]);
     }
-    18
+    19
 }
 
 // Moves a place of the state on.
@@ -213,7 +213,7 @@ fn letter(state: &mut [u64; STATE], word: &mut [u8; WORD], b: u8) -> u8 {
 // The first word ends.
 fn first_word(state: &mut [u64; STATE], word: &[u8; WORD], call: &mut [u32; ENCODED]) -> u8 {
     let op = named(word, size(state[LETTERS]));
-    if 18 <= op {
+    if 19 <= op {
         return UNKNOWN_WORD;
     }
     state[PHASE] = 2;

@@ -39,8 +39,8 @@ as-written : map digitsOf (0 ∷ 10 ∷ 18446744073709551615 ∷ []) ≡ (48 ∷
 unfolding placesIn lastDigits
 as-written = refl
 
--- setup, reset-pins, reset, clear, Reset
-named : map callOf ((115 ∷ 101 ∷ 116 ∷ 117 ∷ 112 ∷ []) ∷ (114 ∷ 101 ∷ 115 ∷ 101 ∷ 116 ∷ 45 ∷ 112 ∷ 105 ∷ 110 ∷ 115 ∷ []) ∷ (114 ∷ 101 ∷ 115 ∷ 101 ∷ 116 ∷ []) ∷ (99 ∷ 108 ∷ 101 ∷ 97 ∷ 114 ∷ []) ∷ (82 ∷ 101 ∷ 115 ∷ 101 ∷ 116 ∷ []) ∷ []) ≡ 0 ∷ 5 ∷ 9 ∷ 17 ∷ 18 ∷ []
+-- setup, reset-pins, reset, clear, why, Reset
+named : map callOf ((115 ∷ 101 ∷ 116 ∷ 117 ∷ 112 ∷ []) ∷ (114 ∷ 101 ∷ 115 ∷ 101 ∷ 116 ∷ 45 ∷ 112 ∷ 105 ∷ 110 ∷ 115 ∷ []) ∷ (114 ∷ 101 ∷ 115 ∷ 101 ∷ 116 ∷ []) ∷ (99 ∷ 108 ∷ 101 ∷ 97 ∷ 114 ∷ []) ∷ (119 ∷ 104 ∷ 121 ∷ []) ∷ (82 ∷ 101 ∷ 115 ∷ 101 ∷ 116 ∷ []) ∷ []) ≡ 0 ∷ 5 ∷ 9 ∷ 17 ∷ 18 ∷ 19 ∷ []
 unfolding callOf placeIn sameWord
 named = refl
 

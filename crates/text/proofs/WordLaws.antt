@@ -70,13 +70,13 @@ pub record There (text at : List ℕ) (k : ℕ) : Type 0 where
   pub to : getD at (k + 1) 0 ≤ length text
   pub word : piece text at k ≡ getD calls k []
 
-pub piece-there : (text at : List ℕ) → T (every (word-there text at) 0 (replicate 18 0)) → (k : ℕ) → k < 18 → There text at k
+pub piece-there : (text at : List ℕ) → T (every (word-there text at) 0 (replicate 19 0)) → (k : ℕ) → k < 19 → There text at k
 unfolding word-there
 piece-there text p t k h =
     let f : Bool = leb (getD p k 0) (getD p (k + 1) 0) in
     let g : Bool = leb (getD p (k + 1) 0) (length text) in
     let w : Bool = sameWord (piece text p k) (getD calls k []) in
-    let u : T (f && (g && w)) = at (word-there text p) (replicate 18 0) t k h in
+    let u : T (f && (g && w)) = at (word-there text p) (replicate 19 0) t k h in
     record {
       from = leb→le (getD p k 0) (getD p (k + 1) 0) (both-left f (g && w) u);
       to = leb→le (getD p (k + 1) 0) (length text) (both-left g w (both-right f (g && w) u));
@@ -89,7 +89,7 @@ module _ (w : List ℕ) where
   unfolding callOf
   call-start = omega arith
 
-  module _ (k : ℕ) (x : List ℕ) (r : Bool) (h : k < 18) (e : x ≡ getD calls k []) (i : callOf w ≡ k + placeIn w (drop k calls)) (s : r ≡ sameWord w x) where
+  module _ (k : ℕ) (x : List ℕ) (r : Bool) (h : k < 19) (e : x ≡ getD calls k []) (i : callOf w ≡ k + placeIn w (drop k calls)) (s : r ≡ sameWord w x) where
     pub call-here : r ≡ true → k ≡ callOf w
     unfolding placeIn
     call-here t = sym (i ∙ rw (drop-cons calls k [] h, sym (ap (sameWord w) e) ∙ sym s ∙ t) (omega arith))
@@ -98,7 +98,7 @@ module _ (w : List ℕ) where
     unfolding placeIn
     call-next t = i ∙ rw (add-one k, drop-cons calls k [] h, sym (ap (sameWord w) e) ∙ sym s ∙ t) (omega arith)
 
-  pub call-none : (k : ℕ) → k ≡ 18 → callOf w ≡ k + placeIn w (drop k calls) → 18 ≡ callOf w
+  pub call-none : (k : ℕ) → k ≡ 19 → callOf w ≡ k + placeIn w (drop k calls) → 19 ≡ callOf w
   unfolding placeIn
   call-none k h i = sym (i ∙ rw (drop-of-length-le calls {i = k} (omega arith)) (omega arith))
 
@@ -129,6 +129,6 @@ pub field-past : (c k : ℕ) → 9 ≤ k → 0 ≡ fieldOf c k
 unfolding fieldOf short
 field-past c k h = sym (short-past shapes tt c k h)
 
-pub field-none : (c k : ℕ) → 18 ≤ c → 0 ≡ fieldOf c k
+pub field-none : (c k : ℕ) → 19 ≤ c → 0 ≡ fieldOf c k
 unfolding fieldOf
 field-none c k h = rw (List·getD-eq-default shapes [] {n = c} h)

@@ -21,7 +21,7 @@ placeIn w [] = 0
 placeIn w (x ∷ xs) = cond (sameWord w x) 0 (placeIn w xs + 1)
 
 -- the words of the table; "Words are written as in the table, in small letters": setup, clock, enable, pin, drive, reset-pins, read, write,
--- peek, reset, deliver, booked, next, level, volts, line, time, clear
+-- peek, reset, deliver, booked, next, level, volts, line, time, clear, why
 abbrev pub calls : List (List ℕ)
 calls =
     (115 ∷ 101 ∷ 116 ∷ 117 ∷ 112 ∷ [])
@@ -42,9 +42,10 @@ calls =
     ∷ (108 ∷ 105 ∷ 110 ∷ 101 ∷ [])
     ∷ (116 ∷ 105 ∷ 109 ∷ 101 ∷ [])
     ∷ (99 ∷ 108 ∷ 101 ∷ 97 ∷ 114 ∷ [])
+    ∷ (119 ∷ 104 ∷ 121 ∷ [])
     ∷ []
 
--- 18 for an unknown word
+-- 19 for an unknown word
 unfoldable pub callOf : List ℕ → ℕ
 callOf w = placeIn w calls
 
@@ -69,6 +70,7 @@ shapes =
     ∷ (1 ∷ [])
     ∷ (2 ∷ [])
     ∷ (1 ∷ [])
+    ∷ (1 ∷ 2 ∷ [])
     ∷ []
 
 -- 0 where no number stands

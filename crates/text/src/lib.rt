@@ -280,7 +280,7 @@ fn is_part(word: &[u8], text: &[u8], from: usize, to: usize) -> bool
 }
 
 // Where the calls' words start in the text that has one behind the other, and where the last ends.
-const STARTS: [usize; 19] = [
+const STARTS: [usize; 20] = [
     0,
     5,
     10,
@@ -300,19 +300,20 @@ const STARTS: [usize; 19] = [
     83,
     87,
     92,
+    95,
 ];
 
-// The call that a first word names, by its place in the table; 18 if it is an unknown word.
+// The call that a first word names, by its place in the table; 19 if it is an unknown word.
 pub fn call_of(word: &[u8]) -> u8
     ensures { λ r. ⌜ r ≡ callOf (now (word .entry)) ⌝ }
 {
     let mut k = 0;
-    while k < 18 {
+    while k < 19 {
         let from = STARTS[k];
         let to = STARTS[k + 1];
         if is_part(
             word,
-            b"setupclockenablepindrivereset-pinsreadwritepeekresetdeliverbookednextlevelvoltslinetimeclear",
+            b"setupclockenablepindrivereset-pinsreadwritepeekresetdeliverbookednextlevelvoltslinetimeclearwhy",
             from,
             to,
         ) {
@@ -320,12 +321,12 @@ pub fn call_of(word: &[u8]) -> u8
         }
         k += 1;
     }
-    18
+    19
 }
 
 // What stands in the places of each call's numbers, the first in the lowest hexadecimal digit: 0 no number, 1 one of 32 bits, 2 one
 // of 64 bits, 3 one that is at most 3.
-const FIELDS: [u64; 18] = [
+const FIELDS: [u64; 19] = [
     0x11122,
     0x211111122,
     0x11,
@@ -344,13 +345,14 @@ const FIELDS: [u64; 18] = [
     1,
     2,
     1,
+    0x21,
 ];
 
 // What stands in place k of a call's numbers.
 pub fn field(call: u8, k: usize) -> u8
     ensures { λ r. ⌜ r ≡ fieldOf call k ⌝ }
 {
-    if 18 <= call {
+    if 19 <= call {
         return 0;
     }
     if 9 <= k {

@@ -17,15 +17,15 @@ text = joined calls
 abbrev places : List ℕ
 places = starts 0 calls
 
-there : (k : ℕ) → suc k ≤ 18 → There text places k
+there : (k : ℕ) → suc k ≤ 19 → There text places k
 unfolding word-there sameWord
 there k h = piece-there text places tt k h
 
 abbrev Inv-loop : tie.InvT-loop
-Inv-loop word k₀ t5 k = (k ≤ 18) × (callOf word ≡ k + placeIn word (drop k calls))
+Inv-loop word k₀ t5 k = (k ≤ 19) × (callOf word ≡ k + placeIn word (drop k calls))
 
 abbrev μ-loop : tie.MeasureT-loop
-μ-loop word k₀ t5 k = 18 - k
+μ-loop word k₀ t5 k = 19 - k
 
 loop-holds : tie.Need-loop-holds Inv-loop μ-loop
 loop-holds c = (omega arith, call-start _)
