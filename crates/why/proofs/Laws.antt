@@ -22,10 +22,12 @@ use Rattle.sig.specs.Signal.{timSignal}
 use Rattle.machine.specs.Board.{Board, timerAt, gpioAt, routeOf, levelOf}
 use Rattle.machine.specs.Call.{queryWhy}
 use Rattle.machine.specs.Step.{step, absent, cycleAstray}
+use Rattle.machine.specs.Sys.{driver}
 use Rattle.machine.specs.Deliver.{dueBy}
 use Rattle.machine.specs.Why.{channelOf, feeds, sourceFrom, source, isBehind, timerBehind, isAlternate, isOff, isHeld, countsLow, tests, reasons, firstTrue, whyLow}
 use Rattle.machine.proofs.Whys.{source-found}
 use Rattle.state.specs.View.{view}
+use Rattle.state.proofs.InRange.{bounded}
 use Rattle.answer.specs.declared.Answer.{Answer}
 use Rattle.answer.specs.Promise.{answer, Answers}
 use Rattle.answer.proofs.Given.{away}
@@ -75,10 +77,10 @@ pub record Fed (k : Inst) (s : ℕ) : Type 0 where
 pub fed : (k : Inst) (s : ℕ) → feeds k s ≡ true → Fed k s
 unfolding feeds
 fed k s h =
-    let a = both _ _ h in
-    let b = both _ _ (a .1) in
-    let c = both _ _ (b .1) in
-    let d = both _ _ (a .0) in
+    let a = both (driver (k .n)) (leb (timSignal (k .n) 0) s && (ltb (channelOf k s) 4 && ltb (channelOf k s) (k .channels))) h in
+    let b = both (leb (timSignal (k .n) 0) s) (ltb (channelOf k s) 4 && ltb (channelOf k s) (k .channels)) (a .1) in
+    let c = both (ltb (channelOf k s) 4) (ltb (channelOf k s) (k .channels)) (b .1) in
+    let d = both (leb 2 (k .n)) (leb (k .n) 4) (a .0) in
     record {
       high = leb-true (k .n) 4 (d .1);
       from = omega (arith, leb-true (timSignal (k .n) 0) s (b .0));
@@ -138,15 +140,9 @@ signal-lt g n z h = go (eqb (g .cfg .mode) 2)
     go true = h
     go false = z
 
-pub and-right : (a b : Bool) → b ≡ false → (a && b) ≡ false
-and-right true b h = h
-and-right false b h = refl
-
-pub and-both : (a b : Bool) → a ≡ true → b ≡ true → (a && b) ≡ true
-and-both a b h k = rw (h, k)
-
-pub and-left : (a b : Bool) → a ≡ false → (a && b) ≡ false
-and-left a b h = rw h
+and-none : (a : Bool) → (a && false) ≡ false
+and-none true = refl
+and-none false = refl
 
 -- ---- the counter's side
 
@@ -207,22 +203,29 @@ module _ (a b c d e : Bool) where
   five-5 h i j k l = rw (h, i, j, k, l)
 
 -- of the channel's three
-module _ (off held low : Bool) where
-  pub three-0 : off ≡ true → 0 ≡ firstTrue (off ∷ held ∷ low ∷ [])
+module _ (t : Timer) (ch level cycle : ℕ) where
+  pub channel-off : isOff t ch ≡ true → 0 ≡ firstTrue (channelTests t ch level cycle)
   unfolding firstTrue
-  three-0 h = rw h
+  channel-off h = rw h
 
-  pub three-1 : off ≡ false → held ≡ true → 1 ≡ firstTrue (off ∷ held ∷ low ∷ [])
-  unfolding firstTrue
-  three-1 h i = rw (h, i)
+  module _ (on : isOff t ch ≡ false) where
+    pub channel-high : (level ≡ 0 → ⊥) → 3 ≡ firstTrue (channelTests t ch level cycle)
+    unfolding firstTrue
+    channel-high h = rw (on, ne-eqb level 0 h, and-none (isHeld t ch), and-none (countsLow t ch cycle))
 
-  pub three-2 : off ≡ false → held ≡ false → low ≡ true → 2 ≡ firstTrue (off ∷ held ∷ low ∷ [])
-  unfolding firstTrue
-  three-2 h i j = rw (h, i, j)
+    module _ (low : level ≡ 0) (mode : ℕ) (is : mode ≡ ocMode t ch) where
+      pub channel-held : mode ≤ 5 → 1 ≡ firstTrue (channelTests t ch level cycle)
+      unfolding firstTrue
+      channel-held h = rw (on, le-leb (ocMode t ch) 5 (omega (arith, is, h)), eq-eqb level 0 low)
 
-  pub three-3 : off ≡ false → held ≡ false → low ≡ false → 3 ≡ firstTrue (off ∷ held ∷ low ∷ [])
-  unfolding firstTrue
-  three-3 h i j = rw (h, i, j)
+      module _ (pwm : 5 < mode) (r : Bool) (counts : r ≡ countsLow t ch cycle) where
+        pub channel-counts : r ≡ true → 2 ≡ firstTrue (channelTests t ch level cycle)
+        unfolding firstTrue
+        channel-counts h = rw (on, lt-leb (ocMode t ch) 5 (omega (arith, is, pwm)), sym counts ∙ h, eq-eqb level 0 low)
+
+        pub channel-none : r ≡ false → 3 ≡ firstTrue (channelTests t ch level cycle)
+        unfolding firstTrue
+        channel-none h = rw (on, lt-leb (ocMode t ch) 5 (omega (arith, is, pwm)), sym counts ∙ h)
 
 -- a first part that has one decides, a first part without one leaves it to the rest
 first-early : (ts us : List Bool) → firstTrue ts < length ts → firstTrue ts ≡ firstTrue (ts ++ us)
@@ -236,6 +239,10 @@ unfolding firstTrue
 first-late [] us h = omega arith
 first-late (true ∷ ts) us h = absurd (omega arith)
 first-late (false ∷ ts) us h = let i = first-late ts us (omega arith) in omega (arith, i)
+
+two-more : (ts : List Bool) → firstTrue (false ∷ false ∷ ts) ≡ suc (suc (firstTrue ts))
+unfolding firstTrue
+two-more ts = refl
 
 -- ---- the reason
 
@@ -277,13 +284,58 @@ module _ (g : Gpio) (level : ℕ) (fed routed : Bool) (t : Timer) (ch cycle : �
     channel-seven a f u v e = sym (late r first none ∙ two)
       where
         two : 5 + firstTrue rest ≡ 7 + v
-        two = rw (a, f, u) (omega (arith, e))
+        two = rw (a, f, u) (ap (λ (n : ℕ). 5 + n) (two-more (channelTests t ch level cycle)) ∙ omega (arith, e))
+
+-- of pin p, as g, with signal s, and timer i of a board
+abbrev pub reasonOf : Board → Gpio → ℕ → ℕ → ℕ → ℕ → ℕ → ℕ
+reasonOf b g p s i cycle level =
+    firstTrue
+    (tests g level (ltb i (b .counts .timers)) (eqb (routeOf (b .pads) s) p) (timerAt b i) (channelOf (timerAt b i .inst) s) cycle)
+
+module _ (b : Board) (g : Gpio) (p s i cycle level first : ℕ) (driven : level ≡ levelOf (b .pads) s) (pin : first ≡ firstTrue (pinTests g level)) where
+  pinned : first ≡ firstTrue (pinTests g (levelOf (b .pads) s))
+  pinned = pin ∙ ap (λ (l : ℕ). firstTrue (pinTests g l)) driven
+
+  pub reason-pin : first < 5 → first ≡ reasonOf b g p s i cycle (levelOf (b .pads) s)
+  reason-pin h = pin-decides g (levelOf (b .pads) s) (ltb i (b .counts .timers)) (eqb (routeOf (b .pads) s) p) (timerAt b i) (channelOf (timerAt b i .inst) s) cycle first pinned h
+
+  module _ (none : 5 ≤ first) where
+    pub reason-plain : (g .cfg .mode ≡ 2 → ⊥) → 10 ≡ reasonOf b g p s i cycle (levelOf (b .pads) s)
+    reason-plain m = plain-ten g (levelOf (b .pads) s) (ltb i (b .counts .timers)) (eqb (routeOf (b .pads) s) p) (timerAt b i) (channelOf (timerAt b i .inst) s) cycle first pinned none (ne-eqb (g .cfg .mode) 2 m)
+
+    module _ (mode : g .cfg .mode ≡ 2) (n : ℕ) (count : n ≡ b .counts .timers) where
+      pub reason-unfed : n ≤ i → 5 ≡ reasonOf b g p s i cycle (levelOf (b .pads) s)
+      reason-unfed h =
+          unfed-five g (levelOf (b .pads) s) (ltb i (b .counts .timers)) (eqb (routeOf (b .pads) s) p) (timerAt b i) (channelOf (timerAt b i .inst) s) cycle first pinned none (eq-eqb (g .cfg .mode) 2 mode) (le-ltb i (b .counts .timers) (omega (arith, count, h)))
+
+      module _ (h : i < n) (r : ℕ) (route : r ≡ routeOf (b .pads) s) where
+        fed-here : ltb i (b .counts .timers) ≡ true
+        fed-here = lt-ltb i (b .counts .timers) (omega (arith, count, h))
+
+        pub reason-unrouted : (r ≡ p → ⊥) → 6 ≡ reasonOf b g p s i cycle (levelOf (b .pads) s)
+        reason-unrouted u =
+            unrouted-six g (levelOf (b .pads) s) (ltb i (b .counts .timers)) (eqb (routeOf (b .pads) s) p) (timerAt b i) (channelOf (timerAt b i .inst) s) cycle first pinned none (eq-eqb (g .cfg .mode) 2 mode) fed-here
+            (ne-eqb (routeOf (b .pads) s) p (λ z. u (route ∙ z)))
+
+        pub reason-channel : r ≡ p → (t : Timer) → t ≡ timerAt b i → (ch : ℕ) → ch ≡ channelOf (t .inst) s → (v : ℕ)
+            → v ≡ firstTrue (channelTests t ch level cycle) → 7 + v ≡ reasonOf b g p s i cycle (levelOf (b .pads) s)
+        reason-channel u t load ch channel v e =
+            channel-seven g (levelOf (b .pads) s) (ltb i (b .counts .timers)) (eqb (routeOf (b .pads) s) p) (timerAt b i) (channelOf (timerAt b i .inst) s) cycle first pinned none (eq-eqb (g .cfg .mode) 2 mode) fed-here
+            (eq-eqb (routeOf (b .pads) s) p (sym route ∙ u)) v
+            (e ∙ ap (λ (l : ℕ). firstTrue (channelTests t ch l cycle)) driven ∙ ap (λ (c : ℕ). firstTrue (channelTests t c (levelOf (b .pads) s) cycle)) channel
+            ∙ ap (λ (k : Timer). firstTrue (channelTests k (channelOf (k .inst) s) (levelOf (b .pads) s) cycle)) load)
 
 -- ---- what the callees ask
+
+pub fed-loaded : (b : Board) (i s : ℕ) (t : Timer) → t ≡ timerAt b i → feeds (timerAt b i .inst) s ≡ true → feeds (t .inst) s ≡ true
+fed-loaded b i s t e h = ap (λ (k : Timer). feeds (k .inst) s) e ∙ h
 
 -- the timer that `source` found feeds the signal
 pub fed-source : (b : Board) (s i : ℕ) → i ≡ source b s → i < b .counts .timers → feeds (timerAt b i .inst) s ≡ true
 fed-source b s i e h = rw e (source-found b s .feeding (omega (arith, e, h)))
+
+pub gpio-small : (w : List ℕ) (x : List Float) (p : ℕ) (g : Gpio) → g ≡ gpioAt (view w x .pads) p → g .sig < 256
+gpio-small w x p g e = rw e (bounded w x .gpio-fit p .sig)
 
 pub in-time : (b : Board) (cycle : ℕ) (t : Bool) → t ≡ cycleAstray b cycle → t ≡ false → cycle < 9223372036854775808
 in-time b cycle t e h = omega (arith, ltb-false 4611686018427387904 cycle (neither _ _ (sym e ∙ h)))
