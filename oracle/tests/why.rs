@@ -71,7 +71,7 @@ fn backlog() {
     );
 }
 
-/// 27: 8 comes before every reason, also of a pin that is high, and goes by the event's own cycle: the booking of a passed event is a later one.
+/// 27: 8 comes before every reason, also of a pin that is high.
 #[test]
 fn backlog_first() {
     expect(&format!(
@@ -86,6 +86,22 @@ fn backlog_first() {
          booked 0 # 0 3 0
          deliver 0 3 4 # 0 1 1 0:0@3
          why 0 3 # 0 9 0"
+    ));
+}
+
+/// 27: due is the next event's own cycle. A write of ARR with ARPE counts past the update at 5 and books nothing: the booking stays in the past.
+#[test]
+fn stale_booking() {
+    expect(&format!(
+        "{A}pin 0 2 0 0 0 0 1 0 4
+         write 0 0x34 4 9 0 4
+         write 0 0x2c 4 4 0 4
+         write 0 0 4 0x81 0 4
+         why 0 5 # 8 0 0
+         write 0 0x2c 4 5 6 4
+         booked 0 # 0 5 0
+         why 0 9 # 0 7 0
+         why 0 10 # 8 0 0"
     ));
 }
 

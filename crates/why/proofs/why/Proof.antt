@@ -25,7 +25,7 @@ reason-requires : tie.Need-reason-requires
 reason-requires c κs =
     let a = c .before .before .before .before .before .before .before .before .before .args in
     let small = gpio-small (a .words .now) (a .reals .now) _ _ (c .before .before .before .before .load-gpio .ensures) in
-    (omega (arith, small), (rw (c .before .before .before .signal-of .ensures) (signal-lt _ 256 (omega arith) small), (in-time (view (a .words .now) (a .reals .now)) (a .cycle) _ (c .before .before .before .before .before .before .is-astray .ensures (a .reals .now)) (c .before .before .before .before .before .if2 .left), λ x h. fed-source (view (a .words .now) x) _ _ (c .before .before .source .ensures x) h)))
+    (omega (arith, small), (rw (c .before .before .before .signal-of .ensures) (signal-lt (c .before .before .before .before .load-gpio .result) 256 (omega arith) small), (in-time (view (a .words .now) (a .reals .now)) (a .cycle) _ (c .before .before .before .before .before .before .is-astray .ensures (a .reals .now)) (c .before .before .before .before .before .if2 .left), λ x h. fed-source (view (a .words .now) x) _ _ (c .before .before .source .ensures x) h)))
 
 returns-4 : tie.Need-returns-4
 returns-4 c =
