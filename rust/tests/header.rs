@@ -3,7 +3,7 @@
 use std::path::Path;
 use std::process::Command;
 
-use board::Reg;
+use board::{Reason, Reg};
 
 /// An exported function as its caller sees it: each argument `name: type`, then what it returns. A slice is two arguments, its pointer and
 /// its length; an array is a pointer with its length behind it.
@@ -205,7 +205,7 @@ fn the_archives_have_the_functions() {
     let mut exported: Vec<_> = nm.lines().filter_map(|l| l.split_whitespace().nth(2)).map(str::to_owned).collect();
     exported.sort();
     assert_eq!(names, exported);
-    assert_eq!(names.len(), 26);
+    assert_eq!(names.len(), 27);
 }
 
 #[test]
@@ -214,6 +214,7 @@ fn numbers_and_registers_are_the_crates() {
     let number = |n: u8| board::word(n).map(|w| (format!("PILOT_{}", w.to_uppercase().replace(' ', "_")), n as u32));
     assert_eq!(header_enum(&header, "pilot_number"), (0..=255).map_while(number).collect::<Vec<_>>());
     assert_eq!(header_enum(&header, "pilot_register"), Reg::ALL.map(|r| (format!("PILOT_{r}"), r.offset())));
+    assert!(header_enum(&header, "pilot_reason").iter().map(|(_, n)| *n).eq(Reason::ALL.map(|r| r.number().into())));
 }
 
 /// Each word of each declaration, changed, is seen: what a test that cannot fail would let pass.
