@@ -67,7 +67,7 @@ enum pilot_number {
     PILOT_CLOCK_ASTRAY = 5,      /* the cycle is above 2^62, or below that of the last changing call */
     PILOT_BOOK_FULL = 6,         /* under 4 places; a pin reset: fewer places than pins */
     PILOT_COUNTER_ASTRAY = 7,    /* a write of CR1, CNT or ARR that would leave the timer running upward above its active reload + 1 */
-    PILOT_BACKLOG = 8,           /* a delivery stopped with an event still due: no refusal, what it did stands. Deliver again */
+    PILOT_BACKLOG = 8,           /* a delivery stopped with an event still due: no refusal, what it did stands. Deliver again. Of board_why: deliver first */
     PILOT_SHIFT_REVERSED = 9,    /* a shift whose end is below its beginning */
     PILOT_BOOK_OUT_OF_ORDER = 10, /* an entry before its pin's last one, or of a pin above 127 or a level above 1 */
     PILOT_SOCKET_TAKEN = 11,      /* a pin set to a signal that another pin routes; asked after 5 and before 6 */
@@ -132,6 +132,21 @@ typedef struct pilot_read {
     uint32_t count;  /* bytes that the record took */
     pilot_settings timer;
 } pilot_read;
+
+/* What board_why gives. */
+enum pilot_reason {
+    PILOT_WHY_HIGH = 0,       /* it is high */
+    PILOT_WHY_INPUT = 1,      /* the pin is an input or analogue */
+    PILOT_WHY_OUTPUT = 2,     /* a plain output with bit 0 */
+    PILOT_WHY_NO_SIGNAL = 3,  /* in alternate mode, but signal 0 is selected */
+    PILOT_WHY_RELEASED = 4,   /* an open-drain 1 has released it */
+    PILOT_WHY_NO_CHANNEL = 5, /* the signal belongs to no channel of a driving timer (2, 3 or 4) on this board */
+    PILOT_WHY_UNROUTED = 6,   /* this pin does not route it: never of a board that calls lead to */
+    PILOT_WHY_OFF = 7,        /* the channel is off (CCxE) or no output (CCxS) */
+    PILOT_WHY_HELD = 8,       /* a forced or latched level, modes 0 to 5 */
+    PILOT_WHY_COUNT = 9,      /* the counter's side of the compare in mode 6 or 7 */
+    PILOT_WHY_OTHER = 10 /* none of these */
+};
 
 /* Offsets of a timer's registers. */
 enum pilot_register {
@@ -251,6 +266,12 @@ pilot_answer board_line(const uint64_t words[PILOT_BOARD_WORDS], const double re
 
 /* The time of a cycle in seconds, as the bits of a double. Refused with 5. */
 pilot_answer board_time(const uint64_t words[PILOT_BOARD_WORDS], const double reals[PILOT_BOARD_REALS], uint64_t cycle);
+
+/*
+ * Why a pin is low at cycle: the first true reason, an enum pilot_reason. 8 with value 0 where an event of the timer that drives the pin is due at or
+ * before cycle: deliver it first. Changes nothing. Refused with 2, 5.
+ */
+pilot_answer board_why(const uint64_t words[PILOT_BOARD_WORDS], const double reals[PILOT_BOARD_REALS], uint32_t pin, uint64_t cycle);
 
 /* Clears a pending interrupt. */
 pilot_answer board_clear_pending(uint64_t words[PILOT_BOARD_WORDS], const double reals[PILOT_BOARD_REALS], uint32_t irq);

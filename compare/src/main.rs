@@ -95,5 +95,6 @@ fn print(s: &Stats, took: Duration) {
     }
     println!("\n{} calls in {} lists, {} events, {} entries, all equal;", s.calls, s.lists, s.events, s.entries);
     println!("{} peeks and queries besides, all equal;", s.looks);
+    println!("of them why, by reason from 0 to 10: {:?}, and {} with 8;", s.reasons, s.behind);
     println!("{} pulses ended in manual mode, {} of them a timer's second or later. {:.1} s", s.pulses, s.again, took.as_secs_f64());
 }

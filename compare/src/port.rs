@@ -154,6 +154,7 @@ impl Port {
             Call::Line { irq } => s.line(irq),
             Call::Time { cycle } => s.time(cycle),
             Call::Clear { irq } => s.clear_pending(irq),
+            Call::Why { pin, cycle } => s.why(pin, cycle),
         }
     }
 
@@ -227,6 +228,7 @@ fn changes(call: &Call) -> bool {
     !matches!(
         call,
         Call::Read { .. } | Call::Peek { .. } | Call::Booked { .. } | Call::Next | Call::Level { .. } | Call::Volts { .. } | Call::Line { .. } | Call::Time { .. }
+            | Call::Why { .. }
     )
 }
 

@@ -11,9 +11,9 @@ pub const CALLS: u64 = 1_000;
 /// Calls between two full looks.
 const INTERVAL: u64 = 50;
 
-pub const KINDS: [&str; 18] = [
+pub const KINDS: [&str; 19] = [
     "setup", "clock", "enable", "pin", "drive", "reset-pins", "read", "write", "peek", "reset", "deliver", "booked", "next", "level",
-    "volts", "line", "time", "clear",
+    "volts", "line", "time", "clear", "why",
 ];
 
 /// The numbers that the board's calls answer.
@@ -33,6 +33,9 @@ pub struct Stats {
     pub again: u64,
     /// Calls that left a manual timer running and blocked by a reload of 0.
     pub blocked: u64,
+    /// Queries why that were told a reason, by reason, and those answered 8.
+    pub reasons: [u64; 11],
+    pub behind: u64,
     /// By call and number.
     pub answers: [[u64; 12]; KINDS.len()],
 }
@@ -112,7 +115,14 @@ fn look(gen: &mut Gen, port: &mut Port, rng: &mut Rng, stats: &mut Stats) -> Res
     for call in questions(gen.board(), rng) {
         let oracle = gen.ask(&call);
         match port.ask(&call) {
-            Ok(answer) if answer == oracle => stats.looks += 1,
+            Ok(answer) if answer == oracle => {
+                stats.looks += 1;
+                match (&call, answer.number) {
+                    (Call::Why { .. }, 0) => stats.reasons[answer.value as usize] += 1,
+                    (Call::Why { .. }, 8) => stats.behind += 1,
+                    _ => {}
+                }
+            }
             Ok(answer) => return Err(Box::new((Some(call), Fault::Answer { oracle, port: answer }))),
             Err(fault) => return Err(Box::new((Some(call), fault))),
         }
@@ -133,7 +143,7 @@ fn questions(board: &Board, rng: &mut Rng) -> Vec<Call> {
         calls.push(Call::Peek { timer, offset: 0x24, cycle: later });
         calls.push(Call::Booked { timer });
     }
-    calls.extend((0..=pins).flat_map(|pin| [Call::Level { pin }, Call::Volts { pin }]));
+    calls.extend((0..=pins).flat_map(|pin| [Call::Level { pin }, Call::Volts { pin }, Call::Why { pin, cycle: now }, Call::Why { pin, cycle: later }]));
     calls.extend((0..=lines).map(|irq| Call::Line { irq }));
     calls
 }
@@ -159,5 +169,6 @@ pub fn kind(call: &Call) -> usize {
         Call::Line { .. } => 15,
         Call::Time { .. } => 16,
         Call::Clear { .. } => 17,
+        Call::Why { .. } => 18,
     }
 }

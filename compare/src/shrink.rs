@@ -302,5 +302,6 @@ fn fields(call: &mut Call) -> Vec<Field<'_>> {
         Call::Level { pin } | Call::Volts { pin } => vec![S(pin)],
         Call::Line { irq } | Call::Clear { irq } => vec![S(irq)],
         Call::Time { cycle } => vec![W(cycle)],
+        Call::Why { pin, cycle } => vec![S(pin), W(cycle)],
     }
 }

@@ -23,6 +23,9 @@ fn random_lists() {
     // Every number must have been met, else equality says little.
     let met = NUMBERS.map(|n| stats.answers.iter().map(|a| a[n]).sum::<u64>());
     assert!(met.iter().all(|&n| n > 100), "{met:?}");
+    // And every reason of a low pin; 6 is proved never to be.
+    let reasons = stats.reasons;
+    assert!((0..11).all(|r| if r == 6 { reasons[r] == 0 } else { reasons[r] > 100 }) && stats.behind > 100, "{reasons:?}, {} with 8", stats.behind);
 }
 
 /// Timers in manual mode: whole lists, the end of a pulse in front of the published Rust (oracle/src/board.rs); lists without one-pulse and reload 0, the Rust alone.
@@ -130,7 +133,7 @@ fn cycle_of(call: &Call) -> Option<u64> {
 /// The cycle of one that does not.
 fn asked_cycle(call: &Call) -> Option<u64> {
     match *call {
-        Call::Read { cycle, .. } | Call::Peek { cycle, .. } | Call::Time { cycle } => Some(cycle),
+        Call::Read { cycle, .. } | Call::Peek { cycle, .. } | Call::Time { cycle } | Call::Why { cycle, .. } => Some(cycle),
         _ => None,
     }
 }
@@ -149,7 +152,7 @@ fn timer_of(call: &Call) -> Option<u32> {
 
 fn pin_of(call: &Call) -> Option<u32> {
     match *call {
-        Call::Pin { pin, .. } | Call::Drive { pin, .. } | Call::Level { pin } | Call::Volts { pin } => Some(pin),
+        Call::Pin { pin, .. } | Call::Drive { pin, .. } | Call::Level { pin } | Call::Volts { pin } | Call::Why { pin, .. } => Some(pin),
         _ => None,
     }
 }
@@ -237,6 +240,7 @@ fn play(b: &mut Safe, call: &Call, error: &mut Option<Error>) -> Option<Answer> 
             plain(Ok(l.high as u64 + 2 * l.pending as u64))
         }
         Call::Time { cycle } => plain(b.time(cycle).map(bits)),
+        Call::Why { pin, cycle } => plain(b.why(pin, cycle).map(|r| r.number().into())),
         Call::Clear { irq } => {
             b.clear_pending(irq);
             plain(Ok(0))

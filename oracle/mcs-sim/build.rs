@@ -29,6 +29,7 @@ impl Timer { // added: a view of the private fields, and manual mode
     pub fn seen(&self, now: u64) -> crate::seen::View { // added: for refusal 7 and for aiming random calls
         crate::seen::View { running: self.running, down: self.down(), counter: self.cnt_at(now), reload: self.arr_act, cr1: self.cr1, max: self.max(), channels: self.channels, base: self.base, tick: self.tick, compare: self.ccr_act } // added: copies
     } // added
+    pub fn due(&self) -> Option<u64> { self.next_event().map(|(at, _)| at) } // added: the next event's own cycle, for document 02's why
     pub fn clear_cen(&mut self) { self.cr1 &= !CEN; } // added: document 02's end of a pulse, called in manual mode alone
 } // added
 ";

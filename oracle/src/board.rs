@@ -7,7 +7,7 @@ use mcs_core::arm::device::{Enable, TimerInstance};
 use mcs_sim::arm::bus::{Cx, Mmio};
 use mcs_sim::arm::nvic::Nvic;
 use mcs_sim::arm::periph::tim::Timer;
-use mcs_sim::arm::sys::{ArmSys, ClockTree, PinCfg, NENR};
+use mcs_sim::arm::sys::{sig, ArmSys, ClockTree, PinCfg, NENR};
 use mcs_sim::pins::ExtDrive;
 use mcs_sim::scheduler::{EventKey, Scheduler};
 use mcs_sim::seen::{self, View};
@@ -35,6 +35,8 @@ pub const SOCKET_TAKEN: u8 = 11;
 const PLACES: u64 = 4;
 
 const CR1: u32 = 0x00;
+const CCMR1: u32 = 0x18;
+const CCER: u32 = 0x20;
 const CNT: u32 = 0x24;
 const ARR: u32 = 0x2c;
 const CEN: u32 = 1;
@@ -209,6 +211,11 @@ impl Board {
                 self.nvic.clear_pending(irq);
                 Ok((0, 0))
             }
+            Call::Why { pin, cycle } => {
+                let p = self.pin(pin)?;
+                self.check_cycle(cycle)?;
+                Ok(self.why(p, cycle))
+            }
         }
     }
 
@@ -244,6 +251,50 @@ impl Board {
         // What is due is booked no earlier than now: booked at now means still due.
         let number = if self.booked(t) == cycle { BACKLOG } else { 0 };
         Ok((number, seen::events()))
+    }
+
+    /// Number and value of the query why (F-12), by the rule of document 02 over the Rust's own fields. What a pin shows and whether it is released are
+    /// the pin's; its signal is the one that `select_af` kept, 0 outside alternate mode.
+    fn why(&mut self, pin: usize, cycle: u64) -> (u8, u64) {
+        let signal = self.sys.pin_sig[pin];
+        let channels = |s: &TimerSpec| if matches!(s.number, 2..=4) { s.channels } else { 0 };
+        let mut every = self.specs.iter().enumerate().flat_map(|(t, s)| (0..channels(s)).map(move |ch| (t, ch, sig::tim(s.number as u8, ch as u8))));
+        let source = every.find(|&(_, _, s)| s == signal).map(|(t, ch, _)| (t, ch));
+        if source.is_some_and(|(t, _)| self.timers[t].due().is_some_and(|at| at <= cycle)) {
+            return (BACKLOG, 0);
+        }
+        let (cfg, shown) = (self.sys.pcfg[pin], &self.sys.pins[pin]);
+        let (high, released, level) = (shown.level == 1, shown.ddoe == 1, self.sys.sig_level[signal as usize]);
+        let reason = match cfg.mode {
+            _ if high => 0,
+            0 | 3 => 1,
+            1 if cfg.odr == 0 => 2,
+            2 if signal == 0 => 3,
+            _ if released => 4,
+            2 => match source {
+                None => 5,
+                Some(_) if self.routed(signal) != Some(pin) => 6,
+                Some((t, ch)) => self.channel(t, ch, level, cycle),
+            },
+            _ => 10,
+        };
+        (0, reason)
+    }
+
+    /// Reasons 7 to 10 of channel `ch` of timer `t`, whose signal has this level.
+    fn channel(&mut self, t: usize, ch: u32, level: u8, cycle: u64) -> u64 {
+        let byte = self.peek(t, CCMR1 + 4 * (ch / 2), cycle) >> (8 * (ch % 2)) & 0xff;
+        let (mode, bits) = (byte >> 4 & 7, self.peek(t, CCER, cycle) >> (4 * ch));
+        let View { counter, down, compare, .. } = self.view(t, cycle);
+        let ccr = compare[ch as usize] as u64;
+        let active = (if down { counter <= ccr } else { counter < ccr }) == (mode == 6);
+        match mode {
+            _ if byte & 3 != 0 || bits & 1 == 0 => 7,
+            _ if level != 0 => 10,
+            0..=5 => 8,
+            _ if active == (bits & 2 != 0) => 9,
+            _ => 10,
+        }
     }
 
     fn line(&self, irq: u32) -> u64 {

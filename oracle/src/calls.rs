@@ -54,6 +54,7 @@ pub enum Call {
     Line { irq: u32 },
     Time { cycle: u64 },
     Clear { irq: u32 },
+    Why { pin: u32, cycle: u64 },
 }
 
 impl Call {
@@ -69,7 +70,8 @@ impl Call {
             | Call::Peek { cycle, .. }
             | Call::Reset { cycle, .. }
             | Call::Deliver { cycle, .. }
-            | Call::Time { cycle } => Some(cycle),
+            | Call::Time { cycle }
+            | Call::Why { cycle, .. } => Some(cycle),
             _ => None,
         }
     }
@@ -304,6 +306,7 @@ pub fn read(line: &[u8]) -> Result<Option<Line>, Malformed> {
         b"line" => Call::Line { irq: w.short()? },
         b"time" => Call::Time { cycle: w.wide()? },
         b"clear" => Call::Clear { irq: w.short()? },
+        b"why" => Call::Why { pin: w.short()?, cycle: w.wide()? },
         _ => return Err(Malformed::UnknownWord),
     };
     w.end(Line::Call(call))
@@ -344,6 +347,7 @@ impl Display for Call {
             Call::Line { irq } => write!(f, "line {irq}"),
             Call::Time { cycle } => write!(f, "time {cycle}"),
             Call::Clear { irq } => write!(f, "clear {irq}"),
+            Call::Why { pin, cycle } => write!(f, "why {pin} {cycle}"),
         }
     }
 }

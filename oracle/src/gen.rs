@@ -114,6 +114,7 @@ impl Gen {
         let asks = matches!(
             call,
             Call::Peek { .. } | Call::Booked { .. } | Call::Next | Call::Level { .. } | Call::Volts { .. } | Call::Line { .. } | Call::Time { .. }
+                | Call::Why { .. }
         );
         assert!(asks, "{call} may change the board");
         self.board.call(call)

@@ -39,6 +39,7 @@ pub enum Call {
     Line { irq: u32 },
     Time { cycle: u64 },
     Clear { irq: u32 },
+    Why { pin: u32, cycle: u64 },
     /// The setting at place `k` of the pilots up to `n`: no board is asked.
     SmallPilot { n: u32, k: u32 },
     /// A timer's record written; the bytes of one read, and read by the reader of kind 1 alone. No board is asked either.
@@ -91,6 +92,7 @@ const FORMS: &[(&str, Form)] = &[
     ("line", |n| Ok(Call::Line { irq: n.short()? })),
     ("time", |n| Ok(Call::Time { cycle: n.wide()? })),
     ("clear", |n| Ok(Call::Clear { irq: n.short()? })),
+    ("why", |n| Ok(Call::Why { pin: n.short()?, cycle: n.wide()? })),
     ("pilot", |n| Ok(Call::SmallPilot { n: n.short()?, k: n.short()? })),
     ("record", |n| Ok(Call::Record { timer: n.timer()?, places: n.wide()? })),
     ("unrecord", |n| Ok(Call::Unrecord { bytes: n.bytes()? })),

@@ -89,6 +89,7 @@ impl Player {
             Call::Line { irq } => s.line(irq),
             Call::Time { cycle } => s.time(cycle),
             Call::Clear { irq } => s.clear_pending(irq),
+            Call::Why { pin, cycle } => s.why(pin, cycle),
             Call::SmallPilot { n, k } => small_pilot(n, k, &mut self.more),
             Call::Record { timer, places } => record(timer, places, &mut self.bytes),
             Call::Unrecord { ref bytes } => unrecord(ffi::read_record(bytes), &mut self.more),

@@ -4,7 +4,7 @@ use std::fmt::{self, Debug, Formatter};
 
 use crate::ffi::{Answer, Book, State};
 use crate::time::LAST_CYCLE;
-use crate::{ClockField, ClockTree, Drive, Error, Index, Limit, PinConfig, Reg, Setup, TimerIndex};
+use crate::{ClockField, ClockTree, Drive, Error, Index, Limit, PinConfig, Reason, Reg, Setup, TimerIndex};
 
 /// Enough places for every call but a delivery, which stops and is made again.
 const PLACES: usize = 128;
@@ -478,6 +478,25 @@ impl Board {
         self.answered(self.state.volts(pin), About::pin(pin, 0)).map(f64::from_bits)
     }
 
+    /// Why a pin is low at a cycle: the first true reason. Nothing changes, and the cycle of the last changing call stays.
+    ///
+    /// Refused with [`Error::Backlog`] where an event of the timer that drives the pin is due by then: deliver it first.
+    ///
+    /// ```
+    /// # use board::{Board, Error, Reason, TimerIndex};
+    /// let (mut board, tim2) = (Board::example_pilot(64), TimerIndex(0));
+    /// assert_eq!(board.why(0, 102), Ok(Reason::High));
+    /// assert_eq!(board.why(0, 103), Err(Error::Backlog));
+    /// board.deliver(tim2, 103)?;
+    /// assert_eq!(board.why(0, 103)?.to_string(), "the counter is on the low side of the compare");
+    /// assert_eq!(board.why(1, 103), Ok(Reason::Input));
+    /// # Ok::<(), Error>(())
+    /// ```
+    pub fn why(&self, pin: u32, cycle: u64) -> Result<Reason, Error> {
+        // The library gives 0 to 10.
+        self.answered(self.state.why(pin, cycle), About::pin(pin, cycle)).map(|v| u8::try_from(v).ok().and_then(Reason::of).unwrap_or(Reason::Other))
+    }
+
     // ---- timers ---------------------------------------------------------------------------
 
     /// Reads 1, 2 or 4 bytes of a timer's registers. [`read_reg`](Self::read_reg) is the same by the register's name.
@@ -776,6 +795,7 @@ impl Board {
             (6, _) => Error::BookFull { places: self.places(), needed: if about.all_pins { self.pins() as usize } else { 4 } },
             (11, Asked::Pin(pin)) => Error::SocketTaken { pin },
             (7, _) => Error::CounterAstray { offset: about.offset },
+            (8, _) => Error::Backlog,
             _ => other(a),
         }
     }

@@ -50,7 +50,8 @@ pub enum Error {
         /// The offset written to: CR1's, CNT's or ARR's.
         offset: u32,
     },
-    /// 8: a delivery stopped with an event still due. What it did stands; see [`Delivered`](crate::Delivered).
+    /// 8: a delivery stopped with an event still due. What it did stands; see [`Delivered`](crate::Delivered). Or [`why`](crate::Board::why) was
+    /// asked of a pin whose timer has an event due.
     Backlog,
     /// 9: a shift whose end is below its beginning.
     ShiftReversed {

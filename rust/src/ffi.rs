@@ -163,6 +163,7 @@ unsafe extern "C" {
     fn board_volts(words: *const u64, reals: *const f64, pin: u32) -> Answer;
     fn board_line(words: *const u64, reals: *const f64, irq: u32) -> Answer;
     fn board_time(words: *const u64, reals: *const f64, cycle: u64) -> Answer;
+    fn board_why(words: *const u64, reals: *const f64, pin: u32, cycle: u64) -> Answer;
     fn board_clear_pending(words: *mut u64, reals: *const f64, irq: u32) -> Answer;
     safe fn small_pilot(n: u32, k: u32) -> Listed;
 }
@@ -382,6 +383,12 @@ impl State {
     #[inline]
     pub fn time(&self, cycle: u64) -> Answer {
         ask!(board_time, self, cycle)
+    }
+
+    /// Why a pin is low at a cycle, 0 to 10; see [`Reason`](crate::Reason).
+    #[inline]
+    pub fn why(&self, pin: u32, cycle: u64) -> Answer {
+        ask!(board_why, self, pin, cycle)
     }
 
     /// Clears a pending interrupt.

@@ -79,6 +79,7 @@ mod setup;
 mod shift;
 mod small;
 mod time;
+mod why;
 
 pub use board::{Board, Delivered, Entry, Line, Source, Written};
 pub use error::{is_refusal, word, ClockField, Disorder, Error, Index, Limit, Setting};
@@ -90,3 +91,4 @@ pub use setup::{signal, ClockTree, Drive, Mode, PinConfig, Setup, TimerIndex, Ti
 pub use shift::{Duty, PinReport, Report, Shift, PINS};
 pub use small::{SmallPilot, SmallPilots};
 pub use time::{Clock, Timing, LAST_CYCLE};
+pub use why::Reason;

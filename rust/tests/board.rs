@@ -1,7 +1,7 @@
 //! The safe board: what its types add to the calls. What the calls do is compare's matter.
 
 use board::ffi;
-use board::{Board, Channel, ClockField, ClockTree, Delivered, Drive, Entry, Error, Index, Limit, Line, PinConfig, Reg, Setup, Source, TimerIndex, TimerSpec};
+use board::{Board, Channel, ClockField, ClockTree, Delivered, Drive, Entry, Error, Index, Limit, Line, PinConfig, Reason, Reg, Setup, Source, TimerIndex, TimerSpec};
 
 const TIM2: TimerIndex = TimerIndex(0);
 
@@ -454,4 +454,21 @@ fn levels_have_sources() {
     b.drive_pin(6, Drive::Nothing, 0).unwrap();
     assert_eq!(seen(&b), (1, Source::Held));
     assert_eq!(b.source(8), Err(Error::NoSuchIndex(Index::Pin { pin: 8, pins: 8 })));
+}
+
+/// Why a pin is low: what is asked of a pin of the pilot, and its refusals. Nothing changes.
+#[test]
+fn a_low_pin_is_explained() {
+    let mut b = Board::example_pilot(64);
+    let before = b.clone();
+    assert_eq!(b.why(8, 0), Err(Error::NoSuchIndex(Index::Pin { pin: 8, pins: 8 })));
+    assert_eq!(b.why(0, 99), Err(Error::CycleAstray { cycle: 99, last: 100 }));
+    assert_eq!((b.why(0, 102), b.why(0, 103), b.why(1, 103)), (Ok(Reason::High), Err(Error::Backlog), Ok(Reason::Input)));
+    assert!(b.state().same(before.state()));
+    b.deliver(TIM2, 103).unwrap();
+    assert_eq!((b.why(0, 109), b.last_cycle()), (Ok(Reason::Count), 103));
+    b.write_reg(TIM2, Reg::Ccer, 0, 104).unwrap();
+    assert_eq!(b.why(0, 104), Ok(Reason::Off));
+    b.set_pin(0, &PinConfig::default(), 104).unwrap();
+    assert_eq!(b.why(0, 1000), Ok(Reason::Input));
 }

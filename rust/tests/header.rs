@@ -4,7 +4,7 @@
 use std::path::Path;
 use std::process::Command;
 
-use board::{Reg, Source};
+use board::{Reason, Reg, Source};
 
 /// An exported function as its caller sees it: each argument `name: type`, then what it returns. A slice is two arguments, its pointer and
 /// its length; an array is a pointer with its length behind it.
@@ -220,7 +220,7 @@ fn the_archives_have_the_functions() {
     let mut exported: Vec<_> = nm.lines().filter_map(|l| l.split_whitespace().nth(2)).map(str::to_owned).collect();
     exported.sort();
     assert_eq!(names, exported);
-    assert_eq!(names.len(), 30);
+    assert_eq!(names.len(), 31);
 }
 
 #[test]
@@ -231,6 +231,7 @@ fn numbers_and_registers_are_the_crates() {
     assert_eq!(header_enum(&header, "pilot_register"), Reg::ALL.map(|r| (format!("PILOT_{r}"), r.offset())));
     let sources = [Source::Chip, Source::Outside, Source::Pull, Source::Held];
     assert_eq!(header_enum(&header, "pilot_source"), sources.map(|s| (format!("PILOT_{s:?}").to_uppercase(), s as u32)));
+    assert!(header_enum(&header, "pilot_reason").iter().map(|(_, n)| *n).eq(Reason::ALL.map(|r| r.number().into())));
 }
 
 /// Each word of each declaration, changed, is seen: what a test that cannot fail would let pass.

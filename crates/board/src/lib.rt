@@ -362,6 +362,19 @@ pub extern "C" fn board_time(words: &[u64; WORDS], reals: &[f64; REALS], cycle: 
     control::time(words, reals, cycle)
 }
 
+// Why a pin is low at a cycle: the first true reason, 0 to 10. 8 while an event that can change it is due.
+#[no_mangle]
+pub extern "C" fn board_why(
+    words: &[u64; WORDS],
+    reals: &[f64; REALS],
+    pin: u32,
+    cycle: u64,
+) -> Answer
+    ensures { λ r. ⌜ Answers (step (view (now (words .entry)) (now (reals .entry))) (C.queryWhy pin cycle)) r (now (words .entry)) (now (words .entry)) (now (reals .entry)) (now (reals .entry)) ⌝ }
+{
+    why::why(words, reals, pin, cycle)
+}
+
 // Clear a pending interrupt.
 #[no_mangle]
 pub extern "C" fn board_clear_pending(

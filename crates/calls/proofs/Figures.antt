@@ -4,7 +4,7 @@ use mathlib.Core.List.{List, [], _∷_, map}
 use Prim.Native.Nat.{ℕ}
 use lib.Ieee as Ieee
 use lib.Ieee.{binary64}
-use Rattle.machine.specs.Call.{Call, setUp, clockTree, enable, setPin, drivePin, resetPins, read, write, peek, resetTimer, deliver, queryBooked, queryNext, queryLevel, queryVolts, queryLine, queryTime, clearPending}
+use Rattle.machine.specs.Call.{Call, setUp, clockTree, enable, setPin, drivePin, resetPins, read, write, peek, resetTimer, deliver, queryBooked, queryNext, queryLevel, queryVolts, queryLine, queryTime, queryWhy, clearPending}
 use Rattle.setup.specs.Setup.{setupOf}
 use Rattle.pads.specs.Ext.{driveOf}
 use Rattle.encoding.specs.Encoding.{word, word64, real64, bookCall, changeCall, questionCall, callWith, sizeOf, lenOf, bookOf}
@@ -21,7 +21,8 @@ figures =
     ∷ record { words = 4 ∷ 1 ∷ 2 ∷ 0 ∷ 0 ∷ 3 ∷ 0 ∷ 4 ∷ 0 ∷ []; calls = drivePin 1 (driveOf 2 (Ieee.ofBits binary64 0)) 3 4 ∷ [] }
     ∷ record { words = 7 ∷ 1 ∷ 2 ∷ 3 ∷ 4 ∷ 5 ∷ 0 ∷ 6 ∷ 0 ∷ 10 ∷ 1 ∷ 2 ∷ 0 ∷ 3 ∷ 0 ∷ []; calls = write 1 2 3 4 5 6 ∷ deliver 1 2 3 ∷ [] }
     ∷ record { words = 6 ∷ 1 ∷ 2 ∷ 3 ∷ 4 ∷ 0 ∷ 8 ∷ 1 ∷ 2 ∷ 3 ∷ 0 ∷ 16 ∷ 1 ∷ 0 ∷ []; calls = read 1 2 3 4 ∷ peek 1 2 3 ∷ queryTime 1 ∷ [] }
-    ∷ record { words = 11 ∷ 1 ∷ 13 ∷ 2 ∷ 14 ∷ 3 ∷ 15 ∷ 4 ∷ 18 ∷ 12 ∷ []; calls = queryBooked 1 ∷ queryLevel 2 ∷ queryVolts 3 ∷ queryLine 4 ∷ [] }
+    ∷ record { words = 11 ∷ 1 ∷ 13 ∷ 2 ∷ 14 ∷ 3 ∷ 15 ∷ 4 ∷ 19 ∷ 12 ∷ []; calls = queryBooked 1 ∷ queryLevel 2 ∷ queryVolts 3 ∷ queryLine 4 ∷ [] }
+    ∷ record { words = 18 ∷ 1 ∷ 2 ∷ 3 ∷ 12 ∷ 18 ∷ 1 ∷ []; calls = queryWhy 1 12884901890 ∷ queryNext ∷ [] }
     ∷ record { words = 12 ∷ 16 ∷ 1 ∷ []; calls = queryNext ∷ [] }
     ∷ []
 

@@ -11,7 +11,7 @@ use borrow.Author.Tests.{ne-eqb}
 use Rattle.clk.specs.declared.ClockTree.{ClockTree}
 use Rattle.book.specs.Book.{Entry, Holds, slices, Lent}
 use Rattle.machine.specs.Board.{Board}
-use Rattle.machine.specs.Call.{Call, setUp, clockTree, enable, setPin, drivePin, resetPins, read, write, peek, resetTimer, deliver, queryBooked, queryNext, queryLevel, queryVolts, queryLine, queryTime, clearPending, lent}
+use Rattle.machine.specs.Call.{Call, setUp, clockTree, enable, setPin, drivePin, resetPins, read, write, peek, resetTimer, deliver, queryBooked, queryNext, queryLevel, queryVolts, queryLine, queryTime, queryWhy, clearPending, lent}
 use Rattle.machine.specs.Step.{step}
 use Rattle.machine.proofs.NumberLaws.{either}
 use Rattle.machine.proofs.Numbers.{entries-fit}
@@ -55,6 +55,10 @@ module _ (ns : List ℕ) where
   unfolding questionCall
   time-is c e = rw e
 
+  pub why-is : (k c : ℕ) → k ≡ word ns 1 → c ≡ word64 ns 2 → queryWhy k c ≡ questionCall 18 ns
+  unfolding questionCall
+  why-is k c e f = rw (e, f)
+
   pub question-is : (k op : ℕ) → op ≡ k → questionCall k ns ≡ questionCall op ns
   question-is k op e = rw e
 
@@ -74,17 +78,17 @@ module _ (ns : List ℕ) where
   unfolding questionCall
   line-is k op e f = rw (e, f)
 
-  pub next-is : (op : ℕ) → (op ≡ 6 → ⊥) → (op ≡ 8 → ⊥) → (op ≡ 11 → ⊥) → (op ≡ 13 → ⊥) → (op ≡ 14 → ⊥) → (op ≡ 15 → ⊥) → (op ≡ 16 → ⊥) → queryNext ≡ questionCall op ns
+  pub next-is : (op : ℕ) → (op ≡ 6 → ⊥) → (op ≡ 8 → ⊥) → (op ≡ 11 → ⊥) → (op ≡ 13 → ⊥) → (op ≡ 14 → ⊥) → (op ≡ 15 → ⊥) → (op ≡ 16 → ⊥) → (op ≡ 18 → ⊥) → queryNext ≡ questionCall op ns
   unfolding questionCall
-  next-is op a b c d e f g =
-      rw (ne-eqb op 6 a, ne-eqb op 8 b, ne-eqb op 11 c, ne-eqb op 13 d, ne-eqb op 14 e, ne-eqb op 15 f, ne-eqb op 16 g)
+  next-is op a b c d e f g h =
+      rw (ne-eqb op 6 a, ne-eqb op 8 b, ne-eqb op 11 c, ne-eqb op 13 d, ne-eqb op 14 e, ne-eqb op 15 f, ne-eqb op 16 g, ne-eqb op 18 h)
 
   pub lent-question : (op : ℕ) → lent (questionCall op ns) ≡ 0
   unfolding questionCall
   lent-question op =
       either (λ (c : Call). lent c ≡ 0) (eqb op 6) refl (either (λ (c : Call). lent c ≡ 0) (eqb op 8) refl (either (λ (c : Call). lent c ≡ 0) (eqb op 11) refl
       (either (λ (c : Call). lent c ≡ 0) (eqb op 13) refl (either (λ (c : Call). lent c ≡ 0) (eqb op 14) refl (either (λ (c : Call). lent c ≡ 0) (eqb op 15) refl
-      (either (λ (c : Call). lent c ≡ 0) (eqb op 16) refl refl))))))
+      (either (λ (c : Call). lent c ≡ 0) (eqb op 16) refl (either (λ (c : Call). lent c ≡ 0) (eqb op 18) refl refl)))))))
 
   -- ---- changes
   pub set-up-is : (hz vcc : Float) (pins lines n len mask : ℕ) → hz ≡ real64 ns 1 → vcc ≡ real64 ns 3 → pins ≡ word ns 5 → lines ≡ word ns 6 → n ≡ word ns 7 → len ≡ word ns 8 → mask ≡ word ns 9

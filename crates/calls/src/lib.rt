@@ -46,6 +46,14 @@ fn time(words: &[u64; WORDS], reals: &[f64; REALS], calls: &[u32]) -> Answer
     control::time(words, reals, cycle)
 }
 
+fn why(words: &[u64; WORDS], reals: &[f64; REALS], calls: &[u32]) -> Answer
+    ensures { λ r. ⌜ Answers (step (view (now (words .entry)) (now (reals .entry))) (E.questionCall 18 (now (calls .entry)))) r (now (words .entry)) (now (words .entry)) (now (reals .entry)) (now (reals .entry)) ⌝ }
+{
+    let pin = encoding::word(calls, 1);
+    let cycle = encoding::word64(calls, 2);
+    why::why(words, reals, pin, cycle)
+}
+
 fn question(words: &[u64; WORDS], reals: &[f64; REALS], calls: &[u32], op: u32) -> Answer
     ensures { λ r. ⌜ Answers (step (view (now (words .entry)) (now (reals .entry))) (E.questionCall op (now (calls .entry)))) r (now (words .entry)) (now (words .entry)) (now (reals .entry)) (now (reals .entry)) ⌝ }
 {
@@ -58,6 +66,7 @@ fn question(words: &[u64; WORDS], reals: &[f64; REALS], calls: &[u32], op: u32) 
         14 => control::volts(words, reals, k),
         15 => control::line(words, reals, k),
         16 => time(words, reals, calls),
+        18 => why(words, reals, calls),
         _ => control::next_booked(words, reals),
     }
 }

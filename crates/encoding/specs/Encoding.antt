@@ -10,7 +10,7 @@ use lib.ListN.{getD, length, take, drop}
 use Rattle.clk.specs.declared.ClockTree.{ClockTree}
 use Rattle.pads.specs.Ext.{driveOf}
 use Rattle.setup.specs.Setup.{setupOf}
-use Rattle.machine.specs.Call.{Call, Setup, setUp, clockTree, enable, setPin, drivePin, resetPins, read, write, peek, resetTimer, deliver, queryBooked, queryNext, queryLevel, queryVolts, queryLine, queryTime, clearPending}
+use Rattle.machine.specs.Call.{Call, Setup, setUp, clockTree, enable, setPin, drivePin, resetPins, read, write, peek, resetTimer, deliver, queryBooked, queryNext, queryLevel, queryVolts, queryLine, queryTime, queryWhy, clearPending}
 
 -- ---- arguments
 
@@ -67,7 +67,7 @@ changeCall op ns =
     (cond (eqb op 2) (enable (word ns 1) (word ns 2))
     (clearPending (word ns 1))))
 
--- a question: 6 read, 8 peek, 11 booked, 13 level, 14 volts, 15 line, 16 time, 12 next
+-- a question: 6 read, 8 peek, 11 booked, 13 level, 14 volts, 15 line, 16 time, 18 why, 12 next
 unfoldable pub questionCall : ℕ → List ℕ → Call
 questionCall op ns =
     cond (eqb op 6) (read (word ns 1) (word ns 2) (word ns 3) (word64 ns 4))
@@ -77,7 +77,8 @@ questionCall op ns =
     (cond (eqb op 14) (queryVolts (word ns 1))
     (cond (eqb op 15) (queryLine (word ns 1))
     (cond (eqb op 16) (queryTime (word64 ns 1))
-    queryNext))))))
+    (cond (eqb op 18) (queryWhy (word ns 1) (word64 ns 2))
+    queryNext)))))))
 
 -- the call that the words begin with, lent so many places
 unfoldable pub callWith : List ℕ → ℕ → Call
@@ -106,7 +107,8 @@ sizeOf op ns =
     (cond (eqb op 14) 2
     (cond (eqb op 15) 2
     (cond (eqb op 16) 3
-    (cond (eqb op 17) 2 0)))))))))))))))))
+    (cond (eqb op 17) 2
+    (cond (eqb op 18) 4 0))))))))))))))))))
 
 -- 0 where they are no call, or a call cut short
 unfoldable pub lenOf : List ℕ → ℕ

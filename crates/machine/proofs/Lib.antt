@@ -10,3 +10,4 @@ pub mod Routing
 pub mod Reach
 pub mod LineLaws
 pub mod SourceLaws
+pub mod Whys

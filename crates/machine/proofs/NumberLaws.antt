@@ -17,9 +17,10 @@ use Rattle.book.specs.Book.{Entry, entryOf}
 use Rattle.machine.specs.Board.{Board, timerAt, withClocks, withNvic, withLast, freshBoard}
 use Rattle.machine.specs.Sys as Sys
 use Rattle.machine.specs.Deliver.{dividerOf, delivered, mostEvents, dueBy}
-use Rattle.machine.specs.Call.{Setup, Question, reading, peeking, booked, next, level, volts, line, time, BookCall, pinSetting, outsideDrive, pinReset, writing, resetting, delivery, Call, setUp, clockTree, enable, clearPending, ask, lend, isDelivery, lent, bookCycle, Outcome, refused, served, isRefusal}
-use Rattle.machine.specs.Step.{step, cycleAstray, withinLimits, treeSet, moved, cfgOf, pinsReset, changesOf, clockOn, written, followed, timerReset, deliveredTo, asking, told}
+use Rattle.machine.specs.Call.{Setup, Question, reading, peeking, booked, next, level, volts, line, time, why, BookCall, pinSetting, outsideDrive, pinReset, writing, resetting, delivery, Call, setUp, clockTree, enable, clearPending, ask, lend, isDelivery, isWhy, lent, bookCycle, Outcome, refused, served, isRefusal}
+use Rattle.machine.specs.Step.{step, cycleAstray, withinLimits, treeSet, moved, cfgOf, pinsReset, changesOf, clockOn, written, followed, timerReset, deliveredTo, asking, answering}
 use Rattle.machine.specs.Refusals.{Refusal, _when_, limits, noSuchIndex, ofQuestion, ofBookCall, refusals, order, inOrder, among, rank, applies, holds, first, ending, most, lastAfter}
+use Rattle.machine.specs.Why.{isBehind}
 use Rattle.machine.specs.Demand1.{Every, StampedAt}
 use Rattle.machine.proofs.TableLaws.{positive-same, limits-same, tree-same, away-same, taken-same}
 use Rattle.machine.proofs.DeliverLaws.{Delivery, run-law, every-none, every-append, entry-stamped, entries-stamped, entry-few, entries-few}
@@ -183,7 +184,7 @@ performed b (clockTree t cycle) = served 0 (withLast (treeSet b t cycle) cycle)
 performed b (enable word value) =
     served 0 (withClocks b (record { tree = b .clocks .tree; clock = b .clocks .clock; enr = set (b .clocks .enr) word value }))
 performed b (clearPending irq) = served 0 (withNvic b (N.clearPending (b .nvic) irq))
-performed b (ask q) = served (told b q) b
+performed b (ask q) = answering b q
 performed b (lend k cycle places) = bookPerformed b k cycle places
 
 -- a gate before a test is a test of both
@@ -201,6 +202,7 @@ asked-given b (level pin) o = refl
 asked-given b (volts pin) o = refl
 asked-given b (line irq) o = refl
 asked-given b (time cycle) o = refl
+asked-given b (why pin cycle) o = refl
 
 -- equal tests refuse alike
 by-test : (n : ℕ) (b : Board) (o : Outcome) {t u : Bool} → t ≡ u → cond (not t) (refused n b) o ≡ cond (not u) (refused n b) o
@@ -220,7 +222,7 @@ step-given b (setUp s) = by-tests 1 4 b _ (sym (limits-same s)) (sym (positive-s
 step-given b (clockTree t cycle) = by-test 4 b _ (sym (tree-same t))
 step-given b (enable word value) = refl
 step-given b (clearPending irq) = refl
-step-given b (ask q) = asked-given b q (served (told b q) b)
+step-given b (ask q) = asked-given b q (answering b q)
 step-given b (lend (pinSetting pin mode openDrain out pullup pulldown function) cycle places) =
     by-third 2 5 11 b _ (leb (b .counts .pins) pin) (cycleAstray b cycle) (sym (taken-same b pin mode openDrain out pullup pulldown function))
 step-given b (lend (outsideDrive pin e) cycle places) = refl
@@ -239,6 +241,7 @@ asked-order b (level pin) = refl
 asked-order b (volts pin) = refl
 asked-order b (line irq) = refl
 asked-order b (time cycle) = refl
+asked-order b (why pin cycle) = refl
 
 pub in-order : (b : Board) (c : Call) → inOrder order (refusals b c) ≡ true
 unfolding inOrder refusals
@@ -305,29 +308,41 @@ performed-number b (lend (writing timer offset size value) cycle places) =
 performed-number b (lend (resetting timer) cycle places) = refl
 performed-number b (lend (delivery timer) cycle places) = delivered-law b timer cycle places .answer
 
-pub ending-cases : (b : Board) (c : Call) → (ending b c ≡ 0) ⊎ ((ending b c ≡ 8) × (isDelivery c ≡ true))
+eight-or-none : (d t : Bool) → t ≡ true → (_≡_ {A = ℕ} (cond d 8 0) 0) ⊎ ((_≡_ {A = ℕ} (cond d 8 0) 8) × (t ≡ true))
+eight-or-none true t h = inr (refl, h)
+eight-or-none false t h = inl refl
+
+ending-asked : (b : Board) (q : Question) → (ending b (ask q) ≡ 0) ⊎ ((ending b (ask q) ≡ 8) × ((isDelivery (ask q) || isWhy (ask q)) ≡ true))
+unfolding ending
+ending-asked b (reading timer offset size cycle) = inl refl
+ending-asked b (peeking timer offset cycle) = inl refl
+ending-asked b (booked timer) = inl refl
+ending-asked b next = inl refl
+ending-asked b (level pin) = inl refl
+ending-asked b (volts pin) = inl refl
+ending-asked b (line irq) = inl refl
+ending-asked b (time cycle) = inl refl
+ending-asked b (why pin cycle) = eight-or-none (isBehind b pin cycle) true refl
+
+pub ending-cases : (b : Board) (c : Call) → (ending b c ≡ 0) ⊎ ((ending b c ≡ 8) × ((isDelivery c || isWhy c) ≡ true))
 unfolding ending
 ending-cases b (setUp s) = inl refl
 ending-cases b (clockTree t cycle) = inl refl
 ending-cases b (enable word value) = inl refl
 ending-cases b (clearPending irq) = inl refl
-ending-cases b (ask q) = inl refl
+ending-cases b (ask q) = ending-asked b q
 ending-cases b (lend (pinSetting pin mode openDrain out pullup pulldown function) cycle places) = inl refl
 ending-cases b (lend (outsideDrive pin e) cycle places) = inl refl
 ending-cases b (lend pinReset cycle places) = inl refl
 ending-cases b (lend (writing timer offset size value) cycle places) = inl refl
 ending-cases b (lend (resetting timer) cycle places) = inl refl
-ending-cases b (lend (delivery timer) cycle places) = go (dueBy (nextEvent (delivered b timer cycle places .timer)) cycle)
-  where
-    go : (d : Bool) → (_≡_ {A = ℕ} (cond d 8 0) 0) ⊎ ((_≡_ {A = ℕ} (cond d 8 0) 8) × (true ≡ true))
-    go true = inr (refl, refl)
-    go false = inl refl
+ending-cases b (lend (delivery timer) cycle places) = eight-or-none (dueBy (nextEvent (delivered b timer cycle places .timer)) cycle) true refl
 
 -- what is performed is never answered with a refusal
 pub performed-served : (b : Board) (c : Call) → isRefusal (performed b c .number) ≡ false
 performed-served b c = rw (performed-number b c) (go (ending-cases b c))
   where
-    go : (ending b c ≡ 0) ⊎ ((ending b c ≡ 8) × (isDelivery c ≡ true)) → isRefusal (ending b c) ≡ false
+    go : (ending b c ≡ 0) ⊎ ((ending b c ≡ 8) × ((isDelivery c || isWhy c) ≡ true)) → isRefusal (ending b c) ≡ false
     go (inl z) = rw z refl
     go (inr z) = rw (z .0) refl
 

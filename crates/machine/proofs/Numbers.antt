@@ -1,7 +1,7 @@
 -- The numbers of document 01's table, and what every answer keeps: the statements of specs/Demand1.antt, proved. Assumes nothing.
 use mathlib.Core.Path.{_≡_, refl, ap, sym, _∙_}
-use mathlib.Core.Bool.{Bool, true, false, cond, not}
-use mathlib.Core.List.{List}
+use mathlib.Core.Bool.{Bool, true, false, cond, not, _||_}
+use mathlib.Core.List.{List, []}
 use mathlib.Core.Logic.{_⊎_, inl, inr}
 use Prim.Native.Nat.{ℕ, _<_}
 use native.Mathlib.Omega.{arith}
@@ -14,9 +14,10 @@ use Rattle.pins.specs.declared.ExtDrive.{ExtDrive}
 use Rattle.book.specs.Book.{Entry}
 use Rattle.machine.specs.Board.{Board, timerAt, noTimer}
 use Rattle.machine.specs.Deliver.{Turn, dividerOf, dueBy, delivered, afterDelivery, rebooked, lineSettled}
-use Rattle.machine.specs.Call.{Setup, Call, setUp, setPin, drivePin, deliver, isDelivery, isSetUp, bookCycle, Outcome, refused, isRefusal}
+use Rattle.machine.specs.Call.{Setup, Question, reading, peeking, booked, next, level, volts, line, time, why, Call, setUp, ask, setPin, drivePin, deliver, isDelivery, isWhy, isSetUp, bookCycle, Outcome, refused, isRefusal}
 use Rattle.real.specs.Real.{positive}
 use Rattle.machine.specs.Step.{step, withinLimits, deliveredTo, cfgOf}
+use Rattle.machine.specs.Why.{isBehind, whyLow}
 use Rattle.machine.specs.Refusals.{refusals, order, among, applies, first, ending, lastAfter}
 use Rattle.machine.specs.Demand1.{Unchanged, Numbered, EntriesFit, Every, StampedAt, StampedBy, pinLevel, pinSource, edgeOf, Traced, stamps, Works, reached, Demand1}
 use Rattle.machine.proofs.DeliverLaws.{every-none, turned-cycles}
@@ -74,12 +75,12 @@ numbered b c = go (answer b c)
       backlog = λ h. ending-delivers (N.ending-cases b c) (sym (performed-number b c) ∙ sym (number-of e) ∙ h);
     }
       where
-        ends : (ending b c ≡ 0) ⊎ ((ending b c ≡ 8) × (isDelivery c ≡ true)) → step b c .number ≡ ending b c
+        ends : (ending b c ≡ 0) ⊎ ((ending b c ≡ 8) × ((isDelivery c || isWhy c) ≡ true)) → step b c .number ≡ ending b c
             → (step b c .number ≡ 0) ⊎ ((step b c .number ≡ 8) ⊎ (among (step b c .number) order ≡ true))
         ends (inl z) h = inl (h ∙ z)
         ends (inr z) h = inr (inl (h ∙ z .0))
 
-        ending-delivers : (ending b c ≡ 0) ⊎ ((ending b c ≡ 8) × (isDelivery c ≡ true)) → ending b c ≡ 8 → isDelivery c ≡ true
+        ending-delivers : (ending b c ≡ 0) ⊎ ((ending b c ≡ 8) × ((isDelivery c || isWhy c) ≡ true)) → ending b c ≡ 8 → (isDelivery c || isWhy c) ≡ true
         ending-delivers (inl z) h = absurd (omega arith)
         ending-delivers (inr z) h = z .1
 
@@ -97,6 +98,51 @@ pub set-up-number : (b : Board) (s : Setup)
     → (step b (setUp s) .number ≡ 0) ⊎ ((step b (setUp s) .number ≡ 1) ⊎ (step b (setUp s) .number ≡ 4))
 unfolding step
 set-up-number b s = three b _ (not (withinLimits s)) (not (positive (s .hz))) refl
+
+-- ---- a question
+
+-- what is performed keeps the board; answered 8 it has value 0
+performed-asked : (b : Board) (q : Question) → performed b (ask q) .board ≡ b
+unfolding performed
+performed-asked b q = refl
+
+backlog-value : (b : Board) (q : Question) → performed b (ask q) .number ≡ 8 → performed b (ask q) .value ≡ 0
+unfolding performed
+backlog-value b (reading timer offset size cycle) h = absurd (omega arith)
+backlog-value b (peeking timer offset cycle) h = absurd (omega arith)
+backlog-value b (booked timer) h = absurd (omega arith)
+backlog-value b next h = absurd (omega arith)
+backlog-value b (level pin) h = absurd (omega arith)
+backlog-value b (volts pin) h = absurd (omega arith)
+backlog-value b (line irq) h = absurd (omega arith)
+backlog-value b (time cycle) h = absurd (omega arith)
+backlog-value b (why pin cycle) h = go (isBehind b pin cycle) (whyLow b pin cycle) h
+  where
+    go : (t : Bool) (v : ℕ) → _≡_ {A = ℕ} (cond t 8 0) 8 → cond t 0 v ≡ 0
+    go true v h = refl
+    go false v h = absurd (omega arith)
+
+performed-empty : (b : Board) (q : Question) → performed b (ask q) .entries ≡ []
+unfolding performed
+performed-empty b q = refl
+
+pub question-keeps : (b : Board) (q : Question) → step b (ask q) .board ≡ b
+question-keeps b q = go (answer b (ask q))
+  where
+    go : Answer b (ask q) → step b (ask q) .board ≡ b
+    go (turned-away u f a k) = k .board
+    go (done a e n) = ap (λ (o : Outcome). o .board) e ∙ performed-asked b q
+
+pub question-backlog : (b : Board) (q : Question) → step b (ask q) .number ≡ 8 → Unchanged b (step b (ask q))
+question-backlog b q h = go (answer b (ask q))
+  where
+    go : Answer b (ask q) → Unchanged b (step b (ask q))
+    go (turned-away u f a k) = k
+    go (done a e n) = record {
+      board = question-keeps b q;
+      value = ap (λ (o : Outcome). o .value) e ∙ backlog-value b q (sym (number-of e) ∙ h);
+      entries = ap (λ (o : Outcome). o .entries) e ∙ performed-empty b q;
+    }
 
 -- ---- the entries
 
@@ -233,6 +279,8 @@ pub demand1 : Demand1
 demand1 = record {
   number = numbered;
   set-up = set-up-number;
+  asked = question-keeps;
+  asked-backlog = question-backlog;
   fits = entries-fit;
   stamped = stamped;
   stamped-by = due-stamped;

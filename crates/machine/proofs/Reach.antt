@@ -42,7 +42,7 @@ use Rattle.machine.specs.Sys as Sys
 use Rattle.machine.specs.Deliver.{Run, Turn, dividerOf, lineSettled, rebooked, applied, countAt, turn, turnOf, stop, dueBy, mostEvents, delivered, afterDelivery}
 use Rattle.machine.specs.Deliver as D
 use Rattle.machine.specs.Call.{Setup, pinSetting, outsideDrive, pinReset, writing, resetting, delivery, Call, setUp, clockTree, enable, clearPending, ask, lend, Outcome, isRefusal}
-use Rattle.machine.specs.Step.{fresh, instGood, instsGood, entriesBelow, withinLimits, clockOn, register, told, written, followed, timerReset, deliveredTo, timerRetimed, allRetimed, treeSet, cfgOf, moved, step, boardAfter}
+use Rattle.machine.specs.Step.{fresh, instGood, instsGood, entriesBelow, withinLimits, clockOn, register, told, askedNumber, written, followed, timerReset, deliveredTo, timerRetimed, allRetimed, treeSet, cfgOf, moved, step, boardAfter}
 use Rattle.machine.specs.Refusals.{refusals, applies}
 use Rattle.machine.specs.Sound.{SoundPads, Sound, Held, Elsewhere}
 use Rattle.machine.specs.Sockets.{Sockets, OneSocket}
@@ -845,7 +845,7 @@ frame-performed b i ch s p w (clockTree t cycle) h a = absurd h
 frame-performed b i ch s p w (enable word value) h a =
     let k = past-refl i s p b in record { past = record { held = k .held; timer = k .timer; tree = refl; timers = refl }; spared = tt }
 frame-performed b i ch s p w (clearPending irq) h a = record { past = past-nvic i s p b b _ (past-refl i s p b); spared = tt }
-frame-performed b i ch s p w (ask q) h a = rest-still i s p b 0 (told b q)
+frame-performed b i ch s p w (ask q) h a = rest-still i s p b (askedNumber b q) (told b q)
 frame-performed b i ch s p w (lend (pinSetting q mode od out pu pd f) cycle places) h a =
     rest-set b i ch s p w q mode od out pu pd f cycle h (socket-free b q mode od out pu pd f cycle places a)
 frame-performed b i ch s p w (lend (outsideDrive q e) cycle places) h a = rest-drive b i ch s p w q e cycle

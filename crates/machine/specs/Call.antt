@@ -21,7 +21,7 @@ pub record Setup : Type 0 where
 
 -- ---- the classes of calls. A cycle is the call's own; places is the length of the book that a call is lent.
 
--- calls that ask, and leave the board as it is: reads, peeks, and queries of booking, pin, interrupt line, time
+-- calls that ask, and leave the board as it is: reads, peeks, and queries of booking, pin, interrupt line, time, and why a pin is low (F-12)
 pub data Question : Type 0 where
   reading : (timer offset size cycle : ℕ) → Question
   peeking : (timer offset cycle : ℕ) → Question
@@ -31,6 +31,7 @@ pub data Question : Type 0 where
   volts : (pin : ℕ) → Question
   line : (irq : ℕ) → Question
   time : (cycle : ℕ) → Question
+  why : (pin cycle : ℕ) → Question
 
 -- "Every call that can change a pin is lent a book"
 pub data BookCall : Type 0 where
@@ -75,6 +76,9 @@ queryLine irq = ask (line irq)
 abbrev pub queryTime : (cycle : ℕ) → Call
 queryTime cycle = ask (time cycle)
 
+abbrev pub queryWhy : (pin cycle : ℕ) → Call
+queryWhy pin cycle = ask (why pin cycle)
+
 abbrev pub setPin : (pin mode openDrain out pullup pulldown function cycle places : ℕ) → Call
 setPin pin mode openDrain out pullup pulldown function cycle places = lend (pinSetting pin mode openDrain out pullup pulldown function) cycle places
 
@@ -115,6 +119,26 @@ ifDelivery f d (delivery timer) = f timer
 
 abbrev pub isDelivery : Call → Bool
 isDelivery c = ifLent (λ k cycle places. ifDelivery (λ timer. true) false k) false c
+
+-- f of the query why a pin is low, d of another question
+abbrev pub ifWhy : {A : Type 0} → (ℕ → ℕ → A) → A → Question → A
+ifWhy f d (reading timer offset size cycle) = d
+ifWhy f d (peeking timer offset cycle) = d
+ifWhy f d (booked timer) = d
+ifWhy f d next = d
+ifWhy f d (level pin) = d
+ifWhy f d (volts pin) = d
+ifWhy f d (line irq) = d
+ifWhy f d (time cycle) = d
+ifWhy f d (why pin cycle) = f pin cycle
+
+abbrev pub isWhy : Call → Bool
+isWhy (setUp s) = false
+isWhy (clockTree t cycle) = false
+isWhy (enable word value) = false
+isWhy (clearPending irq) = false
+isWhy (ask q) = ifWhy (λ pin cycle. true) false q
+isWhy (lend k cycle places) = false
 
 abbrev pub isSetUp : Call → Bool
 isSetUp (setUp s) = true

@@ -1,7 +1,7 @@
 -- Demand 1, as statements about `step`: which number a call is given and what it leaves, the entries, the last changing call, a delivery's work.
 -- Proved in proofs/Numbers.antt (`demand1 : Demand1`).
 use mathlib.Core.Path.{_≡_}
-use mathlib.Core.Bool.{true, false, cond}
+use mathlib.Core.Bool.{true, false, cond, _||_}
 use mathlib.Core.List.{List, [], _∷_, _++_, map}
 use mathlib.Core.Logic.{_⊎_}
 use Prim.Native.Nat.{ℕ, zero, suc, _/_, _≤_, min}
@@ -15,7 +15,7 @@ use Rattle.pins.specs.declared.ExtDrive.{ExtDrive}
 use Rattle.book.specs.Book.{Entry}
 use Rattle.machine.specs.Board.{Board, Pads, timerAt, gpioAt, firstBoard}
 use Rattle.machine.specs.Deliver.{Turn, turnOf, dividerOf, dueBy}
-use Rattle.machine.specs.Call.{Setup, Call, setUp, setPin, drivePin, deliver, isDelivery, isSetUp, lent, bookCycle, Outcome, isRefusal}
+use Rattle.machine.specs.Call.{Setup, Question, Call, setUp, ask, setPin, drivePin, deliver, isDelivery, isWhy, isSetUp, lent, bookCycle, Outcome, isRefusal}
 use Rattle.machine.specs.Step.{step, boardAfter}
 use Rattle.machine.specs.Refusals.{refusals, order, inOrder, among, rank, applies, first, holds, ending, most, lastAfter}
 
@@ -40,9 +40,9 @@ pub record Numbered (b : Board) (c : Call) : Type 0 where
   -- a refusal is given only where it applies, and changes nothing
   pub given-applies : isRefusal (step b c .number) ≡ true → holds (step b c .number) (refusals b c) ≡ true
   pub unchanged : isRefusal (step b c .number) ≡ true → Unchanged b (step b c)
-  -- "served: nothing below applies", or "a delivery stopped with an event still due" (8), which is a delivery's alone
+  -- "served: nothing below applies", or 8: "a delivery stopped with an event still due", or a query why with one due; no other call gives it
   pub else-served : applies (refusals b c) ≡ false → step b c .number ≡ ending b c
-  pub backlog : step b c .number ≡ 8 → isDelivery c ≡ true
+  pub backlog : step b c .number ≡ 8 → (isDelivery c || isWhy c) ≡ true
 
 -- ---- the entries
 
@@ -147,6 +147,9 @@ pub record Demand1 : Type 0 where
   -- "Set-up can only give 0, 1 or 4."
   pub set-up : (b : Board) (s : Setup)
       → (step b (setUp s) .number ≡ 0) ⊎ ((step b (setUp s) .number ≡ 1) ⊎ (step b (setUp s) .number ≡ 4))
+  -- a question changes nothing, whatever its number; of a query 8 comes "with value 0"
+  pub asked : (b : Board) (q : Question) → step b (ask q) .board ≡ b
+  pub asked-backlog : (b : Board) (q : Question) → step b (ask q) .number ≡ 8 → Unchanged b (step b (ask q))
   pub fits : (b : Board) (c : Call) → EntriesFit b c
   -- every entry carries the call's cycle; of a delivery none is later than it
   pub stamped : (b : Board) (c : Call) → isDelivery c ≡ false → Every (StampedAt (bookCycle c)) (step b c .entries)

@@ -1,6 +1,7 @@
 pub mod Board
 pub mod Sys
 pub mod Deliver
+pub mod Why
 pub mod Call
 pub mod Step
 pub mod Refusals
@@ -9,3 +10,4 @@ pub mod Demand1
 pub mod Sockets
 pub mod Lines
 pub mod Sources
+pub mod Explains

@@ -15,8 +15,9 @@ use Rattle.clk.specs.declared.ClockTree.{ClockTree}
 use Rattle.clk.specs.Clk.{timerDiv}
 use Rattle.machine.specs.Board.{Board, timerAt, routeOf, functionOf, noPin}
 use Rattle.machine.specs.Deliver.{delivered, dueBy}
-use Rattle.machine.specs.Call.{Setup, Question, reading, peeking, booked, next, level, volts, line, time, BookCall, pinSetting, outsideDrive, pinReset, writing, resetting, delivery, Call, setUp, clockTree, enable, clearPending, ask, lend, ifLent, ifDelivery}
+use Rattle.machine.specs.Call.{Setup, Question, reading, peeking, booked, next, level, volts, line, time, why, BookCall, pinSetting, outsideDrive, pinReset, writing, resetting, delivery, Call, setUp, clockTree, enable, clearPending, ask, lend, ifLent, ifDelivery, ifWhy}
 use Rattle.machine.specs.Step.{clockOn, written}
+use Rattle.machine.specs.Why.{isBehind}
 
 infixl 20 _when_
 -- a number, and whether it applies
@@ -143,6 +144,7 @@ ofQuestion b (level pin) = noSuchIndex pin (b .counts .pins) ∷ []
 ofQuestion b (volts pin) = noSuchIndex pin (b .counts .pins) ∷ []
 ofQuestion b (line irq) = []
 ofQuestion b (time cycle) = clockAstray b cycle ∷ []
+ofQuestion b (why pin cycle) = noSuchIndex pin (b .counts .pins) ∷ clockAstray b cycle ∷ []
 
 -- of a call that is lent a book
 abbrev pub ofBookCall : Board → BookCall → ℕ → ℕ → List Refusal
@@ -203,10 +205,15 @@ unfoldable pub holds : ℕ → List Refusal → Bool
 holds n [] = false
 holds n ((m when t) ∷ rs) = (t && eqb m n) || holds n rs
 
--- what is given where none of the refusals applies. 8, backlog: "a delivery stopped with an event still due"; 0, served: "nothing below applies"
+-- what is given where none of the refusals applies. 8, backlog: "a delivery stopped with an event still due", and of the query why "when an event of the
+-- driving timer .. is due at or before the cycle"; 0, served: "nothing below applies"
 unfoldable pub ending : Board → Call → ℕ
-ending b c =
-    ifLent (λ k cycle places. ifDelivery (λ timer. cond (dueBy (nextEvent (delivered b timer cycle places .timer)) cycle) 8 0) 0 k) 0 c
+ending b (setUp s) = 0
+ending b (clockTree t cycle) = 0
+ending b (enable word value) = 0
+ending b (clearPending irq) = 0
+ending b (ask q) = ifWhy (λ pin cycle. cond (isBehind b pin cycle) 8 0) 0 q
+ending b (lend k cycle places) = ifDelivery (λ timer. cond (dueBy (nextEvent (delivered b timer cycle places .timer)) cycle) 8 0) 0 k
 
 -- the most entries that a call can make: one of a pin, one of each of a timer's four channels, one of each pin
 abbrev pub mostOf : Board → BookCall → ℕ → ℕ

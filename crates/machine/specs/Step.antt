@@ -24,7 +24,8 @@ use Rattle.book.specs.Book.{Entry, entryOf, entriesOf}
 use Rattle.machine.specs.Board.{Board, timerAt, gpioAt, withTimer, withPads, withNvic, withBooking, withClocks, withLast, freshBoard}
 use Rattle.machine.specs.Sys as Sys
 use Rattle.machine.specs.Deliver.{dividerOf, lineSettled, rebooked, delivered, afterDelivery}
-use Rattle.machine.specs.Call.{Setup, Question, reading, peeking, booked, next, level, volts, line, time, BookCall, pinSetting, outsideDrive, pinReset, writing, resetting, delivery, Call, setUp, clockTree, enable, clearPending, ask, lend, Outcome, refused, served}
+use Rattle.machine.specs.Why.{isBehind, whyLow}
+use Rattle.machine.specs.Call.{Setup, Question, reading, peeking, booked, next, level, volts, line, time, why, BookCall, pinSetting, outsideDrive, pinReset, writing, resetting, delivery, Call, setUp, clockTree, enable, clearPending, ask, lend, ifWhy, Outcome, refused, served}
 
 -- ---- refusals: "The lowest number that applies is given."
 
@@ -182,6 +183,7 @@ asking b (level pin) o = refuseIf (absent pin (b .counts .pins)) 2 b o
 asking b (volts pin) o = refuseIf (absent pin (b .counts .pins)) 2 b o
 asking b (line irq) o = o
 asking b (time cycle) o = refuseIf (cycleAstray b cycle) 5 b o
+asking b (why pin cycle) o = refuseIf (absent pin (b .counts .pins)) 2 b (refuseIf (cycleAstray b cycle) 5 b o)
 
 -- "The pin level query's value becomes level + 2 × source" (document 02, F-5)
 abbrev pub levelQuery : Pin → ℕ
@@ -198,6 +200,15 @@ told b (level pin) = levelQuery (gpioAt (b .pads) pin .pin)
 told b (volts pin) = bitsOf (gpioAt (b .pads) pin .pin .volts)
 told b (line irq) = N.stateOf (N.lineAt (b .nvic) irq)
 told b (time cycle) = bitsOf (Clock.timeAt (b .clocks .clock) cycle)
+told b (why pin cycle) = cond (isBehind b pin cycle) 0 (whyLow b pin cycle)
+
+-- the number of a question that is not refused: 0, or "8 "backlog", with value 0 and no change"
+abbrev pub askedNumber : Board → Question → ℕ
+askedNumber b q = ifWhy (λ pin cycle. cond (isBehind b pin cycle) 8 0) 0 q
+
+-- nothing changes, whatever is asked
+abbrev pub answering : Board → Question → Outcome
+answering b q = record { number = askedNumber b q; value = told b q; entries = []; board = b }
 
 -- ---- calls that are lent a book
 
@@ -259,7 +270,7 @@ step b (enable word value) =
     refuseIf (absent word 9) 2 b
     (served 0 (withClocks b (record { tree = b .clocks .tree; clock = b .clocks .clock; enr = set (b .clocks .enr) word value })))
 step b (clearPending irq) = served 0 (withNvic b (N.clearPending (b .nvic) irq))
-step b (ask q) = asking b q (served (told b q) b)
+step b (ask q) = asking b q (answering b q)
 step b (lend k cycle places) =
     fitting b k
     (refuseIf (cycleAstray b cycle) 5 b

@@ -18,7 +18,7 @@ use state::WORDS;
 const PLACES: usize = 400004;
 
 // The words that ask the board nothing, from this place among the words on.
-const PILOT: u64 = 18;
+const PILOT: u64 = 19;
 
 // A record's bytes: no longer one is written, and none takes more.
 const WRITTEN: usize = 15;
@@ -259,9 +259,9 @@ fn unrecord(
 // A line that asks the board nothing.
 fn aside(op: u64, call: &[u32; ENCODED], length: usize, out: &mut [u8; OUT], used: usize) -> usize {
     match op {
-        18 => pilot(call[1], call[2], out, used),
-        19 => record(call, out, used),
-        20 => unrecord(call, length, false, out, used),
+        19 => pilot(call[1], call[2], out, used),
+        20 => record(call, out, used),
+        21 => unrecord(call, length, false, out, used),
         _ => unrecord(call, length, true, out, used),
     }
 }

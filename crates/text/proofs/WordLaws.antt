@@ -42,7 +42,7 @@ same-ends a b i h l = rw (drop-of-length-le a h, drop-of-length-le b {i = i} (om
 
 -- how many words the table has
 abbrev pub words : ℕ
-words = 22
+words = 23
 
 -- the words one behind the other
 abbrev pub joined : List (List ℕ) → List ℕ

@@ -21,7 +21,7 @@ placeIn w [] = 0
 placeIn w (x ∷ xs) = cond (sameWord w x) 0 (placeIn w xs + 1)
 
 -- the words of the table; "Words are written as in the table, in small letters": setup, clock, enable, pin, drive, reset-pins, read, write,
--- peek, reset, deliver, booked, next, level, volts, line, time, clear; then what asks the board nothing: pilot, record,
+-- peek, reset, deliver, booked, next, level, volts, line, time, clear, why; then what asks the board nothing: pilot, record,
 -- unrecord, unrecord1
 abbrev pub calls : List (List ℕ)
 calls =
@@ -43,13 +43,14 @@ calls =
     ∷ (108 ∷ 105 ∷ 110 ∷ 101 ∷ [])
     ∷ (116 ∷ 105 ∷ 109 ∷ 101 ∷ [])
     ∷ (99 ∷ 108 ∷ 101 ∷ 97 ∷ 114 ∷ [])
+    ∷ (119 ∷ 104 ∷ 121 ∷ [])
     ∷ (112 ∷ 105 ∷ 108 ∷ 111 ∷ 116 ∷ [])
     ∷ (114 ∷ 101 ∷ 99 ∷ 111 ∷ 114 ∷ 100 ∷ [])
     ∷ (117 ∷ 110 ∷ 114 ∷ 101 ∷ 99 ∷ 111 ∷ 114 ∷ 100 ∷ [])
     ∷ (117 ∷ 110 ∷ 114 ∷ 101 ∷ 99 ∷ 111 ∷ 114 ∷ 100 ∷ 49 ∷ [])
     ∷ []
 
--- 22 for an unknown word
+-- 23 for an unknown word
 unfoldable pub callOf : List ℕ → ℕ
 callOf w = placeIn w calls
 
@@ -74,6 +75,7 @@ shapes =
     ∷ (1 ∷ [])
     ∷ (2 ∷ [])
     ∷ (1 ∷ [])
+    ∷ (1 ∷ 2 ∷ [])
     ∷ (1 ∷ 1 ∷ [])
     ∷ (2 ∷ 2 ∷ 2 ∷ 2 ∷ 2 ∷ 2 ∷ 2 ∷ 2 ∷ 2 ∷ [])
     ∷ (4 ∷ [])

@@ -280,13 +280,13 @@ fn is_part(word: &[u8], text: &[u8], from: usize, to: usize) -> bool
 }
 
 // How many words there are: the board's calls, then what asks the board nothing.
-const WORDS: usize = 22;
+const WORDS: usize = 23;
 
 // What `call_of` gives for an unknown word.
-pub const UNKNOWN: u8 = 22;
+pub const UNKNOWN: u8 = 23;
 
 // Where the words start in the text that has one behind the other, and where the last ends.
-const STARTS: [usize; 23] = [
+const STARTS: [usize; 24] = [
     0,
     5,
     10,
@@ -306,13 +306,14 @@ const STARTS: [usize; 23] = [
     83,
     87,
     92,
-    97,
-    103,
-    111,
-    120,
+    95,
+    100,
+    106,
+    114,
+    123,
 ];
 
-// The call that a first word names, by its place in the table; 22 if it is an unknown word.
+// The call that a first word names, by its place in the table; 23 if it is an unknown word.
 pub fn call_of(word: &[u8]) -> u8
     ensures { λ r. ⌜ r ≡ callOf (now (word .entry)) ⌝ }
 {
@@ -322,7 +323,7 @@ pub fn call_of(word: &[u8]) -> u8
         let to = STARTS[k + 1];
         if is_part(
             word,
-            b"setupclockenablepindrivereset-pinsreadwritepeekresetdeliverbookednextlevelvoltslinetimeclearpilotrecordunrecordunrecord1",
+            b"setupclockenablepindrivereset-pinsreadwritepeekresetdeliverbookednextlevelvoltslinetimeclearwhypilotrecordunrecordunrecord1",
             from,
             to,
         ) {
@@ -354,6 +355,7 @@ const FIELDS: [u64; WORDS] = [
     1,
     2,
     1,
+    0x21,
     0x11,
     0x222222222,
     4,

@@ -26,11 +26,14 @@ returns-7 : tie.Need-returns-7
 returns-7 c = answers-as _ _ (question-is (c .before .before .before .before .args .calls .now) 16 (c .before .before .before .before .args .op) (c .before .match .keys7)) _ _ _ _ _ _ (c .time .ensures)
 
 returns-8 : tie.Need-returns-8
-returns-8 c = answers-as _ _ (next-is (c .before .before .before .before .args .calls .now) (c .before .before .before .before .args .op) (c .before .match .rest .0 .0 .0 .0 .0 .0 .1) (c .before .match .rest .0 .0 .0 .0 .0 .1) (c .before .match .rest .0 .0 .0 .0 .1) (c .before .match .rest .0 .0 .0 .1) (c .before .match .rest .0 .0 .1) (c .before .match .rest .0 .1) (c .before .match .rest .1)) _ _ _ _ _ _ (c .next-booked .ensures)
+returns-8 c = answers-as _ _ (question-is (c .before .before .before .before .args .calls .now) 18 (c .before .before .before .before .args .op) (c .before .match .keys8)) _ _ _ _ _ _ (c .why .ensures)
+
+returns-9 : tie.Need-returns-9
+returns-9 c = answers-as _ _ (next-is (c .before .before .before .before .args .calls .now) (c .before .before .before .before .args .op) (c .before .match .rest .0 .0 .0 .0 .0 .0 .0 .1) (c .before .match .rest .0 .0 .0 .0 .0 .0 .1) (c .before .match .rest .0 .0 .0 .0 .0 .1) (c .before .match .rest .0 .0 .0 .0 .1) (c .before .match .rest .0 .0 .0 .1) (c .before .match .rest .0 .0 .1) (c .before .match .rest .0 .1) (c .before .match .rest .1)) _ _ _ _ _ _ (c .next-booked .ensures)
 
 pub question-spec : {M : Type 1} → statement M
 question-spec =
     tie.close
     (tie.spec (λ c κs. search needs) (λ c κs. search needs) (λ c κs. search needs) (λ c κs. search needs) (λ c κs. search needs)
-    (λ c κs. search needs) (λ c κs. search needs) (λ c κs. search needs) (λ c κs. search needs) returns returns-2 returns-3
-    returns-4 returns-5 returns-6 returns-7 returns-8)
+    (λ c κs. search needs) (λ c κs. search needs) (λ c κs. search needs) (λ c κs. search needs) (λ c κs. search needs) returns returns-2 returns-3
+    returns-4 returns-5 returns-6 returns-7 returns-8 returns-9)

@@ -9,7 +9,7 @@ use Rattle.text.proofs.field.Tie as tie
 
 -- the code's table
 table : List ℕ
-table = 0x11122 ∷ 0x211111122 ∷ 0x11 ∷ 0x221111111 ∷ 0x22231 ∷ 0x22 ∷ 0x2111 ∷ 0x221111 ∷ 0x211 ∷ 0x221 ∷ 0x221 ∷ 1 ∷ 0 ∷ 1 ∷ 1 ∷ 1 ∷ 2 ∷ 1 ∷ 0x11 ∷ 0x222222222 ∷ 4 ∷ 4 ∷ []
+table = 0x11122 ∷ 0x211111122 ∷ 0x11 ∷ 0x221111111 ∷ 0x22231 ∷ 0x22 ∷ 0x2111 ∷ 0x221111 ∷ 0x211 ∷ 0x221 ∷ 0x221 ∷ 1 ∷ 0 ∷ 1 ∷ 1 ∷ 1 ∷ 2 ∷ 1 ∷ 0x21 ∷ 0x11 ∷ 0x222222222 ∷ 4 ∷ 4 ∷ []
 
 returns : tie.Need-returns
 returns c = field-none (c .before .args .call) (c .before .args .k) (c .if1 .taken)
