@@ -4,6 +4,7 @@ use std::io::{self, BufRead, Write};
 
 pub use oracle;
 
+pub mod busy;
 pub mod duty;
 pub mod machine;
 pub mod port;
