@@ -26,7 +26,7 @@ use Rattle.machine.proofs.NumberLaws.{delivered-law}
 use Rattle.machine.proofs.Reach.{sound-step, sound-after}
 use Rattle.machine.proofs.LineLaws.{Wished, wished-run, wished-after}
 use Rattle.accuracy.specs.Claim.{joined}
-use Rattle.busy.specs.Busy.{Visit, visits, Answered, events, Same, SameButLines, SameRecord}
+use Rattle.busy.specs.Busy.{Visit, visits, Answered, events, Same, SameButLines, Busy, pieces, SameRecord}
 use Rattle.busy.proofs.Events.{events-append, joinedTurn, all-later, all-append, None, as-many, inst-events, wants-events}
 use Rattle.busy.proofs.Twice.{set-twice}
 
@@ -223,19 +223,16 @@ wishes b i few w nv n m =
 
 -- ---- the deliveries
 
-abbrev pub seq : ℕ → List Visit → ℕ → ℕ → List Call
-seq i vs c l = visits i vs ++ (deliver i c l ∷ [])
-
 abbrev pub lastNumber : Board → ℕ → List Visit → ℕ → ℕ → ℕ
 lastNumber b i vs c l = step (boardAfter b (visits i vs)) (deliver i c l) .number
 
 kept-length : (b : Board) (i c : ℕ) (a : Board) (es : List Entry) (n x : ℕ) → Sum b i c a es n x → i < length (b .timers) → i < length (a .timers)
 kept-length b i c a es n x s h = omega (arith, h, ap (λ (z : Board). length (z .timers)) (s .is) ∙ length-set (b .timers) i (turnedBy b i n .timer))
 
-pieces : (vs : List Visit) (b : Board) (i c l : ℕ) → i < length (b .timers) → Answered (run b (seq i vs c l))
-    → Bare b i c (boardAfter b (seq i vs c l)) (joined (run b (seq i vs c l))) (events (run b (seq i vs c l))) (lastNumber b i vs c l)
+sum-of : (vs : List Visit) (b : Board) (i c l : ℕ) → i < length (b .timers) → Answered (run b (pieces i vs c l))
+    → Bare b i c (boardAfter b (pieces i vs c l)) (joined (run b (pieces i vs c l))) (events (run b (pieces i vs c l))) (lastNumber b i vs c l)
 unfolding visits Answered events run boardAfter joined
-pieces [] b i c l h an =
+sum-of [] b i c l h an =
     let o = step b (deliver i c l) in
     let s = bare b i c (o .board) (o .entries) (o .value) (o .number) (one b i c l (an .0)) in
     subst (λ (n : ℕ). Bare b i c (o .board) (o .entries ++ []) n (o .number)) zeroed
@@ -243,15 +240,15 @@ pieces [] b i c l h an =
   where
     zeroed : step b (deliver i c l) .value ≡ step b (deliver i c l) .value + 0
     zeroed = omega arith
-pieces (v ∷ vs) b i c l h an =
+sum-of (v ∷ vs) b i c l h an =
     let o = step b (deliver i (v .cycle) (v .places)) in
     let s = one b i (v .cycle) (v .places) (an .0) in
     both b i (v .cycle) c (o .board) _ (o .entries) _ (o .value) _ (o .number) _ h s
-    (pieces vs (o .board) i c l (kept-length b i (v .cycle) (o .board) (o .entries) (o .value) (o .number) s h) (an .1))
+    (sum-of vs (o .board) i c l (kept-length b i (v .cycle) (o .board) (o .entries) (o .value) (o .number) s h) (an .1))
 
-lines-of : (vs : List Visit) (b : Board) (i c l : ℕ) → Sound b → Wished b → Answered (run b (seq i vs c l))
-    → boardAfter b (seq i vs c l) .nvic
-    ≡ setLine (b .nvic) (turnedBy b i (events (run b (seq i vs c l))) .timer .inst .irq) i (wantsLine (turnedBy b i (events (run b (seq i vs c l))) .timer))
+lines-of : (vs : List Visit) (b : Board) (i c l : ℕ) → Sound b → Wished b → Answered (run b (pieces i vs c l))
+    → boardAfter b (pieces i vs c l) .nvic
+    ≡ setLine (b .nvic) (turnedBy b i (events (run b (pieces i vs c l))) .timer .inst .irq) i (wantsLine (turnedBy b i (events (run b (pieces i vs c l))) .timer))
 unfolding visits Answered events run boardAfter joined
 lines-of [] b i c l sb wb an =
     let o = step b (deliver i c l) in
@@ -262,7 +259,7 @@ lines-of (v ∷ vs) b i c l sb wb an =
     let o = step b d in
     let s = one b i (v .cycle) (v .places) (an .0) in
     let inside : i < length (b .timers) = omega (arith, s .there, sb .few-timers, sb .timers) in
-    lines b i (v .cycle) c (o .board) (boardAfter (o .board) (seq i vs c l)) (o .entries) (joined (run (o .board) (seq i vs c l))) (o .value) (events (run (o .board) (seq i vs c l))) (o .number) 0 inside s
+    lines b i (v .cycle) c (o .board) (boardAfter (o .board) (pieces i vs c l)) (o .entries) (joined (run (o .board) (pieces i vs c l))) (o .value) (events (run (o .board) (pieces i vs c l))) (o .number) 0 inside s
     (lines-of vs (o .board) i c l (sound-step b d sb) (wished-run b (d ∷ []) sb wb) (an .1)) (wishes b i (s .there) wb)
 
 -- ---- beside the single one
@@ -274,16 +271,16 @@ no-more : (q : Bool) (x : ℕ) → x ≡ cond q 8 0 → x ≡ 0 → q ≡ false
 no-more true x e z = absurd (omega (arith, e, z))
 no-more false x e z = refl
 
-module _ (b : Board) (i : ℕ) (inside : i < length (b .timers)) (vs : List Visit) (c l k : ℕ) (an : Answered (run b (seq i vs c l))) (z : lastNumber b i vs c l ≡ 0)
+module _ (b : Board) (i : ℕ) (inside : i < length (b .timers)) (vs : List Visit) (c l k : ℕ) (an : Answered (run b (pieces i vs c l))) (z : lastNumber b i vs c l ≡ 0)
     (y : step b (deliver i c k) .number ≡ 0) where
   abbrev o : Outcome
   o = step b (deliver i c k)
 
   abbrev n : ℕ
-  n = events (run b (seq i vs c l))
+  n = events (run b (pieces i vs c l))
 
-  many : Bare b i c (boardAfter b (seq i vs c l)) (joined (run b (seq i vs c l))) n (lastNumber b i vs c l)
-  many = pieces vs b i c l inside an
+  many : Bare b i c (boardAfter b (pieces i vs c l)) (joined (run b (pieces i vs c l))) n (lastNumber b i vs c l)
+  many = sum-of vs b i c l inside an
 
   single : Sum b i c (o .board) (o .entries) (o .value) (o .number)
   single = one b i c k (served (o .number) y)
@@ -292,19 +289,19 @@ module _ (b : Board) (i : ℕ) (inside : i < length (b .timers)) (vs : List Visi
   same-events =
       as-many n (o .value) c (divOf b i) (timerAt b i) (b .pads) (many .due) (no-more _ (lastNumber b i vs c l) (many .left) z) (single .due) (no-more _ (o .number) (single .left) y)
 
-  same-entries : joined (run b (seq i vs c l)) ≡ o .entries
+  same-entries : joined (run b (pieces i vs c l)) ≡ o .entries
   same-entries = many .book ∙ ap (λ (m : ℕ). turnedBy b i m .entries) same-events ∙ sym (single .book)
 
-  same-but-lines : SameButLines b (seq i vs c l) o
+  same-but-lines : SameButLines b (pieces i vs c l) o
   same-but-lines = record {
     board = ap (λ (a : Board). withNvic a (o .board .nvic)) (many .is) ∙ ap (λ (m : ℕ). leaving b i c (o .board .nvic) (turnedBy b i m)) same-events ∙ sym (single .is);
     entries = same-entries;
     counts = same-events;
   }
 
-  same : Sound b → Wished b → Same b (seq i vs c l) o
+  same : Sound b → Wished b → Same b (pieces i vs c l) o
   same sb wb =
-      let e : boardAfter b (seq i vs c l) .nvic ≡ o .board .nvic =
+      let e : boardAfter b (pieces i vs c l) .nvic ≡ o .board .nvic =
       lines-of vs b i c l sb wb an
       ∙ ap (λ (m : ℕ). setLine (b .nvic) (turnedBy b i m .timer .inst .irq) i (wantsLine (turnedBy b i m .timer))) same-events
       ∙ sym (single .line) in
@@ -314,14 +311,18 @@ module _ (b : Board) (i : ℕ) (inside : i < length (b .timers)) (vs : List Visi
         counts = same-events;
       }
 
-pub same-on : (b : Board) → Sound b → Wished b → (i : ℕ) (vs : List Visit) (c l k : ℕ) → Answered (run b (seq i vs c l)) → lastNumber b i vs c l ≡ 0
-    → step b (deliver i c k) .number ≡ 0
-    → Same b (seq i vs c l) (step b (deliver i c k))
-same-on b sb wb i vs c l k an z y =
-    same b i (omega (arith, one b i c k (served _ y) .there, sb .few-timers, sb .timers)) vs c l k an z y sb wb
+answered-all : (vs : List Visit) (b : Board) (i c l : ℕ) → Answered (run b (visits i vs)) → lastNumber b i vs c l ≡ 0 → Answered (run b (pieces i vs c l))
+unfolding visits Answered run boardAfter
+answered-all [] b i c l h z = (served _ z, tt)
+answered-all (v ∷ vs) b i c l h z = (h .0, answered-all vs (step b (deliver i (v .cycle) (v .places)) .board) i c l (h .1) z)
+
+pub same-on : (b : Board) → Sound b → Wished b → (i : ℕ) (vs : List Visit) (c l k : ℕ) → Busy b i vs c l k → Same b (pieces i vs c l) (step b (deliver i c k))
+same-on b sb wb i vs c l k h =
+    same b i (omega (arith, one b i c k (served _ (h .single)) .there, sb .few-timers, sb .timers)) vs c l k
+    (answered-all vs b i c l (h .each) (h .last)) (h .last) (h .single) sb wb
 
 pub same-record : SameRecord
 same-record = record {
-  reached = λ ds i vs c l k an z y. same-on (boardAfter firstBoard ds) (sound-after ds) (wished-after ds) i vs c l k an z y;
-  any-board = λ b i inside vs c l k an z y. same-but-lines b i inside vs c l k an z y;
+  reached = λ ds i vs c l k h. same-on (boardAfter firstBoard ds) (sound-after ds) (wished-after ds) i vs c l k h;
+  any-board = λ b i inside vs c l k h. same-but-lines b i inside vs c l k (answered-all vs b i c l (h .each) (h .last)) (h .last) (h .single);
 }

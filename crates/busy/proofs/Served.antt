@@ -17,9 +17,9 @@ use Rattle.accuracy.specs.Claim.{joined}
 use Rattle.state.specs.View.{view}
 use Rattle.recorded.specs.Recorded.{entriesFrom}
 use Rattle.recorded.proofs.Joined.{entries-held}
-use Rattle.busy.specs.Busy.{Visit, visits, Answered, events, Same}
+use Rattle.busy.specs.Busy.{Visit, visits, Answered, events, Same, Busy, pieces}
 use Rattle.busy.specs.Served.{Served, Meets, Serves, booksOf, valuesOf, SameServed}
-use Rattle.busy.proofs.Same.{seq, lastNumber, same-on}
+use Rattle.busy.proofs.Same.{lastNumber, same-on}
 
 -- what a run's contract says, from a board on
 record Told (i : ℕ) (b : Board) (s : Served) : Type 0 where
@@ -46,18 +46,18 @@ visitOf s = record { cycle = s .cycle; places = places (s .lent) }
 
 -- runs and a last one, from a board on
 record All (i : ℕ) (b : Board) (ss : List Served) (last : Served) : Type 0 where
-  pub answered : Answered (run b (seq i (map visitOf ss) (last .cycle) (places (last .lent))))
+  pub answered : Answered (run b (visits i (map visitOf ss)))
   pub number : last .answer .number ≡ lastNumber b i (map visitOf ss) (last .cycle) (places (last .lent))
-  pub values : valuesOf (ss ++ (last ∷ [])) ≡ events (run b (seq i (map visitOf ss) (last .cycle) (places (last .lent))))
-  pub books : booksOf (ss ++ (last ∷ [])) ≡ joined (run b (seq i (map visitOf ss) (last .cycle) (places (last .lent))))
-  pub board : view (last .words₁) (last .reals₁) ≡ boardAfter b (seq i (map visitOf ss) (last .cycle) (places (last .lent)))
+  pub values : valuesOf (ss ++ (last ∷ [])) ≡ events (run b (pieces i (map visitOf ss) (last .cycle) (places (last .lent))))
+  pub books : booksOf (ss ++ (last ∷ [])) ≡ joined (run b (pieces i (map visitOf ss) (last .cycle) (places (last .lent))))
+  pub board : view (last .words₁) (last .reals₁) ≡ boardAfter b (pieces i (map visitOf ss) (last .cycle) (places (last .lent)))
 
 all : (ss : List Served) (last : Served) (i : ℕ) (w : List ℕ) (x : List Float) → Serves i w x (ss ++ (last ∷ [])) → All i (view w x) ss last
 unfolding Serves booksOf valuesOf visits Answered events run joined boardAfter
 all [] last i w x h =
     let t = told i (view w x) last (found w (last .words) x (last .reals) (h .0) (h .1)) (h .2) in
     record {
-      answered = (ap isRefusal (sym (t .number)) ∙ h .3, tt);
+      answered = tt;
       number = t .number;
       values = ap (λ (n : ℕ). n + 0) (t .value);
       books = ap (λ (es : List Entry). es ++ []) (t .book);
@@ -87,9 +87,9 @@ same-served ds i w x e ss last one h k cycle z y =
     let t = told i b one (found w (one .words) x (one .reals) (k .0) (k .1)) (k .2) in
     let o : Outcome = step b (deliver i (last .cycle) m) in
     let at : step b (deliver i (one .cycle) m) ≡ o = ap (λ (c : ℕ). step b (deliver i c m)) cycle in
-    let s : Same b (seq i (map visitOf ss) (last .cycle) l) o =
-    same-on b (subst Sound (sym e) (sound-after ds)) (subst Wished (sym e) (wished-after ds)) i (map visitOf ss) (last .cycle) l m (a .answered) (sym (a .number) ∙ z)
-    (sym (ap (λ (u : Outcome). u .number) at) ∙ sym (t .number) ∙ y) in (
+    let s : Same b (pieces i (map visitOf ss) (last .cycle) l) o =
+    same-on b (subst Sound (sym e) (sound-after ds)) (subst Wished (sym e) (wished-after ds)) i (map visitOf ss) (last .cycle) l m
+    (record { each = a .answered; last = sym (a .number) ∙ z; single = sym (ap (λ (u : Outcome). u .number) at) ∙ sym (t .number) ∙ y }) in (
       a .board ∙ s .board ∙ sym (t .board ∙ ap (λ (u : Outcome). u .board) at),
       a .books ∙ s .entries ∙ sym (t .book ∙ ap (λ (u : Outcome). u .entries) at),
       a .values ∙ s .counts ∙ sym (t .value ∙ ap (λ (u : Outcome). u .value) at),

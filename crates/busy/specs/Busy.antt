@@ -42,17 +42,22 @@ pub record SameButLines (b : Board) (cs : List Call) (o : Outcome) : Type 0 wher
   pub entries : joined (run b cs) ≡ o .entries
   pub counts : events (run b cs) ≡ o .value
 
--- deliveries `vs`, then one at cycle c with l places; and one at c with k places
+-- deliveries `vs`, then one at cycle c with l places; and a single one at that last cycle, with k places
+pub record Busy (b : Board) (i : ℕ) (vs : List Visit) (c l k : ℕ) : Type 0 where
+  -- "each answered 0 or 8 and the last 0"
+  pub each : Answered (run b (visits i vs))
+  pub last : step (boardAfter b (visits i vs)) (deliver i c l) .number ≡ 0
+  -- "a single delivery at that last cycle answered 0"
+  pub single : step b (deliver i c k) .number ≡ 0
+
+abbrev pub pieces : ℕ → List Visit → ℕ → ℕ → List Call
+pieces i vs c l = visits i vs ++ (deliver i c l ∷ [])
+
 pub record SameRecord : Type 0 where
   -- on every board that calls lead to
   pub reached : (ds : List Call) (i : ℕ) (vs : List Visit) (c l k : ℕ)
-      → let b = boardAfter firstBoard ds in
-      let cs = visits i vs ++ (deliver i c l ∷ []) in
-      Answered (run b cs) → step (boardAfter b (visits i vs)) (deliver i c l) .number ≡ 0 → step b (deliver i c k) .number ≡ 0
-      → Same b cs (step b (deliver i c k))
-  -- on every board that has a place for the timer, which every content of the lent arrays has: all but the lines, whose wishes may say other than
-  -- the timers' flags there
+      → let b = boardAfter firstBoard ds in Busy b i vs c l k → Same b (pieces i vs c l) (step b (deliver i c k))
+  -- on every board that has a place for the timer, as every content of the lent arrays has: all but the lines, whose wishes need not be what the
+  -- timers' flags ask for there
   pub any-board : (b : Board) (i : ℕ) → i < length (b .timers) → (vs : List Visit) (c l k : ℕ)
-      → let cs = visits i vs ++ (deliver i c l ∷ []) in
-      Answered (run b cs) → step (boardAfter b (visits i vs)) (deliver i c l) .number ≡ 0 → step b (deliver i c k) .number ≡ 0
-      → SameButLines b cs (step b (deliver i c k))
+      → Busy b i vs c l k → SameButLines b (pieces i vs c l) (step b (deliver i c k))
