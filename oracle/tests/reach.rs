@@ -48,7 +48,7 @@ const NUMBERS: [(&str, &[u8]); 18] = [
 ];
 
 /// Single cases that must occur.
-const CASES: [&str; 53] = [
+const CASES: [&str; 55] = [
     "7 by CR1",
     "7 by CNT",
     "7 by ARR",
