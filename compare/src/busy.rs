@@ -108,7 +108,8 @@ fn cut(state: &State, board: &Board, t: usize, cycle: u64, rng: &mut Rng, stats:
     loop {
         // Towards the last cycle, and there again until nothing is due.
         now = if rng.one_in(4) { cycle } else { now + rng.below(cycle - now + 1) };
-        let places = 4 + rng.below(rng.pick(&[1, 4, 12, 60])) as usize;
+        let most = rng.pick(&[1, 4, 12, 60]);
+        let places = 4 + rng.below(most) as usize;
         pieces.push((now, places));
         let (number, value, book) = deliver(&mut parts, timer, now, places);
         events += value;
