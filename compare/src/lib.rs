@@ -5,6 +5,7 @@ use std::io::{self, BufRead, Write};
 pub use oracle;
 use oracle::Line;
 
+pub mod busy;
 pub mod duty;
 pub mod machine;
 pub mod port;

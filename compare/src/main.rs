@@ -2,6 +2,7 @@
 //! `compare machine COUNT [SEED]`: the same with the library and RM0440's machine; prints the table of the cases met.
 //! `compare manual COUNT [SEED]`, `compare manual machine COUNT [SEED]`: the same with timers in manual mode.
 //! `compare duty COUNT [SEED]`: COUNT random books through the duty report and a counter.
+//! `compare busy COUNT [SEED]`: deliveries in random pieces beside whole ones, on the boards of COUNT random calls.
 
 use std::collections::hash_map::RandomState;
 use std::hash::{BuildHasher, Hasher};
@@ -15,6 +16,7 @@ use oracle::follow::{report as report_cases, Table};
 fn main() -> ExitCode {
     let mut words = std::env::args().skip(1).peekable();
     let duty = words.next_if(|w| w == "duty").is_some();
+    let busy = words.next_if(|w| w == "busy").is_some();
     let manual = words.next_if(|w| w == "manual").is_some();
     let machine = words.next_if(|w| w == "machine").is_some();
     let args: Option<Vec<u64>> = words.map(|a| a.parse().ok()).collect();
@@ -22,12 +24,15 @@ fn main() -> ExitCode {
         Some(&[count]) => (count, fresh()),
         Some(&[count, seed]) => (count, seed),
         _ => {
-            eprintln!("usage: compare [duty | [manual] [machine]] COUNT [SEED]");
+            eprintln!("usage: compare [duty | busy | [manual] [machine]] COUNT [SEED]");
             return ExitCode::FAILURE;
         }
     };
     if duty {
         return books(count, seed);
+    }
+    if busy {
+        return pieces(count.div_ceil(compare::busy::CALLS), seed);
     }
     let lists = count.div_ceil(CALLS);
     println!("{lists} lists of {CALLS} calls, seeds {seed} to {}", seed.wrapping_add(lists).wrapping_sub(1));
@@ -63,6 +68,20 @@ fn main() -> ExitCode {
         }
     }
     print(&stats, start.elapsed());
+    ExitCode::SUCCESS
+}
+
+fn pieces(lists: u64, seed: u64) -> ExitCode {
+    println!("{lists} lists of {} calls, seeds {seed} to {}", compare::busy::CALLS, seed.wrapping_add(lists).wrapping_sub(1));
+    let mut s = compare::busy::Stats::default();
+    for i in 0..lists {
+        if let Err(failure) = compare::busy::list(seed.wrapping_add(i), &mut s) {
+            println!("{failure}");
+            return ExitCode::FAILURE;
+        }
+    }
+    println!("{} deliveries in {} pieces, {} of them stopped for places: {} events, {} entries, all equal;", s.tries, s.pieces, s.stopped, s.events, s.entries);
+    println!("{} raised a line, {} in manual mode; {} differed from the whole where a piece at the last cycle was answered 8", s.rises, s.manual, s.other);
     ExitCode::SUCCESS
 }
 

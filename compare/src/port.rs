@@ -115,6 +115,11 @@ impl Port {
         Ok(Answer { number: u8::try_from(a.number).unwrap_or(u8::MAX), value: a.value, entries })
     }
 
+    /// The board as it stands.
+    pub fn state(&self) -> &State {
+        &self.state
+    }
+
     /// The state is what it was after the last call that may change it.
     pub fn unchanged(&self) -> Result<(), Fault> {
         if self.state.same(&self.kept) {

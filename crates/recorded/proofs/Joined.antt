@@ -32,7 +32,7 @@ unfolding entriesFrom
 entries-over [] p l c s = refl
 entries-over (e ∷ es) p l c s = ap (λ (ds : List Entry). e ∷ ds) (entries-later 0 (length es) _ _ _ _ _ _ _ _ ∙ entries-over es p l c s)
 
-entries-held : (es : List Entry) (u u₁ : Lent) (n : ℕ) → Holds es u u₁ n → entriesFrom 0 n u₁ ≡ es
+pub entries-held : (es : List Entry) (u u₁ : Lent) (n : ℕ) → Holds es u u₁ n → entriesFrom 0 n u₁ ≡ es
 entries-held es u u₁ n h =
     ap (λ (k : ℕ). entriesFrom 0 k u₁) (h .count)
     ∙ ap (λ (v : Lent). entriesFrom 0 (length es) v) (rw (h .pins, h .levels, h .cycles, h .sources))

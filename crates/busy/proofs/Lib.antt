@@ -1,0 +1,4 @@
+pub mod Events
+pub mod Twice
+pub mod Same
+pub mod Served
