@@ -59,9 +59,9 @@ impl Display for Failure {
 
 /// What a delivery answers: number, events and entries.
 fn deliver(state: &mut State, timer: u32, cycle: u64, places: usize) -> (u32, u64, Vec<Entry>) {
-    let (mut pins, mut levels, mut cycles) = (vec![0; places], vec![0; places], vec![0; places]);
-    let a = state.deliver(&mut Book { pins: &mut pins, levels: &mut levels, cycles: &mut cycles }, timer, cycle);
-    let entry = |i: usize| Entry { pin: pins[i] as u16, level: levels[i], cycle: cycles[i] };
+    let (mut pins, mut levels, mut cycles, mut sources) = (vec![0; places], vec![0; places], vec![0; places], vec![0; places]);
+    let a = state.deliver(&mut Book { pins: &mut pins, levels: &mut levels, cycles: &mut cycles, sources: &mut sources }, timer, cycle);
+    let entry = |i: usize| Entry { pin: pins[i] as u16, level: levels[i], cycle: cycles[i], source: sources[i] };
     (a.number, a.value, (0..a.count as usize).map(entry).collect())
 }
 
