@@ -61,7 +61,7 @@ pub fn rows() -> Vec<Row> {
     let entry = |i: u64| {
         let (pin, edge) = (i % 4, i / 4);
         let cycle = edge / 2 * PERIOD + if edge % 2 == 0 { 0 } else { 1_600 * (1 + 2 * pin) };
-        Entry { pin: pin as u8, level: 1 - (edge % 2) as u8, cycle }
+        Entry::new(pin as u8, 1 - (edge % 2) as u8, cycle)
     };
     let entries: Vec<Entry> = (0..ENTRIES).map(entry).collect();
     let pins: Vec<u8> = entries.iter().map(|e| e.pin).collect();

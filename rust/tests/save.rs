@@ -1,7 +1,7 @@
 //! Saved boards: what comes back, what is turned away, and that any content is a board.
 
 use board::ffi;
-use board::{Board, ClockTree, Drive, PinConfig, Reg, RestoreError, Setup, TimerIndex};
+use board::{Board, ClockTree, Drive, PinConfig, Reg, RestoreError, Setup, Source, TimerIndex};
 
 /// FNV-1a, as `save` has it.
 fn sum(bytes: &[u8]) -> u64 {
@@ -124,7 +124,30 @@ fn older_boards_keep_their_lines() {
 /// `VERSION` in src/save.rs. Put the new sum here.
 #[test]
 fn layout_is_that_of_the_version() {
-    assert_eq!(sum(&busy().save()), 12640892323269385090);
+    assert_eq!(sum(&busy().save()), 15976424792214805100);
+}
+
+/// A board that was saved before levels had sources (document 02, F-5) had nothing above the level's bit, and its sum was the one below: its levels
+/// come back, only held until their pins are resolved again. So the version is the same.
+#[test]
+fn a_board_saved_before_sources() {
+    let b = busy();
+    let mut bytes = b.save();
+    for pin in 0..128 {
+        let place = 24 + 8 * (1116 + 16 * pin + 14);
+        bytes[place] &= 1;
+    }
+    let bytes = sealed(bytes);
+    assert_eq!(sum(&bytes), 12640892323269385090);
+    let mut other = Board::new(64);
+    other.restore(&bytes).unwrap();
+    for pin in 0..8 {
+        assert_eq!((other.level(pin), other.source(pin)), (b.level(pin), Ok(Source::Held)));
+    }
+    assert_eq!(b.source(0), Ok(Source::Chip));
+    // The pilot's next edge says it again.
+    other.poll_all(1010, &mut Vec::new()).unwrap();
+    assert_eq!(other.source(0), Ok(Source::Chip));
 }
 
 /// "Every content of the arrays is a board": random contents, and contents one word off a good one, take every call.

@@ -29,7 +29,7 @@ use Rattle.book.specs.Book.{Entry, Changes, entryOf, entriesOf}
 use Rattle.machine.specs.Board.{Board, Pads, timerAt, gpioAt, levelOf, routeOf, withSigLevel, noPin}
 use Rattle.machine.specs.Sys as Sys
 use Rattle.machine.specs.Sys.{Move, updatePin, refreshPin, sigOut, driveChannel, driveOutputs, driver}
-use Rattle.machine.specs.Deliver.{Run, turn, turnOf, handled, stop, after, dueBy, delivered, mostEvents, dividerOf}
+use Rattle.machine.specs.Deliver.{Run, turn, turnOf, handled, stop, afterTurn, dueBy, delivered, mostEvents, dividerOf}
 use Rattle.machine.specs.Call.{Call, setUp, clockTree, enable, clearPending, ask, lend, pinSetting, outsideDrive, pinReset, writing, resetting, delivery, Outcome}
 use Rattle.machine.specs.Step.{step, changesOf, followed, timerReset, deliveredTo, written, clockOn, cfgOf}
 use Rattle.machine.specs.Refusals.{refusals}

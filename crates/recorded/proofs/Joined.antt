@@ -133,4 +133,4 @@ pub by-bookless : (c : Call) → lent c ≡ 0 → (r : Answer) (w w₁ : List �
 unfolding boardAfter run joined
 by-bookless c z r w w₁ x x₁ a =
     let e : step (view w x) c .entries ≡ [] = empty (step (view w x) c .entries) (omega (arith, entries-fit (view w x) c .places)) in
-    record { board = a .board; book = rw e (record { count = refl; pins = refl; levels = refl; cycles = refl }) }
+    record { board = a .board; book = rw e (record { count = refl; pins = refl; levels = refl; cycles = refl; sources = refl }) }

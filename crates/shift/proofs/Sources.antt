@@ -6,7 +6,7 @@ use Prim.Native.Nat.{ℕ, zero, suc, _+_, _-_, _<_}
 use lib.Dec.{eqb, ltb}
 use Rattle.book.specs.Book.{Entry}
 use Rattle.book.specs.Level.{levelAt, highs}
-use Rattle.shift.specs.Shift.{Shift, unsourced, levelBefore, levelIn, highIn, isEdge, edges, Figures, figures, figuresAt, lastCycle, highPins, cycleBefore, astray, outOfOrder, numberOf, Reports}
+use Rattle.shift.specs.Shift.{Shift, unsourced, levelBefore, levelIn, highIn, isEdge, edges, Figures, figures, figuresAt, lastCycle, highPins, cycleBefore, misplaced, outOfOrder, numberOf, Reports}
 
 abbrev bare : List Entry → List Entry
 bare es = map unsourced es
@@ -56,7 +56,7 @@ unfolding outOfOrder
 order-bare before [] = refl
 order-bare before (e ∷ es) =
     ap (λ (n : ℕ). (ltb 127 (e .pin) || (ltb 1 (e .level) || ltb (e .cycle) n)) || outOfOrder (bare before ++ (unsourced e ∷ [])) (bare es)) (before-bare (e .pin) before 0)
-    ∙ ap (λ (b : Bool). astray before e || b) (ap (λ (l : List Entry). outOfOrder l (bare es)) (bare-last before e) ∙ order-bare (before ++ (e ∷ [])) es)
+    ∙ ap (λ (b : Bool). misplaced before e || b) (ap (λ (l : List Entry). outOfOrder l (bare es)) (bare-last before e) ∙ order-bare (before ++ (e ∷ [])) es)
 
 pub number-bare : (s : Shift) (es : List Entry) → numberOf s (bare es) ≡ numberOf s es
 unfolding numberOf

@@ -53,35 +53,36 @@ same-length-4 : tie.Need-same-length-4 Inv-loop μ-loop
 same-length-4 c = c .before .before .before .before .before .loop .inv .4
 
 same-length-5 : tie.Need-same-length-5 Inv-loop μ-loop
-same-length-5 c = c .loop .inv .5
+same-length-5 c = c .before .before .before .before .before .loop .inv .5
 
 returns : tie.Need-returns Inv-loop μ-loop
-returns c = room-ends (c .before .before .before .before .before .before .before .before .before .before .before .before .before .before .before .args .calls .now) _ _ _ _ _ _ _ _ _ (c .before .before .before .before .before .before .room .ensures) (stopped _ _ _ _ _ _ _ _ _ _ (c .before .before .before .before .before .loop .inv .0) _ _ (c .before .before .before .len-of .ensures) (c .before .before .places-of .ensures) _ (c .before .stops .ensures) (c .if1 .taken)) (c .before .before .before .before .before .loop .inv .0 .words) (c .before .before .before .before .before .loop .inv .0 .places)
+returns c = room-ends (c .before .before .before .before .before .before .before .before .before .before .before .before .before .before .before .before .before .args .calls .now) _ _ _ _ _ _ _ _ _ (c .before .before .before .before .before .before .room .ensures) (stopped _ _ _ _ _ _ _ _ _ _ (c .before .before .before .before .before .loop .inv .0) _ _ (c .before .before .before .len-of .ensures) (c .before .before .places-of .ensures) _ (c .before .stops .ensures) (c .if1 .taken)) (c .before .before .before .before .before .loop .inv .0 .words) (c .before .before .before .before .before .loop .inv .0 .places)
 
 add-end : tie.Need-add-end Inv-loop μ-loop
-add-end c = omega (arith, c .before .before .before .before .before .before .before .before .before .before .before .before .before .before .before .good, c .before .before .before .before .before .loop .inv .0 .few, c .before .before .before .before .before .loop .inv .0 .within, c .before .before .before .before .before .loop .inv .0 .words, c .before .before .before .before .before .loop .inv .0 .places, c .before .before .before .before .before .loop .inv .1, c .before .before .before .before .before .loop .inv .2, c .before .before .before .before .before .loop .inv .3, c .before .before .before .before .before .loop .inv .4, c .before .before .before .before .before .loop .inv .5, next-free _ _ _ _ _ _ _ _ _ _ (c .before .before .before .before .before .loop .inv .0) _ _ (c .before .before .before .len-of .ensures) (c .before .before .places-of .ensures) _ (c .before .stops .ensures) (c .if1 .left) .fits, c .before .before .before .before .before .before .room .ensures)
+add-end c = omega (arith, c .before .before .before .before .before .before .before .before .before .before .before .before .before .before .before .before .before .good, c .before .before .before .before .before .loop .inv .0 .few, c .before .before .before .before .before .loop .inv .0 .within, c .before .before .before .before .before .loop .inv .0 .words, c .before .before .before .before .before .loop .inv .0 .places, c .before .before .before .before .before .loop .inv .1, c .before .before .before .before .before .loop .inv .2, c .before .before .before .before .before .loop .inv .3, c .before .before .before .before .before .loop .inv .4, c .before .before .before .before .before .loop .inv .5, next-free _ _ _ _ _ _ _ _ _ _ (c .before .before .before .before .before .loop .inv .0) _ _ (c .before .before .before .len-of .ensures) (c .before .before .places-of .ensures) _ (c .before .stops .ensures) (c .if1 .left) .fits, c .before .before .before .before .before .before .room .ensures)
 
 perform-call-requires : tie.Need-perform-call-requires Inv-loop μ-loop
-perform-call-requires c κs = (next-size _ _ _ _ _ _ _ _ _ _ (c .before .before .before .before .before .before .before .before .before .before .before .loop .inv .0) _ _ (c .before .before .before .before .before .before .before .before .before .len-of .ensures) (c .before .before .before .before .before .before .before .before .places-of .ensures) _ (c .before .before .before .before .before .before .before .stops .ensures) (c .before .before .before .before .before .before .if1 .left), (omega (arith, c .before .before .before .before .before .before .before .before .before .before .before .loop .inv .0 .few, c .before .before .before .before .before .before .before .before .before .before .before .loop .inv .0 .within, c .before .before .before .before .before .before .before .before .before .before .before .loop .inv .0 .words, c .before .before .before .before .before .before .before .before .before .before .before .loop .inv .0 .places, c .before .before .before .before .before .before .before .before .before .before .before .loop .inv .1, c .before .before .before .before .before .before .before .before .before .before .before .loop .inv .2, c .before .before .before .before .before .before .before .before .before .before .before .loop .inv .3, c .before .before .before .before .before .before .before .before .before .before .before .loop .inv .4, c .before .before .before .before .before .before .before .before .before .before .before .loop .inv .5, next-free _ _ _ _ _ _ _ _ _ _ (c .before .before .before .before .before .before .before .before .before .before .before .loop .inv .0) _ _ (c .before .before .before .before .before .before .before .before .before .len-of .ensures) (c .before .before .before .before .before .before .before .before .places-of .ensures) _ (c .before .before .before .before .before .before .before .stops .ensures) (c .before .before .before .before .before .before .if1 .left) .three), (omega (arith, c .before .before .before .before .before .before .before .before .places-of .ensures), (omega (arith, c .before .before .before .before .before .before .before .before .before .before .before .loop .inv .0 .few, c .before .before .before .before .before .before .before .before .before .before .before .loop .inv .0 .within, c .before .before .before .before .before .before .before .before .before .before .before .loop .inv .0 .words, c .before .before .before .before .before .before .before .before .before .before .before .loop .inv .0 .places, c .before .before .before .before .before .before .before .before .before .before .before .loop .inv .1, c .before .before .before .before .before .before .before .before .before .before .before .loop .inv .2, c .before .before .before .before .before .before .before .before .before .before .before .loop .inv .3, c .before .before .before .before .before .before .before .before .before .before .before .loop .inv .4, c .before .before .before .before .before .before .before .before .before .before .before .loop .inv .5, next-free _ _ _ _ _ _ _ _ _ _ (c .before .before .before .before .before .before .before .before .before .before .before .loop .inv .0) _ _ (c .before .before .before .before .before .before .before .before .before .len-of .ensures) (c .before .before .before .before .before .before .before .before .places-of .ensures) _ (c .before .before .before .before .before .before .before .stops .ensures) (c .before .before .before .before .before .before .if1 .left) .fits, c .before .before .before .before .before .before .before .before .before .before .before .before .room .ensures), omega (arith, c .before .before .before .before .before .before .before .before .before .before .before .loop .inv .0 .few, c .before .before .before .before .before .before .before .before .before .before .before .loop .inv .0 .within, c .before .before .before .before .before .before .before .before .before .before .before .loop .inv .0 .words, c .before .before .before .before .before .before .before .before .before .before .before .loop .inv .0 .places, c .before .before .before .before .before .before .before .before .before .before .before .loop .inv .1, c .before .before .before .before .before .before .before .before .before .before .before .loop .inv .2, c .before .before .before .before .before .before .before .before .before .before .before .loop .inv .3, c .before .before .before .before .before .before .before .before .before .before .before .loop .inv .4, c .before .before .before .before .before .before .before .before .before .before .before .loop .inv .5, next-free _ _ _ _ _ _ _ _ _ _ (c .before .before .before .before .before .before .before .before .before .before .before .loop .inv .0) _ _ (c .before .before .before .before .before .before .before .before .before .len-of .ensures) (c .before .before .before .before .before .before .before .before .places-of .ensures) _ (c .before .before .before .before .before .before .before .stops .ensures) (c .before .before .before .before .before .before .if1 .left) .fits, c .before .before .before .before .before .before .before .before .before .before .before .before .room .ensures), omega (arith, c .before .before .before .before .before .before .before .before .before .before .before .loop .inv .0 .few, c .before .before .before .before .before .before .before .before .before .before .before .loop .inv .0 .within, c .before .before .before .before .before .before .before .before .before .before .before .loop .inv .0 .words, c .before .before .before .before .before .before .before .before .before .before .before .loop .inv .0 .places, c .before .before .before .before .before .before .before .before .before .before .before .loop .inv .1, c .before .before .before .before .before .before .before .before .before .before .before .loop .inv .2, c .before .before .before .before .before .before .before .before .before .before .before .loop .inv .3, c .before .before .before .before .before .before .before .before .before .before .before .loop .inv .4, c .before .before .before .before .before .before .before .before .before .before .before .loop .inv .5, next-free _ _ _ _ _ _ _ _ _ _ (c .before .before .before .before .before .before .before .before .before .before .before .loop .inv .0) _ _ (c .before .before .before .before .before .before .before .before .before .len-of .ensures) (c .before .before .before .before .before .before .before .before .places-of .ensures) _ (c .before .before .before .before .before .before .before .stops .ensures) (c .before .before .before .before .before .before .if1 .left) .fits, c .before .before .before .before .before .before .before .before .before .before .before .before .room .ensures), omega (arith, c .before .before .before .before .before .before .before .before .before .before .before .loop .inv .0 .few, c .before .before .before .before .before .before .before .before .before .before .before .loop .inv .0 .within, c .before .before .before .before .before .before .before .before .before .before .before .loop .inv .0 .words, c .before .before .before .before .before .before .before .before .before .before .before .loop .inv .0 .places, c .before .before .before .before .before .before .before .before .before .before .before .loop .inv .1, c .before .before .before .before .before .before .before .before .before .before .before .loop .inv .2, c .before .before .before .before .before .before .before .before .before .before .before .loop .inv .3, c .before .before .before .before .before .before .before .before .before .before .before .loop .inv .4, c .before .before .before .before .before .before .before .before .before .before .before .loop .inv .5, next-free _ _ _ _ _ _ _ _ _ _ (c .before .before .before .before .before .before .before .before .before .before .before .loop .inv .0) _ _ (c .before .before .before .before .before .before .before .before .before .len-of .ensures) (c .before .before .before .before .before .before .before .before .places-of .ensures) _ (c .before .before .before .before .before .before .before .stops .ensures) (c .before .before .before .before .before .before .if1 .left) .fits, c .before .before .before .before .before .before .before .before .before .before .before .before .room .ensures)))))
+perform-call-requires c κs = (next-size _ _ _ _ _ _ _ _ _ _ (c .before .before .before .before .before .before .before .before .before .before .before .before .loop .inv .0) _ _ (c .before .before .before .before .before .before .before .before .before .before .len-of .ensures) (c .before .before .before .before .before .before .before .before .before .places-of .ensures) _ (c .before .before .before .before .before .before .before .before .stops .ensures) (c .before .before .before .before .before .before .before .if1 .left), (omega (arith, c .before .before .before .before .before .before .before .before .before .before .before .before .loop .inv .0 .few, c .before .before .before .before .before .before .before .before .before .before .before .before .loop .inv .0 .within, c .before .before .before .before .before .before .before .before .before .before .before .before .loop .inv .0 .words, c .before .before .before .before .before .before .before .before .before .before .before .before .loop .inv .0 .places, c .before .before .before .before .before .before .before .before .before .before .before .before .loop .inv .1, c .before .before .before .before .before .before .before .before .before .before .before .before .loop .inv .2, c .before .before .before .before .before .before .before .before .before .before .before .before .loop .inv .3, c .before .before .before .before .before .before .before .before .before .before .before .before .loop .inv .4, c .before .before .before .before .before .before .before .before .before .before .before .before .loop .inv .5, next-free _ _ _ _ _ _ _ _ _ _ (c .before .before .before .before .before .before .before .before .before .before .before .before .loop .inv .0) _ _ (c .before .before .before .before .before .before .before .before .before .before .len-of .ensures) (c .before .before .before .before .before .before .before .before .before .places-of .ensures) _ (c .before .before .before .before .before .before .before .before .stops .ensures) (c .before .before .before .before .before .before .before .if1 .left) .three), (omega (arith, c .before .before .before .before .before .before .before .before .before .places-of .ensures), (omega (arith, c .before .before .before .before .before .before .before .before .before .before .before .before .loop .inv .0 .few, c .before .before .before .before .before .before .before .before .before .before .before .before .loop .inv .0 .within, c .before .before .before .before .before .before .before .before .before .before .before .before .loop .inv .0 .words, c .before .before .before .before .before .before .before .before .before .before .before .before .loop .inv .0 .places, c .before .before .before .before .before .before .before .before .before .before .before .before .loop .inv .1, c .before .before .before .before .before .before .before .before .before .before .before .before .loop .inv .2, c .before .before .before .before .before .before .before .before .before .before .before .before .loop .inv .3, c .before .before .before .before .before .before .before .before .before .before .before .before .loop .inv .4, c .before .before .before .before .before .before .before .before .before .before .before .before .loop .inv .5, next-free _ _ _ _ _ _ _ _ _ _ (c .before .before .before .before .before .before .before .before .before .before .before .before .loop .inv .0) _ _ (c .before .before .before .before .before .before .before .before .before .before .len-of .ensures) (c .before .before .before .before .before .before .before .before .before .places-of .ensures) _ (c .before .before .before .before .before .before .before .before .stops .ensures) (c .before .before .before .before .before .before .before .if1 .left) .fits, c .before .before .before .before .before .before .before .before .before .before .before .before .before .room .ensures), omega (arith, c .before .before .before .before .before .before .before .before .before .before .before .before .loop .inv .0 .few, c .before .before .before .before .before .before .before .before .before .before .before .before .loop .inv .0 .within, c .before .before .before .before .before .before .before .before .before .before .before .before .loop .inv .0 .words, c .before .before .before .before .before .before .before .before .before .before .before .before .loop .inv .0 .places, c .before .before .before .before .before .before .before .before .before .before .before .before .loop .inv .1, c .before .before .before .before .before .before .before .before .before .before .before .before .loop .inv .2, c .before .before .before .before .before .before .before .before .before .before .before .before .loop .inv .3, c .before .before .before .before .before .before .before .before .before .before .before .before .loop .inv .4, c .before .before .before .before .before .before .before .before .before .before .before .before .loop .inv .5, next-free _ _ _ _ _ _ _ _ _ _ (c .before .before .before .before .before .before .before .before .before .before .before .before .loop .inv .0) _ _ (c .before .before .before .before .before .before .before .before .before .before .len-of .ensures) (c .before .before .before .before .before .before .before .before .before .places-of .ensures) _ (c .before .before .before .before .before .before .before .before .stops .ensures) (c .before .before .before .before .before .before .before .if1 .left) .fits, c .before .before .before .before .before .before .before .before .before .before .before .before .before .room .ensures), omega (arith, c .before .before .before .before .before .before .before .before .before .before .before .before .loop .inv .0 .few, c .before .before .before .before .before .before .before .before .before .before .before .before .loop .inv .0 .within, c .before .before .before .before .before .before .before .before .before .before .before .before .loop .inv .0 .words, c .before .before .before .before .before .before .before .before .before .before .before .before .loop .inv .0 .places, c .before .before .before .before .before .before .before .before .before .before .before .before .loop .inv .1, c .before .before .before .before .before .before .before .before .before .before .before .before .loop .inv .2, c .before .before .before .before .before .before .before .before .before .before .before .before .loop .inv .3, c .before .before .before .before .before .before .before .before .before .before .before .before .loop .inv .4, c .before .before .before .before .before .before .before .before .before .before .before .before .loop .inv .5, next-free _ _ _ _ _ _ _ _ _ _ (c .before .before .before .before .before .before .before .before .before .before .before .before .loop .inv .0) _ _ (c .before .before .before .before .before .before .before .before .before .before .len-of .ensures) (c .before .before .before .before .before .before .before .before .before .places-of .ensures) _ (c .before .before .before .before .before .before .before .before .stops .ensures) (c .before .before .before .before .before .before .before .if1 .left) .fits, c .before .before .before .before .before .before .before .before .before .before .before .before .before .room .ensures), omega (arith, c .before .before .before .before .before .before .before .before .before .before .before .before .loop .inv .0 .few, c .before .before .before .before .before .before .before .before .before .before .before .before .loop .inv .0 .within, c .before .before .before .before .before .before .before .before .before .before .before .before .loop .inv .0 .words, c .before .before .before .before .before .before .before .before .before .before .before .before .loop .inv .0 .places, c .before .before .before .before .before .before .before .before .before .before .before .before .loop .inv .1, c .before .before .before .before .before .before .before .before .before .before .before .before .loop .inv .2, c .before .before .before .before .before .before .before .before .before .before .before .before .loop .inv .3, c .before .before .before .before .before .before .before .before .before .before .before .before .loop .inv .4, c .before .before .before .before .before .before .before .before .before .before .before .before .loop .inv .5, next-free _ _ _ _ _ _ _ _ _ _ (c .before .before .before .before .before .before .before .before .before .before .before .before .loop .inv .0) _ _ (c .before .before .before .before .before .before .before .before .before .before .len-of .ensures) (c .before .before .before .before .before .before .before .before .before .places-of .ensures) _ (c .before .before .before .before .before .before .before .before .stops .ensures) (c .before .before .before .before .before .before .before .if1 .left) .fits, c .before .before .before .before .before .before .before .before .before .before .before .before .before .room .ensures)))))
 
 add-at : tie.Need-add-at Inv-loop μ-loop
-add-at c = omega (arith, c .before .before .before .before .before .before .before .before .before .before .before .before .before .before .before .before .before .before .before .before .before .before .before .before .before .before .before .before .before .before .good, next-within _ _ _ _ _ _ _ _ _ _ (c .before .before .before .before .before .before .before .before .before .before .before .before .before .before .before .before .before .before .before .before .loop .inv .0) _ _ (c .before .before .before .before .before .before .before .before .before .before .before .before .before .before .before .before .before .before .len-of .ensures) (c .before .before .before .before .before .before .before .before .before .before .before .before .before .before .before .before .before .places-of .ensures) _ (c .before .before .before .before .before .before .before .before .before .before .before .before .before .before .before .before .stops .ensures))
+add-at c = omega (arith, c .before .before .before .before .before .before .before .before .before .before .before .before .before .before .before .before .before .before .before .before .before .before .before .before .before .before .before .before .before .before .before .before .before .before .before .good, next-within _ _ _ _ _ _ _ _ _ _ (c .before .before .before .before .before .before .before .before .before .before .before .before .before .before .before .before .before .before .before .before .before .before .before .loop .inv .0) _ _ (c .before .before .before .before .before .before .before .before .before .before .before .before .before .before .before .before .before .before .before .before .before .len-of .ensures) (c .before .before .before .before .before .before .before .before .before .before .before .before .before .before .before .before .before .before .before .before .places-of .ensures) _ (c .before .before .before .before .before .before .before .before .before .before .before .before .before .before .before .before .before .before .before .stops .ensures))
 
 add-done : tie.Need-add-done Inv-loop μ-loop
-add-done c = omega (arith, c .before .before .before .before .before .before .before .before .before .before .before .before .before .before .before .before .before .before .before .before .before .before .before .before .before .before .before .before .before .before .good, c .before .before .before .before .before .before .before .before .before .before .before .before .before .before .before .before .before .before .before .before .loop .inv .0 .few, c .before .before .before .before .before .before .before .before .before .before .before .before .before .before .before .before .before .before .before .before .loop .inv .0 .within, c .before .before .before .before .before .before .before .before .before .before .before .before .before .before .before .before .before .before .before .before .loop .inv .0 .words, c .before .before .before .before .before .before .before .before .before .before .before .before .before .before .before .before .before .before .before .before .loop .inv .0 .places, c .before .before .before .before .before .before .before .before .before .before .before .before .before .before .before .before .before .before .before .before .loop .inv .1, c .before .before .before .before .before .before .before .before .before .before .before .before .before .before .before .before .before .before .before .before .loop .inv .2, c .before .before .before .before .before .before .before .before .before .before .before .before .before .before .before .before .before .before .before .before .loop .inv .3, c .before .before .before .before .before .before .before .before .before .before .before .before .before .before .before .before .before .before .before .before .loop .inv .4, c .before .before .before .before .before .before .before .before .before .before .before .before .before .before .before .before .before .before .before .before .loop .inv .5, next-free _ _ _ _ _ _ _ _ _ _ (c .before .before .before .before .before .before .before .before .before .before .before .before .before .before .before .before .before .before .before .before .loop .inv .0) _ _ (c .before .before .before .before .before .before .before .before .before .before .before .before .before .before .before .before .before .before .len-of .ensures) (c .before .before .before .before .before .before .before .before .before .before .before .before .before .before .before .before .before .places-of .ensures) _ (c .before .before .before .before .before .before .before .before .before .before .before .before .before .before .before .before .stops .ensures) (c .before .before .before .before .before .before .before .before .before .before .before .before .before .before .before .if1 .left) .some, next-within _ _ _ _ _ _ _ _ _ _ (c .before .before .before .before .before .before .before .before .before .before .before .before .before .before .before .before .before .before .before .before .loop .inv .0) _ _ (c .before .before .before .before .before .before .before .before .before .before .before .before .before .before .before .before .before .before .len-of .ensures) (c .before .before .before .before .before .before .before .before .before .before .before .before .before .before .before .before .before .places-of .ensures) _ (c .before .before .before .before .before .before .before .before .before .before .before .before .before .before .before .before .stops .ensures))
+add-done c = omega (arith, c .before .before .before .before .before .before .before .before .before .before .before .before .before .before .before .before .before .before .before .before .before .before .before .before .before .before .before .before .before .before .before .before .before .before .before .good, c .before .before .before .before .before .before .before .before .before .before .before .before .before .before .before .before .before .before .before .before .before .before .before .loop .inv .0 .few, c .before .before .before .before .before .before .before .before .before .before .before .before .before .before .before .before .before .before .before .before .before .before .before .loop .inv .0 .within, c .before .before .before .before .before .before .before .before .before .before .before .before .before .before .before .before .before .before .before .before .before .before .before .loop .inv .0 .words, c .before .before .before .before .before .before .before .before .before .before .before .before .before .before .before .before .before .before .before .before .before .before .before .loop .inv .0 .places, c .before .before .before .before .before .before .before .before .before .before .before .before .before .before .before .before .before .before .before .before .before .before .before .loop .inv .1, c .before .before .before .before .before .before .before .before .before .before .before .before .before .before .before .before .before .before .before .before .before .before .before .loop .inv .2, c .before .before .before .before .before .before .before .before .before .before .before .before .before .before .before .before .before .before .before .before .before .before .before .loop .inv .3, c .before .before .before .before .before .before .before .before .before .before .before .before .before .before .before .before .before .before .before .before .before .before .before .loop .inv .4, c .before .before .before .before .before .before .before .before .before .before .before .before .before .before .before .before .before .before .before .before .before .before .before .loop .inv .5, next-free _ _ _ _ _ _ _ _ _ _ (c .before .before .before .before .before .before .before .before .before .before .before .before .before .before .before .before .before .before .before .before .before .before .before .loop .inv .0) _ _ (c .before .before .before .before .before .before .before .before .before .before .before .before .before .before .before .before .before .before .before .before .before .len-of .ensures) (c .before .before .before .before .before .before .before .before .before .before .before .before .before .before .before .before .before .before .before .before .places-of .ensures) _ (c .before .before .before .before .before .before .before .before .before .before .before .before .before .before .before .before .before .before .before .stops .ensures) (c .before .before .before .before .before .before .before .before .before .before .before .before .before .before .before .before .before .before .if1 .left) .some, next-within _ _ _ _ _ _ _ _ _ _ (c .before .before .before .before .before .before .before .before .before .before .before .before .before .before .before .before .before .before .before .before .before .before .before .loop .inv .0) _ _ (c .before .before .before .before .before .before .before .before .before .before .before .before .before .before .before .before .before .before .before .before .before .len-of .ensures) (c .before .before .before .before .before .before .before .before .before .before .before .before .before .before .before .before .before .before .before .before .places-of .ensures) _ (c .before .before .before .before .before .before .before .before .before .before .before .before .before .before .before .before .before .before .before .stops .ensures))
 
 add-entries : tie.Need-add-entries Inv-loop μ-loop
-add-entries c = omega (arith, c .before .before .before .before .before .before .before .before .before .before .before .before .before .before .before .before .before .before .before .before .before .before .before .before .before .before .before .before .before .before .good, next-fits _ _ _ _ _ _ _ _ _ _ (c .before .before .before .before .before .before .before .before .before .before .before .before .before .before .before .before .before .before .before .before .loop .inv .0) _ _ (c .before .before .before .before .before .before .before .before .before .before .before .before .before .before .before .before .before .before .len-of .ensures) (c .before .before .before .before .before .before .before .before .before .before .before .before .before .before .before .before .before .places-of .ensures) _ (c .before .before .before .before .before .before .before .before .before .before .before .before .before .before .before .before .stops .ensures) _ (c .before .before .before .before .before .before .before .before .before .before .before .before .before .before .before .if1 .left) (c .before .before .before .before .before .before .before .before .perform-call .ensures .0), c .before .before .before .before .before .before .before .before .before .before .before .before .before .before .before .before .before .before .before .before .before .room .ensures)
+add-entries c = omega (arith, c .before .before .before .before .before .before .before .before .before .before .before .before .before .before .before .before .before .before .before .before .before .before .before .before .before .before .before .before .before .before .before .before .before .before .before .good, next-fits _ _ _ _ _ _ _ _ _ _ (c .before .before .before .before .before .before .before .before .before .before .before .before .before .before .before .before .before .before .before .before .before .before .before .loop .inv .0) _ _ (c .before .before .before .before .before .before .before .before .before .before .before .before .before .before .before .before .before .before .before .before .before .len-of .ensures) (c .before .before .before .before .before .before .before .before .before .before .before .before .before .before .before .before .before .before .before .before .places-of .ensures) _ (c .before .before .before .before .before .before .before .before .before .before .before .before .before .before .before .before .before .before .before .stops .ensures) _ (c .before .before .before .before .before .before .before .before .before .before .before .before .before .before .before .before .before .before .if1 .left) (c .before .before .before .before .before .before .before .before .before .before .perform-call .ensures .0), c .before .before .before .before .before .before .before .before .before .before .before .before .before .before .before .before .before .before .before .before .before .before .before .before .room .ensures)
 
 loop-less : tie.Need-loop-less Inv-loop μ-loop
-loop-less c = omega (arith, next-free _ _ _ _ _ _ _ _ _ _ (c .before .before .before .before .before .before .before .before .before .before .before .before .before .before .before .before .before .before .before .before .loop .inv .0) _ _ (c .before .before .before .before .before .before .before .before .before .before .before .before .before .before .before .before .before .before .len-of .ensures) (c .before .before .before .before .before .before .before .before .before .before .before .before .before .before .before .before .before .places-of .ensures) _ (c .before .before .before .before .before .before .before .before .before .before .before .before .before .before .before .before .stops .ensures) (c .before .before .before .before .before .before .before .before .before .before .before .before .before .before .before .if1 .left) .some, next-within _ _ _ _ _ _ _ _ _ _ (c .before .before .before .before .before .before .before .before .before .before .before .before .before .before .before .before .before .before .before .before .loop .inv .0) _ _ (c .before .before .before .before .before .before .before .before .before .before .before .before .before .before .before .before .before .before .len-of .ensures) (c .before .before .before .before .before .before .before .before .before .before .before .before .before .before .before .before .before .places-of .ensures) _ (c .before .before .before .before .before .before .before .before .before .before .before .before .before .before .before .before .stops .ensures))
+loop-less c = omega (arith, next-free _ _ _ _ _ _ _ _ _ _ (c .before .before .before .before .before .before .before .before .before .before .before .before .before .before .before .before .before .before .before .before .before .before .before .loop .inv .0) _ _ (c .before .before .before .before .before .before .before .before .before .before .before .before .before .before .before .before .before .before .before .before .before .len-of .ensures) (c .before .before .before .before .before .before .before .before .before .before .before .before .before .before .before .before .before .before .before .before .places-of .ensures) _ (c .before .before .before .before .before .before .before .before .before .before .before .before .before .before .before .before .before .before .before .stops .ensures) (c .before .before .before .before .before .before .before .before .before .before .before .before .before .before .before .before .before .before .if1 .left) .some, next-within _ _ _ _ _ _ _ _ _ _ (c .before .before .before .before .before .before .before .before .before .before .before .before .before .before .before .before .before .before .before .before .before .before .before .loop .inv .0) _ _ (c .before .before .before .before .before .before .before .before .before .before .before .before .before .before .before .before .before .before .before .before .before .len-of .ensures) (c .before .before .before .before .before .before .before .before .before .before .before .before .before .before .before .before .before .before .before .before .places-of .ensures) _ (c .before .before .before .before .before .before .before .before .before .before .before .before .before .before .before .before .before .before .before .stops .ensures))
 
 loop-again : tie.Need-loop-again Inv-loop μ-loop
-loop-again c = (goes-on _ _ _ _ _ _ _ _ _ _ (c .before .before .before .before .before .before .before .before .before .before .before .before .before .before .before .before .before .before .before .before .loop .inv .0) _ _ (c .before .before .before .before .before .before .before .before .before .before .before .before .before .before .before .before .before .before .len-of .ensures) (c .before .before .before .before .before .before .before .before .before .before .before .before .before .before .before .before .before .places-of .ensures) _ (c .before .before .before .before .before .before .before .before .before .before .before .before .before .before .before .before .stops .ensures) (c .before .before .before .before .before .before .before .before .before .before .before .before .before .before .before .if1 .left) _ _ _ (c .before .before .before .before .before .before .before .before .perform-call .ensures .1), omega (arith, c .before .before .before .before .before .before .before .before .perform-call .kept, c .before .before .before .before .before .before .before .before .before .before .before .before .before .before .before .before .before .before .before .before .loop .inv .1), omega (arith, c .before .before .before .before .before .before .before .before .perform-call .kept, c .before .before .before .before .before .before .before .before .before .before .before .before .before .before .before .before .before .before .before .before .loop .inv .2), omega (arith, c .before .before .before .before .before .before .before .before .perform-call .kept, c .before .before .before .before .before .before .before .before .before .before .before .before .before .before .before .before .before .before .before .before .loop .inv .3), omega (arith, c .before .before .before .before .before .before .before .before .perform-call .kept, c .before .before .before .before .before .before .before .before .before .before .before .before .before .before .before .before .before .before .before .before .loop .inv .4), omega (arith, c .before .before .before .before .before .before .before .before .perform-call .kept, c .before .before .before .before .before .before .before .before .before .before .before .before .before .before .before .before .before .before .before .before .loop .inv .5))
+loop-again c = (goes-on _ _ _ _ _ _ _ _ _ _ (c .before .before .before .before .before .before .before .before .before .before .before .before .before .before .before .before .before .before .before .before .before .before .before .loop .inv .0) _ _ (c .before .before .before .before .before .before .before .before .before .before .before .before .before .before .before .before .before .before .before .before .before .len-of .ensures) (c .before .before .before .before .before .before .before .before .before .before .before .before .before .before .before .before .before .before .before .before .places-of .ensures) _ (c .before .before .before .before .before .before .before .before .before .before .before .before .before .before .before .before .before .before .before .stops .ensures) (c .before .before .before .before .before .before .before .before .before .before .before .before .before .before .before .before .before .before .if1 .left) _ _ _ (c .before .before .before .before .before .before .before .before .before .before .perform-call .ensures .1), omega (arith, c .before .before .before .before .before .before .before .before .before .before .perform-call .kept, c .before .before .before .before .before .before .before .before .before .before .before .before .before .before .before .before .before .before .before .before .before .before .before .loop .inv .1), omega (arith, c .before .before .before .before .before .before .before .before .before .before .perform-call .kept, c .before .before .before .before .before .before .before .before .before .before .before .before .before .before .before .before .before .before .before .before .before .before .before .loop .inv .2), omega (arith, c .before .before .before .before .before .before .before .before .before .before .perform-call .kept, c .before .before .before .before .before .before .before .before .before .before .before .before .before .before .before .before .before .before .before .before .before .before .before .loop .inv .3), omega (arith, c .before .before .before .before .before .before .before .before .before .before .perform-call .kept, c .before .before .before .before .before .before .before .before .before .before .before .before .before .before .before .before .before .before .before .before .before .before .before .loop .inv .4), omega (arith, c .before .before .before .before .before .before .before .before .before .before .perform-call .kept, c .before .before .before .before .before .before .before .before .before .before .before .before .before .before .before .before .before .before .before .before .before .before .before .loop .inv .5))
 
 pub run-calls-spec : {M : Type 1} → statement M
 run-calls-spec =
     tie.close
     (tie.spec Inv-loop μ-loop (λ c κs. search needs) loop-holds (λ c. search needs) sub-rest part-rest-start part-rest-end
-    (λ c κs. search needs) (λ c κs. search needs) mul-i sub-stops sub-stops-2 (λ c κs. search needs) same-length same-length-2
-    same-length-3 same-length-4 returns add-end perform-call-requires add-at add-done add-entries loop-less loop-again)
+    (λ c κs. search needs) (λ c κs. search needs) mul-i sub-stops sub-stops-2 (λ c κs. search needs) same-length
+    same-length-2 same-length-3 same-length-4 same-length-5 returns add-end perform-call-requires add-at add-done
+    add-entries loop-less loop-again)

@@ -21,31 +21,31 @@ returns-5 : tie.Need-returns-5
 returns-5 c = search needs
 
 slice-aggregate-run : tie.Need-slice-aggregate-run
-slice-aggregate-run c = sym (length-take-le _ _ (c .before .before .before .before .before .before .if1 .left))
+slice-aggregate-run c = sym (length-take-le _ _ (c .before .before .before .before .before .before .before .if1 .left))
 
 slice-relend-prefix-run : tie.Need-slice-relend-prefix-run
 slice-relend-prefix-run c = search needs
 
 slice-aggregate-run-2 : tie.Need-slice-aggregate-run-2
-slice-aggregate-run-2 c = sym (length-take-le _ _ (c .before .before .before .before .before .before .if2 .left))
+slice-aggregate-run-2 c = sym (length-take-le _ _ (c .before .before .before .before .before .before .before .if2 .left))
 
 slice-relend-prefix-run-2 : tie.Need-slice-relend-prefix-run-2
 slice-relend-prefix-run-2 c = search needs
 
 slice-aggregate-run-3 : tie.Need-slice-aggregate-run-3
-slice-aggregate-run-3 c = sym (length-take-le _ _ (c .before .before .before .before .before .before .if3 .left))
+slice-aggregate-run-3 c = sym (length-take-le _ _ (c .before .before .before .before .before .before .before .if3 .left))
 
 slice-relend-prefix-run-3 : tie.Need-slice-relend-prefix-run-3
 slice-relend-prefix-run-3 c = search needs
 
 slice-aggregate-run-4 : tie.Need-slice-aggregate-run-4
-slice-aggregate-run-4 c = sym (length-take-le _ _ (c .before .before .before .before .before .before .if4 .left))
+slice-aggregate-run-4 c = sym (length-take-le _ _ (c .before .before .before .before .before .before .before .if4 .left))
 
 slice-relend-prefix-run-4 : tie.Need-slice-relend-prefix-run-4
 slice-relend-prefix-run-4 c = search needs
 
 slice-aggregate-run-5 : tie.Need-slice-aggregate-run-5
-slice-aggregate-run-5 c = sym (length-take-le _ _ (c .if5 .left))
+slice-aggregate-run-5 c = sym (length-take-le _ _ (c .before .before .before .before .before .before .before .if5 .left))
 
 run-requires : tie.Need-run-requires
 run-requires c κs = search needs
@@ -68,20 +68,7 @@ returns-6 c = search needs
 pub lend-spec : {M : Type 1} → statement M
 lend-spec =
     tie.close
-    (tie.spec
-    returns
-    returns-2
-    returns-3
-    returns-4
-    slice-aggregate-run
-    slice-relend-prefix-run
-    slice-aggregate-run-2
-    slice-relend-prefix-run-2
-    slice-aggregate-run-3
-    slice-relend-prefix-run-3
-    slice-aggregate-run-4
-    run-requires
-    same-length
-    same-length-2
-    same-length-3
-    returns-5)
+    (tie.spec returns returns-2 returns-3 returns-4 returns-5 slice-aggregate-run slice-relend-prefix-run
+    slice-aggregate-run-2 slice-relend-prefix-run-2 slice-aggregate-run-3 slice-relend-prefix-run-3 slice-aggregate-run-4
+    slice-relend-prefix-run-4 slice-aggregate-run-5 run-requires same-length same-length-2 same-length-3 same-length-4
+    returns-6)
