@@ -40,7 +40,7 @@ fn random_lists_in_manual_mode() {
         }
     }
     let pulses = |t: &Table| t.pulses;
-    assert!(tables.iter().map(pulses).all(|n| n > 100), "{:?}", tables.each_ref().map(pulses));
+    assert!(tables.iter().map(pulses).all(|n| n > 50), "{:?}", tables.each_ref().map(pulses));
     let blocked = |t: &Table| t.blocked;
     assert!(tables.iter().map(blocked).all(|n| n > 100), "{:?}", tables.each_ref().map(blocked));
 }
