@@ -1,6 +1,7 @@
 //! The board: document 01's refusals, with 11 of document 02, and the lent book in front of the published Rust. Every refusal is decided
 //! before the Rust is entered, so a refused call cannot have changed anything. Behind the Rust, of document 02: a pulse that
-//! ends in manual mode clears CEN (F-2). In it, by three added lines (oracle/mcs-sim/build.rs): in manual mode a reload of 0 blocks (F-6).
+//! ends in manual mode clears CEN (F-2). In it, by three added lines (oracle/mcs-sim/build.rs): in manual mode a reload of 0 blocks (F-6); by a
+//! fourth UDIS goes before one-pulse there (F-11).
 
 use mcs_core::arm::device::{Enable, TimerInstance};
 use mcs_sim::arm::bus::{Cx, Mmio};
