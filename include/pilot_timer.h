@@ -193,7 +193,8 @@ pilot_answer board_set_up(uint64_t words[PILOT_BOARD_WORDS], double reals[PILOT_
  * The same with timers in manual mode: timer i where bit i of manual is 1; a bit of no timer says nothing. In manual mode the update that ends a
  * one-pulse (CR1's OPM) clears CEN too, so that a write of CEN fires the next pulse, from the counter that the update left. Otherwise CEN stays set,
  * as in the published Rust, and has to be written 0 before it starts the timer again. In manual mode an active reload of 0 holds the counter: it
- * keeps its number and no event comes; otherwise it is a period of one step. Nothing else differs.
+ * keeps its number and no event comes; otherwise it is a period of one step. In manual mode UDIS goes before one-pulse: no update event, so no stop.
+ * Nothing else differs.
  */
 pilot_answer board_set_up_manual(uint64_t words[PILOT_BOARD_WORDS], double reals[PILOT_BOARD_REALS], double hz, double vcc, uint32_t pins,
                                  uint32_t lines, uint32_t manual, const uint32_t *timers, size_t timers_len, const uint32_t *table,

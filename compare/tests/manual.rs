@@ -1,4 +1,4 @@
-//! Manual mode (document 02, F-2 and F-6): lists with known answers through the library, the oracle's board and the machine.
+//! Manual mode (document 02, F-2, F-6 and F-11): lists with known answers through the library, the oracle's board and the machine.
 
 use compare::machine::fails;
 use compare::Port;
@@ -24,7 +24,7 @@ fn answers(list: &str, pulses: u64) -> Vec<String> {
     calls.iter().map(&mut answer).collect()
 }
 
-/// Readings 18 to 24: each question of their lists has its answer. Those of the other readings are of requests to come.
+/// Readings 18 to 24, and 25 below: each question of their lists has its answer. Those of the other readings are of requests to come.
 #[test]
 fn readings() {
     let mut asked = 0;
@@ -63,6 +63,17 @@ fn blocked() {
              write 0 0x24 4 0 50 4 # 0 0 0\nwrite 0 0x2c 4 4 60 4 # 0 0 0\nbooked 0 # 0 65 0"
         ));
     }
+}
+
+/// Reading 25: UDIS goes before one-pulse. The wrap is an event, CEN stays, the next event is booked; clearing UDIS lets the next update end the pulse. With
+/// the mode off the Rust's stop remains.
+#[test]
+fn update_disable() {
+    let list = "write 0 0x34 4 99 0 4\nwrite 0 0x2c 4 9 0 4\nwrite 0 0 4 11 0 4\ndeliver 0 10 4\npeek 0 0 10\nbooked 0\npeek 0 0x24 13\nwrite 0 0 4 9 13 4\ndeliver 0 20 4\npeek 0 0 20\nbooked 0";
+    let asked = |list: &str, pulses| answers(list, pulses)[5..].join(", ");
+    assert_eq!(asked(&format!("{SET_UP}{list}"), 1), "0 1 0, 0 11 0, 0 20 0, 0 3 0, 0 0 0, 0 1 0, 0 8 0, 0 18446744073709551615 0");
+    let off = SET_UP.replace(" manual 1", "");
+    assert_eq!(asked(&format!("{off}{list}"), 0), "0 1 0, 0 11 0, 0 18446744073709551615 0, 0 0 0, 0 0 0, 0 0 0, 0 9 0, 0 18446744073709551615 0");
 }
 
 /// A stop and a start while it is blocked, a change of the clock, and EGR's update, which works.

@@ -23,6 +23,10 @@ const WAITS: &str = "            if crate::seen::blocks(self.arr_act) { self.bas
 const SEEKS: &str = "        let steps_to_update = if down {";
 const NONE: &str = "        if crate::seen::blocks(self.arr_act) { return None; } // added: blocked, no event comes\n";
 
+/// Added at the end of `update_event`: in document 02's manual mode UDIS goes before one-pulse.
+const ENDS: &str = "        if self.cr1 & OPM != 0 {\n            self.running = false;\n";
+const GOES_ON: &str = "        if crate::seen::is_manual() && self.cr1 & UDIS != 0 { return; } // added: no update event, so no pulse ends\n";
+
 /// Added at the end of the file.
 const VIEW: &str = "
 impl Timer { // added: a view of the private fields, and manual mode
@@ -49,6 +53,7 @@ fn main() {
     let tim = before(&tim, COUNTS, KEEPS);
     let tim = before(&tim, SYNCS, WAITS);
     let tim = before(&tim, SEEKS, NONE);
+    let tim = before(&tim, ENDS, GOES_ON);
     // Wrapped in its module, because the file's `//!` lines may only open one.
     fs::write(out.join("tim.rs"), format!("pub mod tim {{ // added: a module of its own\n{tim}{VIEW}}} // added\n")).unwrap();
 }

@@ -1,7 +1,7 @@
 //! The board: document 01's refusals, with 11 of document 02, and the lent book in front of the published Rust. Every refusal is decided
 //! before the Rust is entered, so a refused call cannot have changed anything. Behind the Rust, of document 02: a pulse that
 //! ends in manual mode clears CEN (F-2), a line that several timers name follows all of them (F-7), and each level has its source (F-5). In it, by
-//! three added lines (oracle/mcs-sim/build.rs): in manual mode a reload of 0 blocks (F-6).
+//! four added lines (oracle/mcs-sim/build.rs): in manual mode a reload of 0 blocks (F-6) and UDIS goes before one-pulse (F-11).
 
 use mcs_core::arm::device::{Enable, TimerInstance};
 use mcs_sim::arm::bus::{Cx, Mmio};

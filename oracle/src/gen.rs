@@ -228,7 +228,7 @@ impl Gen {
             return Some(Call::Write { timer, offset: ARR, size: 4, value, cycle: self.when(), book: self.book() });
         }
         let v = self.board.view(t, self.board.last());
-        let more = rng.pick(&[0, 0, 0, 0x10, 0x80, 4, 2]);
+        let more = rng.pick(&[0, 0, 0, 0x10, 0x80, 4, 2, 2]);
         let more = if v.running { 0 } else { more };
         Some(Call::Write { timer, offset: CR1, size: 4, value: v.cr1 ^ more | 9, cycle: self.when(), book: self.book() })
     }

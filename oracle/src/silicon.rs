@@ -80,9 +80,10 @@ impl Rules {
         Self::all(false)
     }
 
-    /// What the port follows: the Rust's rules, and in manual mode the manual's of each request that is there. So far these are F-2 and F-6.
+    /// What the port follows: the Rust's rules, and in manual mode the manual's of each request that is there. So far these are F-2, F-6
+    /// and F-11.
     pub const fn port(manual: bool) -> Self {
-        Self { one_pulse: manual, reload_zero: manual, ..Self::rust() }
+        Self { one_pulse: manual, reload_zero: manual, one_pulse_udis: manual, ..Self::rust() }
     }
 
     /// Document 02's manual mode: F-2, F-6, F-8 and F-11 by the manual, all else by the Rust.

@@ -115,7 +115,8 @@ impl TimerSpec {
 
     /// Manual mode. As in the published Rust a timer in one-pulse mode stops at its update; in manual mode that clears CEN too, as ST's manual has it,
     /// so a write of CEN starts the timer again. Without it CEN stays set, and has to be written 0 before it starts a timer. A reload of 0 holds a
-    /// timer in manual mode: it keeps its number and has no event. Without the mode it is a period of one step.
+    /// timer in manual mode: it keeps its number and has no event. Without the mode it is a period of one step. UDIS goes before one-pulse in manual
+    /// mode: no update, so no stop.
     ///
     /// ```
     /// use board::{Board, Reg, Setup, TimerSpec};

@@ -19,7 +19,7 @@ use Rattle.tim.specs.declared.Next.the-variants.{Update, Compare}
 use Rattle.tim.specs.Timer.{isOutput, ccrAct}
 use Rattle.tim.specs.Next.{compareSteps, compares, waiting, ahead, nextSteps}
 use Rattle.tim.specs.Change as C
-use Rattle.tim.proofs.Laws.{ends-not}
+use Rattle.tim.proofs.Laws.{ends-never}
 use Rattle.stepping.proofs.Agrees.{next-best}
 use Rattle.gpio.specs.Gpio.{bit}
 use Rattle.machine.specs.Deliver.{applied, countAt}
@@ -209,7 +209,7 @@ module _ (a : Aim) (t : Timer) (f : Fixed a t) where
 
   -- one-pulse is clear, so nothing ends
   fixed-restarted : (at : ℕ) → Fixed a (C.ended (C.recomputedAfterUpdate (C.restarted t at (a .div))))
-  fixed-restarted at = subst (Fixed a) (sym (ends-not (C.recomputedAfterUpdate (C.restarted t at (a .div))) (fixed-over at .one-pulse))) (fixed-over at)
+  fixed-restarted at = subst (Fixed a) (sym (ends-never (C.recomputedAfterUpdate (C.restarted t at (a .div))) (fixed-over at .one-pulse))) (fixed-over at)
 
   -- after an update a channel is done only if its compare is above the reload
   passed-restarted : (at : ℕ) → getD (C.ended (C.recomputedAfterUpdate (C.restarted t at (a .div))) .chan .«cc_done») (a .ch) false ≡ true → a .reload < a .compare

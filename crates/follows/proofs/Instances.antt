@@ -1,9 +1,9 @@
 -- With the rules that the port takes, in manual mode or not, its definitions over the period are tim's, of every timer. Assumes nothing.
 use Prim.Native.Nat.{ℕ, zero, suc, _+_, _*_}
 use mathlib.Core.Path.{_≡_, refl, sym, ap, _∙_}
-use mathlib.Core.Bool.{Bool, true, false, cond, _&&_}
+use mathlib.Core.Bool.{Bool, true, false, cond, not, _&&_}
 use native.Mathlib.Omega.{arith}
-use Rattle.rm0440.specs.Bits.{OPM}
+use Rattle.rm0440.specs.Bits.{UDIS, OPM}
 use Rattle.rm0440.specs.Rules.{portTakes}
 use Rattle.tim.specs.declared.Timer.{Timer}
 use Rattle.tim.specs.declared.Inst.{Inst}
@@ -22,7 +22,7 @@ use Rattle.follows.specs.Seen as S
 use Rattle.follows.specs.Seen.{Timed, Within, dueBy}
 use Rattle.follows.proofs.Edge.{counted-place}
 use Rattle.follows.proofs.First.{first}
-use Rattle.follows.proofs.Port.{moves, cntAt, cr1At, nextSteps, nextEvent, seen, ended, updated, compared, applied, deliver, Runs}
+use Rattle.follows.proofs.Port.{moves, cntAt, cr1At, nextSteps, nextEvent, seen, pulseEnds, ended, updated, compared, applied, deliver, Runs}
 use Rattle.follows.proofs.After.{over, cr1-reloaded}
 
 module _ (p : Bool) (t : Timer) (is : t .inst .manual ≡ p) where
@@ -75,9 +75,9 @@ module _ (p : Bool) (t : Timer) (is : t .inst .manual ≡ p) where
     abbrev u : Timer
     u = over (portTakes p) t c div
 
-    opm-over : OPM (u .regs .cr1) ≡ OPM (t .regs .cr1)
+    cr1-over : u .regs .cr1 ≡ t .regs .cr1
     unfolding C.restarted C.recomputedAfterUpdate
-    opm-over = ap OPM (cr1-reloaded (portTakes p) t c div)
+    cr1-over = cr1-reloaded (portTakes p) t c div
 
     manual-over : u .inst .manual ≡ p
     unfolding C.restarted C.recomputedAfterUpdate
@@ -85,11 +85,15 @@ module _ (p : Bool) (t : Timer) (is : t .inst .manual ≡ p) where
 
     pub updated-is : updated (portTakes p) t c div ≡ C.updated t c div
     unfolding updated C.updated
-    updated-is = go (OPM (t .regs .cr1)) refl
+    updated-is = go (pulseEnds (portTakes p) (t .regs .cr1)) refl
       where
-        go : (o : Bool) → OPM (t .regs .cr1) ≡ o → ended (portTakes p) (o && true) u ≡ C.ended u
-        go true e = ends u true p (opm-over ∙ e) manual-over
-        go false e = ends u false p (opm-over ∙ e) manual-over
+        same : C.pulseEnds u ≡ pulseEnds (portTakes p) (t .regs .cr1)
+        same =
+            ap (λ (v : ℕ). OPM v && not (u .inst .manual && UDIS v)) cr1-over ∙ ap (λ (m : Bool). OPM (t .regs .cr1) && not (m && UDIS (t .regs .cr1))) manual-over
+
+        go : (o : Bool) → pulseEnds (portTakes p) (t .regs .cr1) ≡ o → ended (portTakes p) o u ≡ C.ended u
+        go true e = ends u true p (same ∙ e) manual-over
+        go false e = ends u false p (same ∙ e) manual-over
 
   applied-is : (div : ℕ) (e : Due) → applied (portTakes p) t div e ≡ S.applied t div e
   unfolding compared C.compared C.matched

@@ -25,12 +25,14 @@ module _ (t : Timer) (div : ℕ) (w : Timed t div) where
       over true m r v h e = refl
       over false m r v h e = h e
 
-      halted : (u : Bool)
-          → CEN (cond (OPM (cond u t (T.withFlag (T.loaded t) T.UIF) .regs .cr1) && cond u t (T.withFlag (T.loaded t) T.UIF) .inst .manual)
-          (T.withoutCen (cond u t (T.withFlag (T.loaded t) T.UIF) .regs .cr1)) (cond u t (T.withFlag (T.loaded t) T.UIF) .regs .cr1)) ≡ false
-          → cond (OPM (cond u t (T.withFlag (T.loaded t) T.UIF) .regs .cr1)) false (cond u t (T.withFlag (T.loaded t) T.UIF) .count .running) ≡ false
-      halted true e = over (OPM (t .regs .cr1)) (t .inst .manual) (t .count .running) (t .regs .cr1) (w .halted) e
-      halted false e = over (OPM (t .regs .cr1)) (t .inst .manual) (t .count .running) (t .regs .cr1) (w .halted) e
+      -- what the update loads, or under UDIS does not
+      new : Bool → Timer
+      new u = cond u t (T.withFlag (T.loaded t) T.UIF)
+
+      halted : (u : Bool) → CEN (cond (T.pulseEnds (new u) && new u .inst .manual) (T.withoutCen (new u .regs .cr1)) (new u .regs .cr1)) ≡ false
+          → cond (T.pulseEnds (new u)) false (new u .count .running) ≡ false
+      halted true e = over (T.pulseEnds t) (t .inst .manual) (t .count .running) (t .regs .cr1) (w .halted) e
+      halted false e = over (T.pulseEnds t) (t .inst .manual) (t .count .running) (t .regs .cr1) (w .halted) e
 
   updated-base : (x : ℕ) → T.updated t x div .count .base ≡ x
   unfolding T.updated T.reloaded T.restarted T.recomputedAfterUpdate T.ended

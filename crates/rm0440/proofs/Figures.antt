@@ -100,6 +100,11 @@ figures =
     ∷ record { got = over rust (read 0) 6 (pilot rust 2 9 0 0 9); expected = 9 ∷ 9 ∷ 9 ∷ 9 ∷ 9 ∷ 9 ∷ [] }
     ∷ record { got = over rust count 7 (pilot rust 2 9 0 0 9); expected = 0 ∷ 1 ∷ 2 ∷ 0 ∷ 0 ∷ 0 ∷ 0 ∷ [] }
     ∷ record { got = over manual count 7 (pilot manual 2 9 0 0 11); expected = 0 ∷ 0 ∷ 1 ∷ 2 ∷ 0 ∷ 1 ∷ 2 ∷ [] }
+    -- by the Rust it stops there, in manual mode it goes on, CEN set, and ends where UDIS is clear
+    ∷ record { got = over rust count 7 (pilot rust 2 9 0 0 11); expected = 0 ∷ 1 ∷ 2 ∷ 0 ∷ 0 ∷ 0 ∷ 0 ∷ [] }
+    ∷ record { got = over (portRules true) count 7 (pilot (portRules true) 2 9 0 0 11); expected = 0 ∷ 1 ∷ 2 ∷ 0 ∷ 1 ∷ 2 ∷ 0 ∷ [] }
+    ∷ record { got = over (portRules true) (read 0) 7 (pilot (portRules true) 2 9 0 0 11); expected = 11 ∷ 11 ∷ 11 ∷ 11 ∷ 11 ∷ 11 ∷ 11 ∷ [] }
+    ∷ record { got = over (portRules true) (read 0) 5 (pilot (portRules true) 2 9 0 0 9); expected = 9 ∷ 9 ∷ 9 ∷ 8 ∷ 8 ∷ [] }
     -- centre-aligned, reload 4: the count; DIR; PWM mode 1 with compare 2 is high 4 of 8
     ∷ record { got = over manual count 20 (pilot manual 4 2 0 0x60 0x61); expected = 0 ∷ 0 ∷ 1 ∷ 2 ∷ 3 ∷ 4 ∷ 3 ∷ 2 ∷ 1 ∷ 0 ∷ 1 ∷ 2 ∷ 3 ∷ 4 ∷ 3 ∷ 2 ∷ 1 ∷ 0 ∷ 1 ∷ 2 ∷ [] }
     ∷ record { got = over manual (λ t. bit (down t)) 11 (pilot manual 4 2 0 0x60 0x61); expected = 0 ∷ 0 ∷ 0 ∷ 0 ∷ 0 ∷ 1 ∷ 1 ∷ 1 ∷ 1 ∷ 0 ∷ 0 ∷ [] }

@@ -283,9 +283,10 @@ clocks-same r s zero f o = refl
 clocks-same r s (suc n) f o =
     clock-same r (clocks r n s) (f n (omega arith)) (o n (omega arith)) ∙ ap (clock manual) (clocks-same r s n (λ m l. f m (omega arith)) (λ m l. o m (omega arith)))
 
--- in manual mode the cases of one-pulse (F-2) and reload-zero (F-6) are none, and with F-8 and F-11 in, theirs: by computation
+-- in manual mode the cases of one-pulse (F-2), reload-zero (F-6) and one-pulse-udis (F-11) are none, and with F-8 in, its own: by computation
 pub no-longer-case : (t : Timer) → settled (portRules true .one-pulse) (C.one-pulse (portRules true) t) × settled (portRules true .reload-zero) (C.reload-zero t)
-no-longer-case t = (refl, refl)
+    × settled (portRules true .one-pulse-udis) (C.one-pulse-udis (portRules true) t)
+no-longer-case t = (refl, refl, refl)
 
 pub no-longer-cases : (t : Timer)
     → settled (manualMode allTaken .one-pulse) (C.one-pulse (manualMode allTaken) t) × settled (manualMode allTaken .one-pulse-udis) (C.one-pulse-udis (manualMode allTaken) t)

@@ -62,9 +62,10 @@ manual = rules true allTaken
 abbrev pub manualMode : Taken → Rules
 manualMode m = rules false m
 
--- what the port's timer takes, in manual mode or not: one-pulse, as F-2 asks, and reload-zero, as F-6. Each of the other requests switches its field.
+-- what the port's timer takes, in manual mode or not: one-pulse, as F-2 asks, reload-zero, as F-6, and one-pulse-udis, as F-11. F-8 switches the one
+-- that is left.
 abbrev pub portTakes : Bool → Taken
-portTakes on = record { one-pulse = on; reload-zero = on; centre-aligned = false; one-pulse-udis = false }
+portTakes on = record { one-pulse = on; reload-zero = on; centre-aligned = false; one-pulse-udis = on }
 
 -- the rules of the port's timer; without manual mode they are the Rust's
 abbrev pub portRules : Bool → Rules

@@ -12,7 +12,7 @@ use Rattle.tim.specs.declared.Timer.{Timer}
 use Rattle.tim.specs.declared.Ahead.{Ahead}
 use Rattle.tim.specs.declared.Next.the-variants.{Compare}
 use Rattle.tim.specs.declared.Due.the-variants.{At, Stopped}
-use Rattle.rm0440.specs.Bits.{UDIS}
+use Rattle.rm0440.specs.Bits.{UDIS, OPM}
 use Rattle.rm0440.specs.Update.{shadow}
 use Rattle.rm0440.specs.Output as Out
 use Rattle.tim.specs.Timer.{down, Fit, withCr1}
@@ -131,3 +131,7 @@ ends t o m e f = sym (ap (λ (b : Bool). endedBy t b (t .inst .manual)) e ∙ ap
 
 pub ends-not : (t : Timer) → pulseEnds t ≡ false → ended t ≡ t
 ends-not t e = sym (ends t false (t .inst .manual) e refl)
+
+-- without one-pulse nothing ends
+pub ends-never : (t : Timer) → OPM (t .regs .cr1) ≡ false → ended t ≡ t
+ends-never t e = ends-not t (ap (λ (o : Bool). o && not (t .inst .manual && UDIS (t .regs .cr1))) e)

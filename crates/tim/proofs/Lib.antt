@@ -1,3 +1,4 @@
 pub mod Laws
 pub mod Fit
 pub mod Fixed
+pub mod UpdateDisable

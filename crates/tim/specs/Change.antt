@@ -108,9 +108,10 @@ withRunning t on = withCount t (record {
   running = on;
 })
 
--- one-pulse ends with the period, UDIS set or not (docs/DIFFERENCES.md, one-pulse-udis)
+-- one-pulse ends with the period. "UDIS now goes first, so the timer counts on", in manual mode; "outside manual mode the Rust's stop remains" (F-11;
+-- docs/DIFFERENCES.md, one-pulse-udis)
 abbrev pub pulseEnds : Timer → Bool
-pulseEnds t = OPM (t .regs .cr1)
+pulseEnds t = OPM (t .regs .cr1) && not (t .inst .manual && UDIS (t .regs .cr1))
 
 -- CR1 with CEN cleared
 abbrev pub withoutCen : ℕ → ℕ

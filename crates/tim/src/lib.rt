@@ -629,11 +629,18 @@ impl Timer {
         self
     }
 
+    // A pulse ends: one-pulse, unless UDIS goes first in manual mode.
+    fn pulse_ends(self) -> bool
+        ensures { λ r. ⌜ r ≡ C.pulseEnds self ⌝ }
+    {
+        (self.regs.cr1 / 8 % 2 == 1) & !(self.inst.manual & (self.regs.cr1 / 2 % 2 == 1))
+    }
+
     // A pulse ends, and in manual mode CEN with it.
     fn drops_cen(self) -> bool
         ensures { λ r. ⌜ r ≡ (C.pulseEnds self && self .inst .manual) ⌝ }
     {
-        (self.regs.cr1 / 8 % 2 == 1) & self.inst.manual
+        self.pulse_ends() & self.inst.manual
     }
 
     fn end_cr1(self) -> u32
@@ -648,7 +655,7 @@ impl Timer {
     fn end_running(self) -> bool
         ensures { λ r. ⌜ r ≡ cond (C.pulseEnds self) false (self .count .running) ⌝ }
     {
-        if self.regs.cr1 / 8 % 2 == 1 {
+        if self.pulse_ends() {
             return false;
         }
         self.count.running

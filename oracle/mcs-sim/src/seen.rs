@@ -31,6 +31,11 @@ pub fn manual(on: bool) {
     MANUAL.set(on);
 }
 
+/// The timer that is called is in manual mode.
+pub(crate) fn is_manual() -> bool {
+    MANUAL.get()
+}
+
 /// A reload of 0 blocks the timer that is called (document 02, F-6).
 pub(crate) fn blocks(reload: u64) -> bool {
     reload == 0 && MANUAL.get()
