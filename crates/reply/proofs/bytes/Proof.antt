@@ -24,5 +24,5 @@ returns c = tt
 pub bytes-spec : {M : Type 1} → statement M
 bytes-spec =
     tie.close
-    (tie.spec Inv-loop μ-loop (λ c κs. search needs) (λ c κs. search needs) loop-holds (λ c. search needs) (λ c. search needs) (λ c κs. search needs)
+    (tie.spec Inv-loop μ-loop (λ c κs. search needs) (λ c κs. search needs) loop-holds (λ c. search needs) (λ c κs. search needs)
     (λ c. omega arith) (λ c. omega arith) loop-again (λ c κs. search needs) (λ c κs. search needs) returns)
