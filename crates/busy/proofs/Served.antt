@@ -15,7 +15,7 @@ use Rattle.machine.proofs.Reach.{sound-after}
 use Rattle.machine.proofs.LineLaws.{Wished, wished-after}
 use Rattle.accuracy.specs.Claim.{joined}
 use Rattle.state.specs.View.{view}
-use Rattle.recorded.specs.Recorded.{entriesFrom}
+use Rattle.book.specs.Level.{entriesFrom}
 use Rattle.recorded.proofs.Joined.{entries-held}
 use Rattle.busy.specs.Busy.{Visit, visits, Answered, events, Same, Busy, pieces}
 use Rattle.busy.specs.Served.{Served, Meets, Serves, booksOf, valuesOf, SameServed}

@@ -12,7 +12,7 @@ use Rattle.machine.specs.Step.{step, boardAfter}
 use Rattle.state.specs.View.{view}
 use Rattle.answer.specs.declared.Answer.{Answer}
 use Rattle.answer.specs.Promise.{Answers}
-use Rattle.recorded.specs.Recorded.{entriesFrom}
+use Rattle.book.specs.Level.{entriesFrom}
 
 -- a run: its cycle, what the arrays and the book held when it came and when it returned, its answer
 pub record Served : Type 0 where
