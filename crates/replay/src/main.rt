@@ -143,15 +143,17 @@ fn pilot(n: u32, k: u32, out: &mut [u8; OUT], used: usize) -> usize {
     reply::numbers(out, used, &answer, &setting)
 }
 
+fn joined(low: u32, high: u32) -> u64 {
+    4294967296 * high as u64 + low as u64
+}
+
 // The number of 64 bits at place i of a call that has no others.
 fn wide(call: &[u32; ENCODED], i: usize) -> u64 {
     if 9 <= i {
         return 0;
     }
     let at = 1 + 2 * i;
-    let high = call[at + 1];
-    let low = call[at];
-    4294967296 * high as u64 + low as u64
+    joined(call[at], call[at + 1])
 }
 
 // Writes the record of the call's timer to the first n places.
@@ -216,7 +218,7 @@ fn take(call: &[u32; ENCODED], bytes: &mut [u8; BYTES], n: usize) {
 }
 
 // Reads the first n bytes, by the reader of kind 1 alone or by the other.
-fn load(bytes: &[u8], n: usize, kind_1: bool) -> Read {
+fn load_part(bytes: &[u8], n: usize, kind_1: bool) -> Read {
     if bytes.len() < n {
         return settings::record_read(bytes);
     }
@@ -224,6 +226,10 @@ fn load(bytes: &[u8], n: usize, kind_1: bool) -> Read {
         return settings::record_read_kind_1(&bytes[..n]);
     }
     settings::record_read(&bytes[..n])
+}
+
+fn load(bytes: &[u8; BYTES], n: usize, kind_1: bool) -> Read {
+    load_part(bytes, n, kind_1)
 }
 
 // The readers of records: the bytes are the call's words behind its number.
