@@ -1,8 +1,9 @@
 -- What driving leaves, over any board: each step's equation in, the definition's board out. Assumes nothing.
 use mathlib.Core.Path.{_≡_, refl, ap, subst, _∙_}
-use mathlib.Core.Bool.{Bool, false, cond}
+use mathlib.Core.Bool.{Bool, true, false, cond}
 use Prim.Native.Nat.{ℕ, _+_, _≤_, _<_}
 use native.Mathlib.Omega.{arith}
+use lib.Dec.{lit≤}
 use borrow.Author.Tests.{lt-ltb, le-ltb, lt-leb, le-leb}
 use Rattle.tim.specs.declared.Timer.{Timer}
 use Rattle.tim.specs.Change.{output}
@@ -48,6 +49,10 @@ pub channel-same : (b : Board) (channels ch s k : ℕ) (l : Bool) → ch < chann
     → Moves (levelDriven channels ch s l (b .pads)) b b (changeOf 0)
 unfolding changeOf
 channel-same b channels ch s k l h e q = channel-drives b b channels ch s k l _ h q (sig-same b s k e)
+
+pub bit-small : (l : Bool) → bit l ≤ 1
+bit-small true = lit≤ tt
+bit-small false = lit≤ tt
 
 -- a signal's number that a call gave
 at-signal : (b b₁ : Board) (channels ch s s₁ : ℕ) (l : Bool) (r : Change) → s ≡ s₁

@@ -1,8 +1,10 @@
 // A timer's outputs over the lent state (tim.rs, drive_outputs): its channels' signals at their levels, and the changes into a book.
 use state::REALS;
 use state::WORDS;
+ghost use mathlib.Core.Path.{_≡_};
 ghost use Prim.Native.Nat.{_+_, _<_, _≤_};
 ghost use lib.ListN.{length};
+ghost use Rattle.gpio.specs.Gpio as G;
 ghost use Rattle.gpio.specs.Gpio.{changeOf};
 ghost use Rattle.state.specs.View.{view};
 ghost use Rattle.book.specs.Book.{book, slices, Room};
@@ -11,8 +13,15 @@ ghost use Rattle.machine.specs.Sys as S;
 ghost use Rattle.sys.specs.Moves.{Moves};
 ghost use Rattle.outputs.specs.Outputs.{Driven, levelDriven, DrivenTwo};
 
+fn bit(b: bool) -> u8
+    ensures { λ r. ⌜ r ≡ G.bit b ⌝ }
+{
+    if b { 1 } else { 0 }
+}
+
 // Signal s, of channel ch, at a level, if the timer has that channel. The change as a number. A signal that has its level is looked at
-// here, where this is compiled into the caller; what moves one is called.
+// here, where this is compiled into the caller; what moves one is called, at one place for both levels: with two, `drive_two` is too
+// large to be compiled into its callers.
 pub fn drive_channel(
     words: &mut [u64; WORDS],
     reals: &mut [f64; REALS],
@@ -27,17 +36,12 @@ pub fn drive_channel(
     if ch >= channels {
         return 0;
     }
+    let want = bit(level);
     let was = state::sig_level(words, s);
-    if level {
-        if was == 1 {
-            return 0;
-        }
-        return sys::move_signal(words, reals, s, 1);
-    }
-    if was == 0 {
+    if was == want {
         return 0;
     }
-    sys::move_signal(words, reals, s, 0)
+    sys::move_signal(words, reals, s, want)
 }
 
 // Drives two of a timer's channels, ch and the next, whose signals are s and s + 1, and writes their level changes at a cycle from
