@@ -95,6 +95,11 @@ pub counter-read : (t : Timer) (offset cycle c : ℕ) → register offset ≡ 0x
 unfolding R.regRead laneRead
 counter-read t offset cycle c h e = e ∙ ap (λ (q : ℕ). R.regRead t q cycle) (sym h)
 
+-- and by way of its lane
+pub counter-lane : (t : Timer) (cycle : ℕ) → laneRead (R.regRead t (register 0x24) cycle) 0x24 4 ≡ cntAt t cycle
+unfolding R.regRead laneRead
+counter-lane t cycle = refl
+
 module _ (w : List ℕ) (x : List Float) (timer offset cycle num : ℕ) (r : Answer) (h : num ≡ barred timer 4 (view w x) cycle) where
   peek-first : num ≡ first (refusals (view w x) (peek timer offset cycle))
   unfolding first refusals

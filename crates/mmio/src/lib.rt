@@ -31,12 +31,15 @@ fn value_of(words: &[u64; WORDS], i: usize, off: u32, cycle: u64) -> u32
     regs::read_reg(t, off, cycle)
 }
 
-// Timer i's counter at a cycle.
+// Timer i's counter at a cycle. A reload of 0, which may block it, goes the general way: where it is above 0 the test for the block is gone.
 pub fn count_of(words: &[u64; WORDS], i: usize, cycle: u64) -> u32
     requires { ⌜ (i < 8) × (cycle < 9223372036854775808) ⌝ }
     ensures { λ r. ⌜ ((x : List Float) → r ≡ cntAt (timerAt (view (now (words .entry)) x) i) cycle) ⌝ }
 {
     let t = state::load_timer(words, i);
+    if t.count.arr_act == 0 {
+        return lane_of(words, i, 0x24, 4, cycle);
+    }
     t.cnt_at(cycle)
 }
 

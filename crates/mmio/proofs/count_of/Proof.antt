@@ -1,5 +1,5 @@
 -- The timer loaded, and its counter.
-use Rattle.mmio.proofs.Laws.{loaded-fit}
+use Rattle.mmio.proofs.Laws.{loaded-fit, counter-lane}
 use mathlib.Core.Path.{ap, _∙_}
 use mathlib.Core.List.{[]}
 use native.Mathlib.Omega.{arith}
@@ -9,13 +9,16 @@ use borrow.Author.Needs.{needs}
 use Rattle.mmio.proofs.count_of.Statement.{statement}
 use Rattle.mmio.proofs.count_of.Tie as tie
 
+returns : tie.Need-returns
+returns c = λ x. c .lane-of .ensures x ∙ counter-lane _ (c .before .before .before .before .args .cycle)
+
 cnt-at-requires : tie.Need-cnt-at-requires
 cnt-at-requires c κs =
-    let s = c .before in (loaded-fit (s .args .words .now) [] (s .args .i) _ (c .load-timer .ensures []), omega (arith, s .pre .1))
+    let s = c .before .before .before in (loaded-fit (s .args .words .now) [] (s .args .i) _ (c .before .before .load-timer .ensures []), omega (arith, s .pre .1))
 
-returns : tie.Need-returns
-returns c =
-    λ x. c .cnt-at .ensures ∙ ap (λ (t : Timer). cntAt t (c .before .before .args .cycle)) (c .before .load-timer .ensures x)
+returns-2 : tie.Need-returns-2
+returns-2 c =
+    λ x. c .cnt-at .ensures ∙ ap (λ (t : Timer). cntAt t (c .before .before .before .before .args .cycle)) (c .before .before .before .load-timer .ensures x)
 
 pub count-of-spec : {M : Type 1} → statement M
-count-of-spec = tie.close (tie.spec (λ c κs. search needs) cnt-at-requires returns)
+count-of-spec = tie.close (tie.spec (λ c κs. search needs) (λ c κs. search needs) returns cnt-at-requires returns-2)
