@@ -76,7 +76,7 @@ fn feeder(words: &[u64; WORDS], s: u32) -> usize
 }
 
 // The next event and its steps. It and `due_of` are tim's own, written out here as in crate `delivery`: so tim's has one caller, and is compiled
-// into `context::rebook`. Called from here too, a write of CCR1 takes a seventh more instructions.
+// into `context::rebook`. Called from here too, a write of CCR1 takes an eighth more instructions.
 fn first_of(t: Timer) -> Ahead
     ensures { λ r. ⌜ r ≡ nextSteps t ⌝ }
 {
