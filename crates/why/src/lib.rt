@@ -4,8 +4,10 @@ use gpio::Gpio;
 use gpio::PinCfg;
 use state::REALS;
 use state::WORDS;
+use tim::Ahead;
 use tim::Due;
 use tim::Inst;
+use tim::Next;
 use tim::Timer;
 ghost use mathlib.Core.Path.{_≡_};
 ghost use mathlib.Core.Bool.{true};
@@ -14,7 +16,7 @@ ghost use Prim.Native.Nat.{_<_};
 ghost use lib.Dec.{eqb, ltb};
 ghost use lib.Ieee.{Float};
 ghost use Rattle.tim.specs.Timer.{Fit};
-ghost use Rattle.tim.specs.Next.{nextEvent};
+ghost use Rattle.tim.specs.Next.{nextSteps, nextEvent};
 ghost use Rattle.machine.specs.Board.{timerAt, routeOf, levelOf};
 ghost use Rattle.machine.specs.Deliver.{dueBy};
 ghost use Rattle.machine.specs.Call as C;
@@ -73,12 +75,48 @@ fn feeder(words: &[u64; WORDS], s: u32) -> usize
     n
 }
 
+// The next event and its steps. It and `due_of` are tim's own, written out here as in crate `delivery`: so tim's has one caller, and is compiled
+// into `context::rebook`. Called from here too, a write of CCR1 takes an eighth more instructions.
+fn first_of(t: Timer) -> Ahead
+    ensures { λ r. ⌜ r ≡ nextSteps t ⌝ }
+{
+    let update = Ahead {
+        steps: t.update_steps(),
+        next: Next::Update,
+    };
+    if t.down() {
+        let a = t.consider_down(0, update);
+        let b = t.consider_down(1, a);
+        let c = t.consider_down(2, b);
+        return t.consider_down(3, c);
+    }
+    let a = t.consider_up(0, update);
+    let b = t.consider_up(1, a);
+    let c = t.consider_up(2, b);
+    t.consider_up(3, c)
+}
+
+fn due_of(t: Timer) -> Due
+    requires { ⌜ Fit t ⌝ }
+    ensures { λ r. ⌜ r ≡ nextEvent t ⌝ }
+{
+    if !t.counts() {
+        return Due::Stopped;
+    }
+    let first = first_of(t);
+    let next = first.next;
+    Due::At(
+        t.count.base + tim::cycles_of(first.steps, t.count.tick),
+        next,
+    )
+}
+
 // An event of the timer is due at or before a cycle.
 fn is_due(t: Timer, cycle: u64) -> bool
     requires { ⌜ Fit t ⌝ }
     ensures { λ r. ⌜ r ≡ dueBy (nextEvent t) cycle ⌝ }
 {
-    let due = t.next_event();
+    let due = due_of(t);
     match due {
         Due::At(at, _) => at <= cycle,
         Due::Stopped => false,
