@@ -64,14 +64,14 @@ fn every_error_is_given() {
 
 #[test]
 fn every_number_has_its_words() {
-    let words = ["served", "wrong board", "no such post", "odd plug", "bad clock", "clock astray", "book full", "counter astray", "backlog", "shift reversed", "book out of order", "socket taken", "too wide"];
+    let words = ["served", "wrong board", "no such post", "odd plug", "bad clock", "clock astray", "book full", "counter astray", "backlog", "shift reversed", "book out of order", "socket taken", "too wide", "cut short", "strange kind", "wrong length"];
     for (number, words) in (0..).zip(words) {
         assert_eq!(board::word(number), Some(words));
         assert_eq!(board::is_refusal(number), number != 0 && number != 8);
     }
-    assert_eq!(board::word(13), None);
-    let e = Error::Other(13);
-    assert_eq!((e.number(), e.to_string().as_str(), e.is_refusal()), (13, "refused with 13", true));
+    assert_eq!(board::word(16), None);
+    let e = Error::Other(16);
+    assert_eq!((e.number(), e.to_string().as_str(), e.is_refusal()), (16, "refused with 16", true));
 }
 
 #[test]

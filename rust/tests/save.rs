@@ -124,7 +124,7 @@ fn older_boards_keep_their_lines() {
 /// `VERSION` in src/save.rs. Put the new sum here.
 #[test]
 fn layout_is_that_of_the_version() {
-    assert_eq!(sum(&busy().save()), 15976424792214805100);
+    assert_eq!(sum(&busy().save()), 17531236090584759671);
 }
 
 /// A board that was saved before levels had sources (document 02, F-5) had nothing above the level's bit, and its sum was the one below: its levels
