@@ -37,7 +37,7 @@ fn readings() {
             }
         }
     }
-    assert_eq!(asked, 15);
+    assert_eq!(asked, 16);
 }
 
 /// Timer 2 in manual mode, one channel, 1 cycle a step.

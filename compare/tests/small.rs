@@ -126,7 +126,8 @@ fn every_pilot(n: u32, span: u64) -> Figures {
                 let answer = both(&mut port, &mut rust, &call, &mut f);
                 assert_eq!(answer.number, 0, "{call}");
             }
-            let before = both(&mut port, &mut rust, &Call::Level { pin: 0 }, &mut f).value as u8;
+            // The query gives level + 2 × source.
+            let before = (both(&mut port, &mut rust, &Call::Level { pin: 0 }, &mut f).value % 2) as u8;
             let step = (p.prescaler as u64 + 1) * divider as u64;
             let mut entries = Vec::new();
             let mut number = 0;

@@ -260,8 +260,11 @@ impl Board {
         let channels = |s: &TimerSpec| if matches!(s.number, 2..=4) { s.channels } else { 0 };
         let mut every = self.specs.iter().enumerate().flat_map(|(t, s)| (0..channels(s)).map(move |ch| (t, ch, sig::tim(s.number as u8, ch as u8))));
         let source = every.find(|&(_, _, s)| s == signal).map(|(t, ch, _)| (t, ch));
-        if source.is_some_and(|(t, _)| self.timers[t].due().is_some_and(|at| at <= cycle)) {
-            return (BACKLOG, 0);
+        if let Some((t, _)) = source {
+            seen::manual(self.is_manual(t));
+            if self.timers[t].due().is_some_and(|at| at <= cycle) {
+                return (BACKLOG, 0);
+            }
         }
         let (cfg, shown) = (self.sys.pcfg[pin], &self.sys.pins[pin]);
         let (high, released, level) = (shown.level == 1, shown.ddoe == 1, self.sys.sig_level[signal as usize]);

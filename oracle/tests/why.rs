@@ -15,8 +15,8 @@ fn counter_side() {
         "{A}pin 0 2 0 0 0 0 1 0 4
          write 0 0x18 4 0x60 0 4
          write 0 0x20 4 1 0 4
-         write 0 0x34 4 3 0 4 # 0 0 1 0:1@0
-         write 0 0x24 4 3 0 4 # 0 0 1 0:0@0
+         write 0 0x34 4 3 0 4 # 0 0 1 0:1@0/1
+         write 0 0x24 4 3 0 4 # 0 0 1 0:0@0/1
          why 0 0 # 0 9 0
          write 0 0 4 0x10 0 4
          why 0 0 # 0 10 0"
@@ -34,7 +34,7 @@ fn lost_update() {
          write 0 0x2c 4 9 0 4
          write 0 0x34 4 3 0 4
          write 0 0 4 1 0 4
-         deliver 0 3 4 # 0 1 1 0:0@3
+         deliver 0 3 4 # 0 1 1 0:0@3/1
          why 0 9 # 0 9 0
          why 0 10 # 8 0 0
          write 0 0 4 5 11 4
@@ -79,12 +79,12 @@ fn backlog_first() {
          write 0 0x18 4 0x60 0 4
          write 0 0x20 4 1 0 4
          write 0 0x2c 4 9 0 4
-         write 0 0x34 4 3 0 4 # 0 0 1 0:1@0
+         write 0 0x34 4 3 0 4 # 0 0 1 0:1@0/1
          write 0 0 4 1 0 4
          why 0 2 # 0 0 0
          why 0 3 # 8 0 0
          booked 0 # 0 3 0
-         deliver 0 3 4 # 0 1 1 0:0@3
+         deliver 0 3 4 # 0 1 1 0:0@3/1
          why 0 3 # 0 9 0"
     ));
 }
