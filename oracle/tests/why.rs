@@ -38,7 +38,7 @@ fn lost_update() {
          why 0 9 # 0 9 0
          why 0 10 # 8 0 0
          write 0 0 4 5 11 4
-         level 0 # 0 0 0
+         level 0 # 0 2 0
          why 0 11 # 0 10 0
          deliver 0 13 4
          why 0 13 # 0 9 0"
