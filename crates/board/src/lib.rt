@@ -1,4 +1,4 @@
-// The board's calls, exported for C and Rust: the state by two thin references, the book by its three slices, which come last: so the
+// The board's calls, exported for C and Rust: the state by two thin references, the book by its four slices, which come last: so the
 // call's own numbers are passed in registers. Each answers and leaves what the machine's `step` gives, for every argument and every
 // content of the arrays.
 use answer::Answer;
