@@ -1,4 +1,5 @@
 // What a call answers, and the refusals that calls share (document 01's table), lowest number first.
+#![tactic(auto)]
 ghost use Rattle.std.specs.Prelude.{◌≡◌, List, [], ◌∷◌, Float};
 ghost use Rattle.state.specs.View.{view};
 ghost use Rattle.book.specs.Book.{places, slices};
@@ -10,7 +11,7 @@ use state::WORDS;
 
 // The value, the number and the number of entries: 16 bytes, which come back in two registers. The entries are in the lent book.
 #[repr(C)]
-#[derive(Drop)]
+#[derive(Clone, Copy)]
 pub struct Answer {
     pub value: u64,
     pub number: u32,

@@ -1,4 +1,5 @@
 // Calls as words of 32 bits (docs/CALLS.md's order): each is performed as the machine's `step` says.
+#![tactic(auto)]
 ghost use Rattle.std.specs.Prelude.{◌≡◌, ◌||◌, [], ◌∷◌, ◌+◌, ◌*◌, ◌<◌, ◌≤◌, eqb, length};
 ghost use Rattle.std.specs.Float.Ieee as Ieee;
 ghost use Rattle.std.proofs.lemmas.List.Edits.{sets};
@@ -294,7 +295,7 @@ fn perform(
 
 // How many calls were performed, and how many entries they made.
 #[repr(C)]
-#[derive(Drop)]
+#[derive(Clone, Copy)]
 pub struct Ran {
     pub calls: usize,
     pub entries: usize,

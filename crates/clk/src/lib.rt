@@ -1,4 +1,6 @@
 // Clock frequencies and bus ratios.
+#![tactic(auto)]
+
 ghost use Rattle.std.specs.Prelude.{◌≡◌};
 ghost use Rattle.clk.specs.Clk.{flat_tree, timer_div, in_range, good, differing};
 
@@ -6,7 +8,7 @@ const MAX_DIVIDER: u32 = 8192;
 
 // `ppre1` to `ppre4` are the core cycles per cycle of the buses APB1 to APB4, and `tim1` and `tim2`
 // those per cycle of the timers' clock on APB1 and APB2.
-#[derive(Drop)]
+#[derive(Clone, Copy)]
 pub struct ClockTree {
     pub sysclk_hz: f64,
     pub hclk_hz: f64,

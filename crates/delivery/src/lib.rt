@@ -1,4 +1,5 @@
 // The delivery of a timer's due events over the lent state, their level changes into the lent book (tim.rs, on_event).
+#![tactic(auto)]
 ghost use Rattle.std.specs.Prelude.{◌≡◌, cond, List, ◌+◌, ◌<◌, ◌≤◌, eqb, Float, length};
 ghost use Rattle.tim.specs.Timer.{Fit, ccr_in_use};
 ghost use Rattle.tim.specs.Next.{next_steps, next_event};
@@ -16,7 +17,7 @@ use state::{REALS, WORDS};
 use tim::{Ahead, Due, Next, Timer};
 
 // What a delivery answers: 0 or 8, the events handled, and the entries made.
-#[derive(Drop)]
+#[derive(Clone, Copy)]
 pub struct Delivered {
     pub number: u8,
     pub events: u64,
@@ -24,7 +25,7 @@ pub struct Delivered {
 }
 
 // The same, with the timer that the events leave and what is due next.
-#[derive(Drop)]
+#[derive(Clone, Copy)]
 pub struct Ran {
     pub timer: Timer,
     pub due: Due,

@@ -1,5 +1,7 @@
 // A number up to 2^32 times a number of 32 bits, by their digits of 16 bits: for a processor that multiplies 32 bits into 32 and no wider
 // (document 02, F-3). Every product is one of two numbers below 2^16; what is wider are sums and shifts.
+#![tactic(auto)]
+
 ghost use Rattle.std.specs.Prelude.{◌≡◌, ◌*◌, ◌<◌, ◌≤◌};
 
 // The product of two digits: 32 bits hold it.

@@ -1,11 +1,12 @@
 // A pin by value (sys.rs): what its configuration and its signal make it drive, and whether its level changed.
+#![tactic(auto)]
 ghost use Rattle.std.specs.Prelude.{◌≡◌, ◌<◌};
 ghost use Rattle.gpio.specs.Gpio as G;
 
 use pins::{ExtDrive, Mcu, Pin};
 
 // Electrical configuration of one pin as written by the port registers.
-#[derive(Drop)]
+#[derive(Clone, Copy)]
 pub struct PinCfg {
     // MODER: 0 input, 1 output, 2 alternate function, 3 analog.
     pub mode: u8,
@@ -17,7 +18,7 @@ pub struct PinCfg {
 
 // All that the board holds of a pin: configuration, electrical state, and the selected signal (0 = none or not in
 // alternate-function mode).
-#[derive(Drop)]
+#[derive(Clone, Copy)]
 pub struct Gpio {
     pub cfg: PinCfg,
     pub pin: Pin,
@@ -25,7 +26,7 @@ pub struct Gpio {
 }
 
 // A pin's level change, or none.
-#[derive(Drop)]
+#[derive(Clone, Copy)]
 pub enum Change {
     Same,
     // Pin, level, and the level's source.
@@ -33,7 +34,7 @@ pub enum Change {
 }
 
 // A pin after its level was resolved, and the change.
-#[derive(Drop)]
+#[derive(Clone, Copy)]
 pub struct Moved {
     pub gpio: Gpio,
     pub change: Change,

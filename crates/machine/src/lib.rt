@@ -1,1 +1,2 @@
 // The whole machine as a definition: see specs/. No code.
+#![tactic(auto)]

@@ -1,5 +1,7 @@
 // Interrupt lines (arm/nvic.rs), each a word: bit 0 is its level, bit 1 its pending flag, bits 2 to 9 what timers 0 to 7 asked for last. The level
 // follows from the wishes and is kept beside them, where words of older boards, which have no wishes, have it too.
+#![tactic(auto)]
+
 ghost use Rattle.std.specs.Prelude.{◌≡◌, ◌<◌, set};
 ghost use Rattle.nvic.specs.Nvic.{line_with, line_set, line_cleared, state_of, line_of};
 

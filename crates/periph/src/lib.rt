@@ -1,4 +1,6 @@
 // Lanes of a 32-bit register (periph/mod.rs).
+#![tactic(auto)]
+
 ghost use Rattle.std.specs.Prelude.{◌≡◌, ◌+◌, ◌^◌, ◌≤◌, ◌<◌};
 ghost use Rattle.periph.specs.Lane.{lane_read, lane_write, merged};
 

@@ -1,10 +1,12 @@
 // A pin's electrical model, and the clock's time.
+#![tactic(auto)]
+
 ghost use Rattle.std.specs.Prelude.{◌≡◌};
 ghost use Rattle.pins.specs.Pins.{blank, effective_dir, driven_level, supply_at, clamped, triggered, settled_by, with_level, sensed_from, resolved};
 ghost use Rattle.pins.specs.Clock.{new_clock, time_at, hz_set};
 
 // What the outside world connects to a pin.
-#[derive(Drop)]
+#[derive(Clone, Copy)]
 pub enum ExtDrive {
     // Nothing connected.
     Float,
@@ -15,7 +17,7 @@ pub enum ExtDrive {
 }
 
 // The MCU side of a pin.
-#[derive(Drop)]
+#[derive(Clone, Copy)]
 pub struct Mcu {
     // 1 = output.
     pub dir: u8,
@@ -31,7 +33,7 @@ pub struct Mcu {
     pub ddov: u8,
 }
 
-#[derive(Drop)]
+#[derive(Clone, Copy)]
 pub struct Pin {
     pub mcu: Mcu,
     pub ext: ExtDrive,
@@ -180,7 +182,7 @@ impl Pin {
 
 // Converts cycles to seconds across frequency changes: the frequency, and the cycle and the time at
 // which it was set.
-#[derive(Drop)]
+#[derive(Clone, Copy)]
 pub struct ClockModel {
     pub hz: f64,
     pub seg_cycle: u64,

@@ -1,4 +1,6 @@
 // Floats as document 01 speaks of them.
+#![tactic(auto)]
+
 ghost use Rattle.std.specs.Prelude.{◌≡◌};
 ghost use Rattle.real.specs.Real.{positive, bits_of, nearest_to};
 

@@ -1,4 +1,5 @@
 // The registers of a timer by value: the Rust's read_reg and write_reg of periph/tim.rs, over crate tim's timer.
+#![tactic(auto)]
 ghost use Rattle.std.specs.Prelude.{◌≡◌, ℕ, ◌<◌};
 ghost use Rattle.rm0440.specs.Registers.{kept_mask};
 ghost use Rattle.tim.specs.Timer.{Fit, Ready, with_cr1};
@@ -8,7 +9,7 @@ use tim::Timer;
 
 // What a register write leaves: the next timer, and whether the outputs are driven (at a count), the interrupt
 // line settled and the next event booked.
-#[derive(Drop)]
+#[derive(Clone, Copy)]
 pub struct Written {
     pub timer: Timer,
     pub drive: bool,

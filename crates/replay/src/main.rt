@@ -1,4 +1,5 @@
 // Answers a call list (docs/CALLS.md): standard input to standard output, from the first board.
+#![tactic(auto)]
 
 use line::{AT, ENCODED, LINE, OP, STATE, USED, WIDE, WORD};
 use reply::OUT;

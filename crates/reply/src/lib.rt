@@ -1,4 +1,5 @@
 // An answer as text, by way of a buffer that is written out when it is nearly full.
+#![tactic(auto)]
 use text::Written;
 
 pub const OUT: usize = 65536;

@@ -1,6 +1,8 @@
 // Booked events (scheduler.rs): for each owner the cycle of its event. A core by value; over it the Rust's methods behind a
 // reference, each thin; over them functions with plain parameters that make the struct in a local and lend it, so that who books
 // needs no walk.
+#![tactic(auto)]
+
 ghost use Rattle.std.specs.Prelude.{◌≡◌, ◌<◌, min};
 ghost use Rattle.scheduler.specs.Booking.{holding, empty, cycle_of, rebook, cancel, least};
 
@@ -8,7 +10,7 @@ ghost use Rattle.scheduler.specs.Booking.{holding, empty, cycle_of, rebook, canc
 pub const NEVER: u64 = 18446744073709551615;
 
 // The cycles of owners 0 to 7.
-#[derive(Drop)]
+#[derive(Clone, Copy)]
 pub struct Scheduler {
     pub cycles: [u64; 8],
 }

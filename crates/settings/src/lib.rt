@@ -1,10 +1,11 @@
 // A timer's settings as a record of bytes (document 02, F-10): a writer into lent places, a reader, and a reader of kind 1 alone.
+#![tactic(auto)]
 ghost use Rattle.std.specs.Prelude.{◌≡◌, cond, [], ◌∷◌, ◌++◌, ◌-◌, ◌%◌, ◌≤◌, ◌<◌, eqb, length, take, drop};
 ghost use Rattle.settings.specs.Record.{four, byte_at, two_at, four_at, kind_of, decode, cut_short, strange_kind, wrong_length, wrong_added, wrong_settings, good, read_number, settings_of, turned_away, read, given, Writes};
 
 // A timer's settings as set-up takes them: the bus counts from 1, manual is 1 or 0.
 #[repr(C)]
-#[derive(Drop)]
+#[derive(Clone, Copy)]
 pub struct Settings {
     pub number: u32,
     pub width: u32,
@@ -18,7 +19,7 @@ pub struct Settings {
 
 // A writer's answer: the number, and how many bytes were written.
 #[repr(C)]
-#[derive(Drop)]
+#[derive(Clone, Copy)]
 pub struct Stored {
     pub number: u32,
     pub count: u32,
@@ -26,7 +27,7 @@ pub struct Stored {
 
 // A reader's answer: the number, how many bytes the record took, and the timer.
 #[repr(C)]
-#[derive(Drop)]
+#[derive(Clone, Copy)]
 pub struct Read {
     pub number: u32,
     pub count: u32,

@@ -1,5 +1,6 @@
 // The duty report for a shift (document 02, F-1), in pieces: begin, feed a book any number of times, end. The one-shot report is begin, one
 // feed, end. What is kept between the pieces is in words that the caller lends; figures are written at the end alone.
+#![tactic(auto)]
 ghost use Rattle.std.specs.Prelude.{◌≡◌, ℕ, ◌+◌, ◌-◌, ◌<◌, ◌≤◌, max, Bool, List, [], ◌++◌, length, if◌then◌else◌, count_ones, nat_eq, nat_lt};
 ghost use Rattle.book.specs.Book.{Entry};
 ghost use Rattle.shift.specs.Shift.{piece, sourceless, Shift, shift, level_bit, entries_in, Reports};
@@ -17,7 +18,7 @@ pub const KEPT: usize = 515;
 pub const FIGURES: usize = 384;
 
 // A pin: the cycle of its last entry, its level at the end of the shift and its high cycles if no entry follows, its edges.
-#[derive(Drop)]
+#[derive(Clone, Copy)]
 pub struct Track {
     pub last: u64,
     pub level: u64,
@@ -27,7 +28,7 @@ pub struct Track {
 
 // The number, 0, 9 or 10, and how many pins are high at the end of the shift.
 #[repr(C)]
-#[derive(Drop)]
+#[derive(Clone, Copy)]
 pub struct Summary {
     pub number: u32,
     pub high: u32,

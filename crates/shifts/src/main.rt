@@ -1,5 +1,6 @@
 // The duty report for a shift (docs/CALLS.md): the line `FROM TO W0 W1 W2 W3`, then entries `PIN:LEVEL@CYCLE`, with or without `/SOURCE`, as
 // `replay` writes them: an answer's three numbers before its entries are passed over. Each entry is fed by itself, so memory stays constant.
+#![tactic(auto)]
 use reply::OUT;
 use shift::{FIGURES, KEPT};
 use text::{Number, Reading};

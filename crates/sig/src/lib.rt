@@ -1,4 +1,6 @@
 // Signal numbers (sys.rs, mod sig).
+#![tactic(auto)]
+
 ghost use Rattle.std.specs.Prelude.{◌≡◌};
 ghost use Rattle.sig.specs.Signal.{tim_signal, is_uart, is_input, idle_level};
 

@@ -1,4 +1,6 @@
 // Every small pilot (document 02, F-9): the settings up to a size n, handed out singly by their place.
+#![tactic(auto)]
+
 ghost use Rattle.std.specs.Prelude.{◌≡◌, ◌≤◌};
 ghost use Rattle.small.specs.Small.{count, given, nothing, listed};
 
@@ -7,7 +9,7 @@ pub const WIDEST: u32 = 7;
 
 // A number, 0 or 12, and a setting: down is 0 for up, 1 for down.
 #[repr(C)]
-#[derive(Drop)]
+#[derive(Clone, Copy)]
 pub struct Listed {
     pub number: u32,
     pub reload: u32,

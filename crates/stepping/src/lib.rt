@@ -1,1 +1,2 @@
 // The timer of crate tim against RM0440's stepping counter: theorems only, see specs/. No code.
+#![tactic(auto)]

@@ -1,11 +1,13 @@
 // The call list as text (docs/CALLS.md): numbers read and written digit by digit, words, and the numbers of each call.
+#![tactic(auto)]
+
 ghost use Rattle.std.specs.Prelude.{◌≡◌, ◌+◌, ◌-◌, ◌*◌, ◌≤◌, ◌<◌, length, take, drop};
 ghost use Rattle.text.specs.Numbers.{digit_of, next_of, more_of, large_of, first_of, second_of, told_of, start, value_of};
 ghost use Rattle.text.specs.Words.{is_space, same_word, call_of, field_of};
 ghost use Rattle.text.specs.Digits.{places_of, digits_of, last_digits, over, Wrote};
 
 // What a word in a number's place is.
-#[derive(Drop)]
+#[derive(Clone, Copy)]
 pub enum Number {
     Value(u64),
     NotANumber,
@@ -14,7 +16,7 @@ pub enum Number {
 
 // How far a word has been read. Steps: 0 no byte, 1 a single 0, 2 a 0x, 3 digits, 4 digits of a number that 64 bits do not
 // hold, 5 no number.
-#[derive(Drop)]
+#[derive(Clone, Copy)]
 pub struct Reading {
     pub step: u8,
     pub base: u64,
@@ -22,7 +24,7 @@ pub struct Reading {
 }
 
 // A number was written up to a place, or the room does not hold it.
-#[derive(Drop)]
+#[derive(Clone, Copy)]
 pub enum Written {
     To(usize),
     NoRoom,

@@ -1,5 +1,6 @@
 // A general-purpose timer by value: the Rust's periph/tim.rs, without its registers (crate regs). It knows nothing of
 // pins, lines or booking.
+#![tactic(auto)]
 ghost use Rattle.std.specs.Prelude.{◌≡◌, Bool, true, false, cond, ◌&&◌, ℕ, ◌+◌, ◌-◌, ◌*◌, ◌/◌, ◌%◌, ◌<◌, ◌≤◌, min, eqb, get_or, set};
 ghost use Rattle.rm0440.specs.Counter.{step_cycles, restart};
 ghost use Rattle.rm0440.specs.Output as Out;
@@ -10,7 +11,7 @@ ghost use Rattle.tim.specs.Next.{update_steps, waiting, nearer, consider, next_s
 ghost use Rattle.tim.specs.Change as C;
 
 // What set-up fixes: the timer's number, width, channel count, bus, interrupt and enable bit, and manual mode (document 02).
-#[derive(Drop)]
+#[derive(Clone, Copy)]
 pub struct Inst {
     pub n: u32,
     pub width: u32,
@@ -23,7 +24,7 @@ pub struct Inst {
 }
 
 // The registers as written.
-#[derive(Drop)]
+#[derive(Clone, Copy)]
 pub struct Regs {
     pub cr1: u32,
     pub cr2: u32,
@@ -36,7 +37,7 @@ pub struct Regs {
 }
 
 // The channels: modes, compares as written and in use, those done in this period, and the latched references.
-#[derive(Drop)]
+#[derive(Clone, Copy)]
 pub struct Chan {
     pub ccmr: [u32; 2],
     pub ccr: [u32; 4],
@@ -46,7 +47,7 @@ pub struct Chan {
 }
 
 // The counter: cnt0 at cycle base, a step every tick cycles.
-#[derive(Drop)]
+#[derive(Clone, Copy)]
 pub struct Count {
     pub psc_act: u32,
     pub arr_act: u32,
@@ -56,7 +57,7 @@ pub struct Count {
     pub running: bool,
 }
 
-#[derive(Drop)]
+#[derive(Clone, Copy)]
 pub struct Timer {
     pub inst: Inst,
     pub regs: Regs,
@@ -65,21 +66,21 @@ pub struct Timer {
 }
 
 // What the next event is.
-#[derive(Drop)]
+#[derive(Clone, Copy)]
 pub enum Next {
     Update,
     Compare(usize),
 }
 
 // How many steps ahead an event lies.
-#[derive(Drop)]
+#[derive(Clone, Copy)]
 pub struct Ahead {
     pub steps: u64,
     pub next: Next,
 }
 
 // The next event with its cycle, or none when the timer is stopped or blocked.
-#[derive(Drop)]
+#[derive(Clone, Copy)]
 pub enum Due {
     At(u64, Next),
     Stopped,

@@ -1,5 +1,7 @@
 // The writer of the lent book: it holds the slice of cycles, with the fill count. Each method is thin, over a covered function;
 // who appends calls `append`, whose parameters are plain, and needs no walk.
+#![tactic(auto)]
+
 ghost use Rattle.std.specs.Prelude.{◌≡◌, ◌<◌, ◌+◌, length, set};
 ghost use Rattle.writer.specs.Filled.{writing, filled};
 

@@ -1,0 +1,9 @@
+-- The number is split twice: its lowest digit, the next one, and what is left, at most 1.
+use borrow.Author.Rules.{rules}
+use Prim.Native.Nat.{◌/◌}
+use native.Mathlib.Omega.{arith}
+use Rattle.digits.proofs.Laws.{digits}
+use Rattle.digits.proofs.by_digit.Goals as goal
+
+pub returns : goal.returns
+returns c = record { value = omega (arith, digits c.args.n c.args.d, digits (c.args.n / 65536) c.args.d); upper_bound = omega arith }

@@ -1,0 +1,17 @@
+-- `lane_read` gives `lane_read`: one equation of the size for each return.
+use borrow.Author.Tests.{eq-eqb, ne_eqb}
+use Rattle.periph.specs.Lane.{lane_read}
+use borrow.Author.Rules.{rules}
+use Rattle.periph.proofs.lane_read.Goals as goal
+
+pub returns-then-size-eq4 : goal.returns-then-size-eq4
+unfolding lane_read
+returns-then-size-eq4 c = rw (eq-eqb _ 4 c.if-size-eq4.true)
+
+pub returns-then-size-eq2 : goal.returns-then-size-eq2
+unfolding lane_read
+returns-then-size-eq2 c = rw (ne_eqb _ 4 c.if-size-eq4.false, eq-eqb _ 2 c.if-size-eq2.true)
+
+pub returns : goal.returns
+unfolding lane_read
+returns c = rw (ne_eqb _ 4 c.if-size-eq4.false, ne_eqb _ 2 c.if-size-eq2.false)

@@ -1,0 +1,15 @@
+-- `Scheduler::least` gives `least`. The loop's invariant: `low` is the least from owner `i` on; the measure is `i`.
+use mathlib.Core.Path.{◌≡◌, sym, ap, ◌∙◌}
+use Prim.Native.Nat.{ℕ, min, ◌-◌, ◌≤◌}
+use native.Mathlib.Omega.{arith}
+use borrow.Author.Rules.{rules}
+use lib.ListN.{length, get_or, drop}
+use Rattle.scheduler.specs.Booking.{least}
+use Rattle.scheduler.proofs.Laws.{sized, least-end, least-from}
+use Rattle.scheduler.proofs.Scheduler.least.Given as goal
+
+abbrev pub invariant-loop-i : goal.invariant-loop-i
+invariant-loop-i l = (l.i ≤ 8) × ((length l.cycles ≡ 8) × (l.low ≡ least (drop l.i l.cycles)))
+
+abbrev pub decreases-loop-i : goal.decreases-loop-i
+decreases-loop-i l = l.i

@@ -1,0 +1,16 @@
+-- The digits that are left, laid over the bytes, make what the contract says.
+use Prim.Native.Nat.{◌≤◌}
+use Rattle.text.proofs.Spelled.{spell_last, spell-turn}
+use Rattle.text.specs.Digits.{last_digits, over}
+use borrow.Author.Rules.{rules}
+use lib.ListN.{length, length-set}
+use mathlib.Core.Path.{◌∙◌, ◌≡◌, refl, sym}
+use native.Mathlib.Nat.{mod-lt}
+use native.Mathlib.Omega.{arith}
+use Rattle.text.proofs.spell.Given as goal
+
+abbrev pub invariant-loop-i : goal.invariant-loop-i
+invariant-loop-i l = (l.i ≤ l.k) × (length l.out ≡ length l.initial.out) × (over (last_digits l.i l.rest) l.at l.out ≡ over (last_digits l.k l.n) l.at l.initial.out)
+
+abbrev pub decreases-loop-i : goal.decreases-loop-i
+decreases-loop-i l = l.i
