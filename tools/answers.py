@@ -199,7 +199,16 @@ def turn_body(fn, place, wrapped, body):
     return body
 
 
+NOT = re.compile(r"\(?not[-_](true|false) (_|%s(?:\.%s)*|\([^()]*\)) (c\.if-not-[^ ()]+)\)?" % (ID, ID))
+
+
 def finish(fn, goal, body):
+    # a test of `!x` says what it says of x
+    def plain(m):
+        whole = m[0]
+        return m[3] if whole.startswith("(") == whole.endswith(")") else ("(" if whole.startswith("(") else "") + m[3] + (")" if whole.endswith(")") else "")
+
+    body = NOT.sub(plain, body)
     if goal.startswith("returns"):
         return as_record(body, fn.own[1])
     m = re.match(r"(.*)-requires(-|$)", goal)

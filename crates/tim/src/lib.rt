@@ -1,6 +1,7 @@
 // A general-purpose timer by value: the Rust's periph/tim.rs, without its registers (crate regs). It knows nothing of
 // pins, lines or booking.
 #![tactic(auto)]
+
 ghost use Rattle.std.specs.Prelude.{◌≡◌, Bool, true, false, cond, ◌&&◌, ℕ, ◌+◌, ◌-◌, ◌*◌, ◌/◌, ◌%◌, ◌<◌, ◌≤◌, min, eqb, get_or, set};
 ghost use Rattle.rm0440.specs.Counter.{step_cycles, restart};
 ghost use Rattle.rm0440.specs.Output as Out;

@@ -15,17 +15,17 @@ returns-then-self-ne0-2 c =
 
 pub returns-in-Low : goal.returns-in-Low
 unfolding sensed_from
-returns-in-Low c = c.at_level.ensures ∙ sym (ap (sensed_from _ _) c.in-Low.is)
+returns-in-Low c = c.at_level.ensures ∙ sym (ap (sensed_from c.args.self c.args.vcc) c.in-Low.is)
 
 pub returns-in-High : goal.returns-in-High
 unfolding sensed_from
-returns-in-High c = c.at_level-in-High.ensures ∙ sym (ap (sensed_from _ _) c.in-High.is)
+returns-in-High c = c.at_level-in-High.ensures ∙ sym (ap (sensed_from c.args.self c.args.vcc) c.in-High.is)
 
 pub returns-in-Analog : goal.returns-in-Analog
 unfolding sensed_from
 returns-in-Analog c =
     c.at_level-in-Analog.ensures
-    ∙ rw (c.settled_by.ensures, c.trigger.ensures, c.clamp-v.ensures) (sym (ap (sensed_from _ _) c.in-Analog.is))
+    ∙ rw (c.settled_by.ensures, c.trigger.ensures, c.clamp-v.ensures) (sym (ap (sensed_from c.args.self c.args.vcc) c.in-Analog.is))
 
 pub returns-else-self-ne0-2 : goal.returns-else-self-ne0-2
 returns-else-self-ne0-2 c =

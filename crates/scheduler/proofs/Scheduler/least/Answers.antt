@@ -2,6 +2,7 @@ use mathlib.Core.Path.{◌≡◌, sym, ap, ◌∙◌}
 use Prim.Native.Nat.{ℕ, min, ◌-◌, ◌≤◌}
 use native.Mathlib.Omega.{arith}
 use borrow.Author.Rules.{rules}
+use Rattle.std.proofs.lemmas.List.{map-id}
 use lib.ListN.{length, get_or, drop}
 use Rattle.scheduler.specs.Booking.{least}
 use Rattle.scheduler.proofs.Laws.{sized, least-end, least-from}
@@ -10,7 +11,7 @@ use Rattle.scheduler.proofs.Scheduler.least.Goals as goal
 pub loop-i-init : goal.loop-i-init
 loop-i-init c =
     let m = c.args.self.cycles in
-    let e : length m ≡ 8 = sized m c.before.well_formed.0.1.1.0.1.0.1 in
+    let e : length m ≡ 8 = c.well_formed.0.1.1.0.1.0.1 in
     (omega arith, (e, sym (least-end m e)))
 
 pub overflow_sub-i : goal.overflow_sub-i

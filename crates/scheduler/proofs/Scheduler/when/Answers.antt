@@ -5,9 +5,10 @@ use lib.ListN.{length}
 use Rattle.scheduler.specs.Booking.{never}
 use Rattle.scheduler.proofs.Laws.{sized, read_at}
 use borrow.Author.Rules.{rules}
+use Rattle.std.proofs.lemmas.List.{map-id}
 use Rattle.scheduler.proofs.Scheduler.when.Goals as goal
 
 pub returns : goal.returns
 returns c =
-    let e : length c.args.self.cycles ≡ 8 = sized c.args.self.cycles c.before.well_formed.0.1.1.0.1.0.1 in
+    let e : length c.args.self.cycles ≡ 8 = c.well_formed.0.1.1.0.1.0.1 in
     read_at c.args.self.cycles c.args.owner 0 never (omega arith)

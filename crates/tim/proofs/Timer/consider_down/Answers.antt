@@ -1,0 +1,24 @@
+use Rattle.tim.proofs.Laws.{shut, opened}
+use borrow.Author.Tests.{le-leb, lt-leb, not-false, not-true}
+use mathlib.Core.Path.{◌∙◌, sym}
+use borrow.Author.Rules.{rules}
+use Rattle.tim.proofs.Timer.consider_down.Reads as reads
+use Rattle.tim.proofs.Timer.consider_down.Lts as lts
+use Rattle.tim.proofs.Timer.is_waiting.Reads as is-waiting-reads
+use Rattle.tim.proofs.nearer.Reads as nearer-reads
+use Rattle.tim.proofs.Timer.consider_down.Goals as goal
+
+-- src/lib.rt:396:13
+pub returns-then-not-is_waiting : goal.returns-then-not-is_waiting
+returns-then-not-is_waiting c =
+    sym (shut _ _ _ (sym c.is_waiting.ensures ∙ c.if-not-is_waiting.true))
+
+-- src/lib.rt:401:13
+pub returns-then-ccr-self : goal.returns-then-ccr-self
+returns-then-ccr-self c =
+    sym (opened _ _ _ (sym c.is_waiting.ensures ∙ c.if-not-is_waiting.false) ∙ rw (c.requires.1, lt-leb _ _ c.if-ccr-self.true))
+
+-- src/lib.rt:391:5
+pub returns : goal.returns
+returns c =
+    sym (opened _ _ _ (sym c.is_waiting.ensures ∙ c.if-not-is_waiting.false) ∙ rw (c.requires.1, le-leb _ _ c.if-ccr-self.false) (sym c.nearer.ensures))

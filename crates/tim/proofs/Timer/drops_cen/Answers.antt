@@ -1,0 +1,6 @@
+-- By whether a pulse ends.
+use borrow.Author.Rules.{rules}
+use Rattle.tim.proofs.Timer.drops_cen.Goals as goal
+
+pub returns : goal.returns
+returns c = rw c.pulse_ends.ensures

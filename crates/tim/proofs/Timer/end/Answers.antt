@@ -1,0 +1,8 @@
+-- Both fields.
+use Rattle.tim.specs.Change.{ended}
+use borrow.Author.Rules.{rules}
+use Rattle.tim.proofs.Timer.end.Goals as goal
+
+pub returns : goal.returns
+unfolding ended
+returns c = rw (c.end_cr1-cr1.ensures, c.end_running-running.ensures)

@@ -1,0 +1,8 @@
+-- Field by field.
+use Rattle.tim.specs.Change.{reset_state}
+use borrow.Author.Rules.{rules}
+use Rattle.tim.proofs.Timer.fresh.Goals as goal
+
+pub returns : goal.returns
+unfolding reset_state
+returns c = rw (c.max_of-top.ensures, c.step_cycles.ensures)

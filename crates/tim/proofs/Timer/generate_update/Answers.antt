@@ -1,0 +1,14 @@
+-- Load, restart, settle, flag.
+use Rattle.tim.specs.declared.Timer.{Timer}
+use Rattle.tim.specs.Change.{flagged_generated, generated, recomputed_after_update, restarted}
+use mathlib.Core.Path.{◌∙◌, ap}
+use borrow.Author.Rules.{rules}
+use native.Mathlib.Omega.{arith}
+use Rattle.tim.proofs.Timer.generate_update.Goals as goal
+
+pub restart-s-requires : goal.restart-s-requires
+restart-s-requires c = rw c.load-l.ensures (omega (arith, c.before))
+
+pub returns : goal.returns
+unfolding generated
+returns c = c.flag_generated.ensures ∙ ap (λ (t : Timer). flagged_generated t) (c.recompute_cc_done_after_update-d.ensures ∙ ap recomputed_after_update (c.restart-s.ensures ∙ ap (λ (t : Timer). restarted t c.args.now c.args.div) c.load-l.ensures))

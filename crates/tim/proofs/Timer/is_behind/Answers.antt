@@ -1,0 +1,8 @@
+-- The channel's compare in use.
+use Rattle.tim.specs.Change.{behind}
+use borrow.Author.Rules.{rules}
+use Rattle.tim.proofs.Timer.is_behind.Goals as goal
+
+pub returns : goal.returns
+unfolding behind
+returns c = c.is_past.ensures

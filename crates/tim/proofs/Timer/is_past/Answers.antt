@@ -1,0 +1,10 @@
+-- By the direction.
+use borrow.Author.Rules.{rules}
+use mathlib.Core.Path.{◌∙◌, sym}
+use Rattle.tim.proofs.Timer.is_past.Goals as goal
+
+pub returns-then-down : goal.returns-then-down
+returns-then-down c = rw (sym c.down.ensures ∙ c.if-down.true)
+
+pub returns : goal.returns
+returns c = rw (sym c.down.ensures ∙ c.if-down.false)

@@ -1,0 +1,9 @@
+-- The reference by the mode, and the flag.
+use mathlib.Core.Path.{◌∙◌}
+use Rattle.tim.specs.Change.{matched}
+use borrow.Author.Rules.{rules}
+use Rattle.tim.proofs.Timer.matched.Goals as goal
+
+pub returns : goal.returns
+unfolding matched
+returns c = c.with_flag.ensures ∙ rw (c.cc_flag.ensures, c.at_match-latched.ensures, c.oc_mode-mode.ensures)

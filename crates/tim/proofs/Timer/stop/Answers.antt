@@ -1,0 +1,11 @@
+-- Synced, and not running.
+use Rattle.tim.specs.declared.Timer.{Timer}
+use Rattle.tim.specs.Change.{stopped, with_running}
+use mathlib.Core.Bool.{false}
+use mathlib.Core.Path.{◌∙◌, ap}
+use borrow.Author.Rules.{rules}
+use Rattle.tim.proofs.Timer.stop.Goals as goal
+
+pub returns : goal.returns
+unfolding stopped
+returns c = c.with_running.ensures ∙ ap (λ (t : Timer). with_running t false) c.sync-s.ensures
