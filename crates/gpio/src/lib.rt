@@ -1,5 +1,6 @@
 // A pin by value (sys.rs): what its configuration and its signal make it drive, and whether its level changed.
 #![tactic(auto)]
+
 ghost use Rattle.std.specs.Prelude.{◌≡◌, ◌<◌};
 ghost use Rattle.gpio.specs.Gpio as G;
 

@@ -1,5 +1,6 @@
 // The registers of a timer by value: the Rust's read_reg and write_reg of periph/tim.rs, over crate tim's timer.
 #![tactic(auto)]
+
 ghost use Rattle.std.specs.Prelude.{◌≡◌, ℕ, ◌<◌};
 ghost use Rattle.rm0440.specs.Registers.{kept_mask};
 ghost use Rattle.tim.specs.Timer.{Fit, Ready, with_cr1};

@@ -1,0 +1,6 @@
+-- Driven at the present count.
+use borrow.Author.Rules.{rules}
+use Rattle.regs.proofs.generated.Goals as goal
+
+pub returns : goal.returns
+returns c = rw c.cnt_at-cnt.ensures

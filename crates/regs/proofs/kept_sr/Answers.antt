@@ -1,0 +1,6 @@
+-- The table's flags, the others left.
+use borrow.Author.Rules.{rules}
+use Rattle.regs.proofs.kept_sr.Goals as goal
+
+pub returns : goal.returns
+returns c = rw c.kept.ensures
