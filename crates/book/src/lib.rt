@@ -1,5 +1,6 @@
 // The book that a call is lent: four slices, filled from place 0. Every entry is written here.
 #![tactic(auto)]
+
 ghost use Rattle.std.specs.Prelude.{◌≡◌, length};
 ghost use Prim.Native.Nat.{◌+◌, ◌≤◌, ◌<◌};
 ghost use Rattle.book.specs.Book.{book, puts, entry_of, places, slices, Room};

@@ -44,6 +44,15 @@ impl<'a> Writer<'a> {
         }
     }
 
+    // One more cycle, and the writer ends: how many entries there are now.
+    fn put_last(self, cycle: u64) -> usize
+        requires { self.n < length self.cycles.now }
+        ensures { (result ≡ self.entry.n + 1) × (self.exit.0.now ≡ set self.entry.cycles.now self.entry.n cycle) }
+    {
+        let n = self.n;
+        put_at(&mut *self.cycles, n, cycle)
+    }
+
     // The writer ends: how many entries there are, and the slice is as it was.
     pub fn count(self) -> usize
         ensures { (result ≡ self.entry.n) × (self.exit.0.now ≡ self.entry.cycles.now) }
@@ -57,6 +66,10 @@ pub fn append(cycles: &mut [u64], n: usize, cycle: u64) -> usize
     requires { n < length cycles.old }
     ensures { (result ≡ n + 1) × (cycles.new ≡ set cycles.old n cycle) }
 {
-    let w = Writer::new(cycles, n).put(cycle);
-    w.count()
+    // Made in place and ended by one call: what a writer that came back from a call leaves in the slice is not known to the check.
+    let w = Writer {
+        cycles: cycles,
+        n: n,
+    };
+    w.put_last(cycle)
 }
