@@ -95,13 +95,13 @@ def tuple_parts(body):
 
 
 def as_record(body, names):
+    if len(names) < 2:
+        return body
     got = tuple_parts(body)
-    if not got or len(names) < 2:
-        return body
+    if not got:
+        return " let both = " + body.strip() + " in record { " + "; ".join(f"{n} = both.{i}" for i, n in enumerate(names)) + " }"
     pre, parts = got
-    if len(parts) < len(names):
-        return body
-    if len(parts) > len(names):
+    if len(parts) != len(names):
         return body
     return " " + pre + "record { " + "; ".join(f"{n} = {v}" for n, v in zip(names, parts)) + " }"
 
@@ -185,6 +185,8 @@ def turn_body(fn, place, wrapped, body):
             fn.notes.append(f"no step {head}")
             return m[0]
         rest = rest[1:]
+        if rest[:1] == ["ensures"] and re.fullmatch(r"wrapping_(add|sub|mul)_u64(-.*)?", new) and rest[1:] != ["value"]:
+            rest.insert(1, "value")
         if fn.last and len(rest) > 1 and rest[0] in ("ensures", "requires") and rest[1].isdigit():
             parts = fn.last.split("::")
             ns = CLAUSES.get(parts[0] + "::" + parts[-1], ([], []))[rest[0] == "ensures"]

@@ -1,5 +1,6 @@
 // A timer and a pin as words of lent memory.
 #![tactic(auto)]
+
 ghost use Rattle.std.specs.Prelude.{◌≡◌, ◌%◌, ◌<◌, ◌≤◌};
 ghost use Rattle.tim.specs.Timer.{Fit};
 ghost use Rattle.gpio.specs.Gpio.{GpioFit};

@@ -1,5 +1,6 @@
 // A timer's settings as a record of bytes (document 02, F-10): a writer into lent places, a reader, and a reader of kind 1 alone.
 #![tactic(auto)]
+
 ghost use Rattle.std.specs.Prelude.{◌≡◌, cond, [], ◌∷◌, ◌++◌, ◌-◌, ◌%◌, ◌≤◌, ◌<◌, eqb, length, take, drop};
 ghost use Rattle.settings.specs.Record.{four, byte_at, two_at, four_at, kind_of, decode, cut_short, strange_kind, wrong_length, wrong_added, wrong_settings, good, read_number, settings_of, turned_away, read, given, Writes};
 

@@ -1,6 +1,7 @@
 // The duty report for a shift (document 02, F-1), in pieces: begin, feed a book any number of times, end. The one-shot report is begin, one
 // feed, end. What is kept between the pieces is in words that the caller lends; figures are written at the end alone.
 #![tactic(auto)]
+
 ghost use Rattle.std.specs.Prelude.{◌≡◌, ℕ, ◌+◌, ◌-◌, ◌<◌, ◌≤◌, max, Bool, List, [], ◌++◌, length, if◌then◌else◌, count_ones, nat_eq, nat_lt};
 ghost use Rattle.book.specs.Book.{Entry};
 ghost use Rattle.shift.specs.Shift.{piece, sourceless, Shift, shift, level_bit, entries_in, Reports};

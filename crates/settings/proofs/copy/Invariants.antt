@@ -1,0 +1,15 @@
+-- The bytes so far are copied.
+use Prim.Native.Nat.{◌-◌, ◌≤◌}
+use Rattle.settings.proofs.Tests.{copy_step, copy_done}
+use borrow.Author.Rules.{rules}
+use lib.ListN.{length, length-set, take, drop}
+use mathlib.Core.List.{◌++◌}
+use mathlib.Core.Path.{◌≡◌, refl}
+use native.Mathlib.Omega.{arith}
+use Rattle.settings.proofs.copy.Given as goal
+
+abbrev pub invariant-loop-i : goal.invariant-loop-i
+invariant-loop-i l = (l.i ≤ l.count) × (length l.out ≡ length l.initial.out) × (l.out ≡ take l.i l.bytes ++ drop l.i l.initial.out)
+
+abbrev pub decreases-loop-i : goal.decreases-loop-i
+decreases-loop-i l = l.count - l.i

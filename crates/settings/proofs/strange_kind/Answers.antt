@@ -1,0 +1,8 @@
+-- The test, of the kind that was read.
+use borrow.Author.Rules.{rules}
+use Rattle.settings.specs.Record.{strange_kind}
+use Rattle.settings.proofs.strange_kind.Goals as goal
+
+pub returns : goal.returns
+unfolding strange_kind
+returns c = rw c.two_at-kind.ensures.0

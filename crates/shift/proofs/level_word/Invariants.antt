@@ -1,0 +1,12 @@
+-- The word's set bits are the high pins so far.
+use Rattle.std.proofs.Common.{◌≡◌, ℕ, ◌+◌, ◌-◌, ◌^◌, ◌<◌, ◌≤◌, eqb, subst, arith}
+use lib.Count.{ones}
+use Rattle.shift.specs.Kept.{high_tracks, track_at}
+use Rattle.shift.proofs.Ending.{word_small, word_more, bits-more, bits_none, one_bit}
+use Rattle.shift.proofs.level_word.Given as goal
+
+abbrev pub invariant-loop-j : goal.invariant-loop-j
+invariant-loop-j l = (l.j ≤ 32) × (l.word < 2 ^ l.j) × (ones l.word + high_tracks l.kept l.first ≡ high_tracks l.kept (l.first + l.j))
+
+abbrev pub decreases-loop-j : goal.decreases-loop-j
+decreases-loop-j l = 32 - l.j

@@ -1,0 +1,8 @@
+-- The stores, as they are written.
+use Rattle.std.proofs.Common.{refl, rules}
+use Rattle.shift.specs.Kept.{put_figures}
+use Rattle.shift.proofs.put_figures.Goals as goal
+
+pub returns : goal.returns
+unfolding put_figures
+returns c = refl

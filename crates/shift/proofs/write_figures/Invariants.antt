@@ -1,0 +1,11 @@
+-- The pins so far have their figures.
+use Rattle.std.proofs.Common.{◌-◌, ◌≤◌, arith, rules}
+use Rattle.shift.specs.Kept.{Written}
+use Rattle.shift.proofs.Ending.{written-more}
+use Rattle.shift.proofs.write_figures.Given as goal
+
+abbrev pub invariant-loop-pin : goal.invariant-loop-pin
+invariant-loop-pin l = (l.pin ≤ 128) × Written l.kept l.pin l.figures
+
+abbrev pub decreases-loop-pin : goal.decreases-loop-pin
+decreases-loop-pin l = 128 - l.pin
