@@ -153,10 +153,10 @@ def turn_body(fn, place, wrapped, body):
     # aliases of the record of facts
     aliases = {"c": 0}
     while True:
-        m = re.search(r"let ([a-z][A-Za-z0-9_']*) = c((?:\.before)*) in\s+", body)
+        m = next((m for m in re.finditer(r"let ([a-z][A-Za-z0-9_']*) = ([a-z][A-Za-z0-9_']*)((?:\.before)*) in\s+", body) if m[2] in aliases), None)
         if not m:
             break
-        aliases[m[1]] = m[2].count(".before")
+        aliases[m[1]] = aliases[m[2]] + m[3].count(".before")
         body = body[: m.start()] + body[m.end() :]
 
     def path(m):

@@ -1,5 +1,6 @@
 // The board before set-up, and no signal routed.
 #![tactic(auto)]
+
 ghost use Rattle.std.specs.Prelude.{◌≡◌, List, [], ℕ, ◌+◌, ◌≤◌, Float};
 ghost use Rattle.std.proofs.Math.Seq.{paste};
 ghost use Rattle.real.specs.Real.{zero_float};

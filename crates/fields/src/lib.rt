@@ -1,6 +1,7 @@
 // Single fields of a timer in the lent words: a write that changes one register stores its word and no more.
 // The 8 timers stand first in the words; crate codec says which word of a timer is which field.
 #![tactic(auto)]
+
 ghost use Rattle.std.specs.Prelude.{◌≡◌, List, ◌<◌, Float, length, set};
 ghost use Rattle.tim.specs.Timer.{with_count, ccmr_byte};
 ghost use Rattle.tim.specs.Count.{at_count};

@@ -1,5 +1,6 @@
 // A pin's level, selected signal and push-pull drive in the lent words: what a driven pin shows is read and stored word by word.
 #![tactic(auto)]
+
 ghost use Rattle.std.specs.Prelude.{◌≡◌, List, ℕ, ◌<◌, ◌≤◌, Float};
 ghost use Rattle.pins.specs.Pins.{supply_at};
 ghost use Rattle.gpio.specs.Gpio.{is_push_pull, push_pull};

@@ -1,5 +1,6 @@
 // The board's state in lent memory: what a call reads and changes goes through these functions.
 #![tactic(auto)]
+
 ghost use Rattle.std.specs.Prelude.{◌≡◌, List, [], ◌∷◌, ℕ, ◌+◌, ◌*◌, ◌%◌, ◌<◌, ◌≤◌, min, ltb, length, drop, Float};
 ghost use Rattle.std.proofs.Math.Seq.{paste};
 ghost use Rattle.tim.specs.Timer.{Fit};

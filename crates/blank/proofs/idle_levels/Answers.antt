@@ -1,0 +1,18 @@
+use Prim.Native.Nat.{◌-◌, ◌≤◌}
+use Rattle.sig.specs.Signal.{idle_level}
+use Rattle.blank.proofs.Blank.{fill_done, fill_step}
+use Rattle.state.specs.Parts.{listed}
+use borrow.Author.Rules.{rules}
+use lib.Seq.{paste, paste-zero}
+use mathlib.Core.Path.{◌≡◌}
+use native.Mathlib.Omega.{arith}
+use Rattle.blank.proofs.idle_levels.Goals as goal
+
+pub loop-s-init : goal.loop-s-init
+loop-s-init c = (omega arith, paste-zero c.args.words.now 604 (listed idle_level 0 256))
+
+pub loop-s-preserved : goal.loop-s-preserved
+loop-s-preserved c = (omega arith, rw c.idle_level.ensures (fill_step 0 idle_level c.args.words.now _ 604 256 c.loop-s.s (omega (arith, c.sized.ensures)) c.loop-s-test.true c.loop-s.invariant.1))
+
+pub returns : goal.returns
+returns c = fill_done 0 idle_level c.args.words.now _ 604 256 c.loop-s.s c.loop-s-test.false c.loop-s.invariant.0 c.loop-s.invariant.1

@@ -1,0 +1,7 @@
+-- A real stored for the supply.
+use Rattle.state.proofs.Stores.{vcc-set}
+use borrow.Author.Rules.{rules}
+use Rattle.blank.proofs.set_vcc.Goals as goal
+
+pub returns : goal.returns
+returns c = λ w. vcc-set w _ c.sized_reals.ensures c.args.v

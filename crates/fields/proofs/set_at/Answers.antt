@@ -1,0 +1,8 @@
+-- Two words of the counter stored.
+use Rattle.fields.proofs.Stored.{at_set}
+use native.Mathlib.Omega.{arith}
+use borrow.Author.Rules.{rules}
+use Rattle.fields.proofs.set_at.Goals as goal
+
+pub returns : goal.returns
+returns c = at_set c.args.words.now c.args.i c.sized.ensures c.requires.0 c.args.cnt c.args.base (omega arith) c.requires.1

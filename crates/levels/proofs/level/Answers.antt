@@ -1,0 +1,8 @@
+-- The word of the level.
+use Rattle.state.proofs.Places.{pin_level_lem}
+use mathlib.Core.Path.{sym}
+use borrow.Author.Rules.{rules}
+use Rattle.levels.proofs.level.Goals as goal
+
+pub returns : goal.returns
+returns c = λ x. sym (pin_level_lem c.args.words.now x c.args.p c.requires)

@@ -1,0 +1,8 @@
+-- The bits above the level.
+use Rattle.state.proofs.Places.{pin-source}
+use mathlib.Core.Path.{sym}
+use borrow.Author.Rules.{rules}
+use Rattle.levels.proofs.source.Goals as goal
+
+pub returns : goal.returns
+returns c = λ x. sym (pin-source c.args.words.now x c.args.p c.requires)

@@ -1,0 +1,14 @@
+-- The word that the booking changed, stored in the bookings.
+use mathlib.Core.Path.{◌∙◌, ap}
+use Rattle.state.specs.Board.{booking_set}
+use Rattle.state.specs.View.{view}
+use Rattle.state.proofs.Places.{booked-word}
+use Rattle.state.proofs.Stores.{booking-set}
+use borrow.Author.Rules.{rules}
+use Rattle.state.proofs.book.Goals as goal
+
+pub returns : goal.returns
+returns c =
+    let o = c.args.owner in
+    λ x. booking-set _ x c.sized.ensures o _ c.requires
+    ∙ ap (booking_set (view c.args.words.now x) o) (booked-word c.args.words.now x _ _ o c.args.cycle c.requires (c.bookings-cycles.ensures x) c.book-next.ensures)

@@ -1,0 +1,8 @@
+-- The enable word.
+use Rattle.state.proofs.Places.{enr-read}
+use borrow.Author.Rules.{rules}
+use mathlib.Core.Path.{sym}
+use Rattle.state.proofs.enr.Goals as goal
+
+pub returns : goal.returns
+returns c = λ x. sym (enr-read c.args.words.now x c.args.i c.requires)

@@ -1,0 +1,8 @@
+-- The least of the table.
+use Rattle.scheduler.specs.Booking.{least}
+use borrow.Author.Rules.{rules}
+use mathlib.Core.Path.{◌∙◌, ap}
+use Rattle.state.proofs.next_booked.Goals as goal
+
+pub returns : goal.returns
+returns c = λ x. c.next_of.ensures ∙ ap least (c.bookings-cycles.ensures x)

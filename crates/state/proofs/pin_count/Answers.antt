@@ -1,0 +1,8 @@
+-- The word of the count.
+use Rattle.state.proofs.Places.{pins-read}
+use borrow.Author.Rules.{rules}
+use mathlib.Core.Path.{◌∙◌, sym}
+use Rattle.state.proofs.pin_count.Goals as goal
+
+pub returns : goal.returns
+returns c = λ x. c.lesser.ensures ∙ sym (pins-read c.args.words.now x)

@@ -1,0 +1,15 @@
+-- The loop has copied the first j words.
+use Prim.Native.Nat.{◌-◌, ◌≤◌}
+use Rattle.state.proofs.Copies.{put-done, put_step}
+use borrow.Author.Rules.{rules}
+use lib.ListN.{length}
+use lib.Seq.{paste, paste-zero}
+use mathlib.Core.Path.{◌≡◌}
+use native.Mathlib.Omega.{arith}
+use Rattle.state.proofs.put.Given as goal
+
+abbrev pub invariant-loop-j : goal.invariant-loop-j
+invariant-loop-j l = (l.j ≤ length l.b) × (l.words ≡ paste l.initial.words l.at l.b l.j)
+
+abbrev pub decreases-loop-j : goal.decreases-loop-j
+decreases-loop-j l = length l.b - l.j

@@ -1,0 +1,7 @@
+-- A word stored in the table.
+use Rattle.state.proofs.Stores.{af-set}
+use borrow.Author.Rules.{rules}
+use Rattle.state.proofs.set_af.Goals as goal
+
+pub returns : goal.returns
+returns c = λ x. af-set _ x c.sized.ensures c.args.k c.args.s c.requires.0 c.requires.1

@@ -1,0 +1,8 @@
+-- A word stored in the enable words.
+use Rattle.state.proofs.Stores.{enr-set}
+use borrow.Author.Rules.{rules}
+use native.Mathlib.Omega.{arith}
+use Rattle.state.proofs.set_enr.Goals as goal
+
+pub returns : goal.returns
+returns c = λ x. enr-set _ x c.sized.ensures c.args.i c.args.v c.requires (omega arith)

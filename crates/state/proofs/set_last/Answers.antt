@@ -1,0 +1,7 @@
+-- The word of the cycle stored.
+use Rattle.state.proofs.Stores.{last_set}
+use borrow.Author.Rules.{rules}
+use Rattle.state.proofs.set_last.Goals as goal
+
+pub returns : goal.returns
+returns c = λ x. last_set _ x c.sized.ensures c.args.cycle

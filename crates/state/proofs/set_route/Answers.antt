@@ -1,0 +1,7 @@
+-- A word stored in the routes.
+use Rattle.state.proofs.Stores.{route-set}
+use borrow.Author.Rules.{rules}
+use Rattle.state.proofs.set_route.Goals as goal
+
+pub returns : goal.returns
+returns c = λ x. route-set _ x c.sized.ensures c.args.s c.args.p c.requires.0 c.requires.1

@@ -1,0 +1,7 @@
+-- A word stored in the levels.
+use Rattle.state.proofs.Stores.{level-set}
+use borrow.Author.Rules.{rules}
+use Rattle.state.proofs.set_sig_level.Goals as goal
+
+pub returns : goal.returns
+returns c = λ x. level-set _ x c.sized.ensures c.args.s c.args.level c.requires.0 c.requires.1

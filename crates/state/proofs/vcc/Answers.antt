@@ -1,0 +1,8 @@
+-- The real of the supply.
+use Rattle.state.proofs.Places.{vcc-read}
+use borrow.Author.Rules.{rules}
+use mathlib.Core.Path.{sym}
+use Rattle.state.proofs.vcc.Goals as goal
+
+pub returns : goal.returns
+returns c = λ w. sym (vcc-read w c.args.reals.now)
