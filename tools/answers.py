@@ -38,6 +38,7 @@ def split_args(text):
 
 
 CLAUSES = {}
+SLICES = {}
 
 
 def clauses(top):
@@ -48,6 +49,7 @@ def clauses(top):
             text = open(os.path.join(src, f), encoding="utf-8").read()
             for m in re.finditer(r"\bfn (\w+)(?=[<(])(.*?)\n\s*\{\s*\n", text, re.S):
                 sig = m[2]
+                SLICES[f"{crate}::{m[1]}"] = re.findall(r"(\w+): &(?:'\w+ )?mut \[[^;\]]*\]", sig)
                 CLAUSES[f"{crate}::{m[1]}"] = (re.findall(r"^\s*requires (\w+) \{", sig, re.M), re.findall(r"^\s*ensures (\w+) \{", sig, re.M))
 
 
@@ -178,6 +180,8 @@ def turn_body(fn, place, wrapped, body):
         got = None if head in FLAT else fn.arm(place, rest)
         if got:
             return ".".join(["c"] + got)
+        if head.endswith("_lem") and head[:-4] and fn.step(place, head) is None:
+            head = rest[0] = head[:-4]
         new = None if head in FLAT else fn.step(place, head)
         if head in FLAT:
             return ".".join(["c"] + rest)
@@ -185,6 +189,14 @@ def turn_body(fn, place, wrapped, body):
             fn.notes.append(f"no step {head}")
             return m[0]
         rest = rest[1:]
+        if rest[:1] == ["auto"] and fn.last:
+            k = 1
+            while k < len(rest) and rest[k] == "1":
+                k += 1
+            parts = fn.last.split("::")
+            ns = SLICES.get(parts[0] + "::" + parts[-1], [])
+            if k < len(rest) and rest[k] == "0" and k - 1 < len(ns):
+                rest = ["auto", ns[k - 1]] + rest[k + 1 :]
         if rest[:1] == ["ensures"] and re.fullmatch(r"wrapping_(add|sub|mul)_u64(-.*)?", new) and rest[1:] != ["value"]:
             rest.insert(1, "value")
         if fn.last and len(rest) > 1 and rest[0] in ("ensures", "requires") and rest[1].isdigit():

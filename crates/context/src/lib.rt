@@ -1,5 +1,6 @@
 // Clocks and booking over the lent state (sys.rs): a timer's enable bit and divider, its interrupt line and its next event, and the clock tree.
 #![tactic(auto)]
+
 ghost use Rattle.std.specs.Prelude.{◌≡◌, true, List, ◌<◌, ◌≤◌, max, Float};
 ghost use Rattle.clk.specs.Clk.{good};
 ghost use Rattle.state.specs.View.{view};

@@ -1,5 +1,6 @@
 // A timer's outputs over the lent state (tim.rs, drive_outputs): its channels' signals at their levels, and the changes into a book.
 #![tactic(auto)]
+
 ghost use Rattle.std.specs.Prelude.{◌≡◌, ◌+◌, ◌<◌, ◌≤◌, length};
 ghost use Rattle.gpio.specs.Gpio as G;
 ghost use Rattle.gpio.specs.Gpio.{change_of};

@@ -1,5 +1,6 @@
 // The short ways of compares and CR1 in the lent words: the fields that a write changes are stored, and no others.
 #![tactic(auto)]
+
 ghost use Rattle.std.specs.Prelude.{◌≡◌, true, false, List, ℕ, ◌<◌, Float, set};
 ghost use Rattle.tim.specs.Count.{synced};
 ghost use Rattle.tim.specs.Timer.{with_cr1};

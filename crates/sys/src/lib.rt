@@ -1,5 +1,6 @@
 // Pins and routing over the lent state (sys.rs). A level change is a value here; the call that asked writes it to its book.
 #![tactic(auto)]
+
 ghost use Rattle.std.specs.Prelude.{◌≡◌, true, List, ◌<◌, ◌≤◌, Float, length};
 ghost use Rattle.gpio.specs.Gpio.{change_of};
 ghost use Rattle.state.specs.Board.{pin_at, sig_level_at};

@@ -1,0 +1,8 @@
+-- The tree loaded, and its divider.
+use Rattle.context.proofs.Small.{timer-divider}
+use Rattle.state.proofs.InRange.{bounded}
+use borrow.Author.Rules.{rules}
+use Rattle.context.proofs.divider.Goals as goal
+
+pub returns : goal.returns
+returns c = record { value = rw (c.timer_div.ensures, c.tree-tree.ensures); lower_bound = rw (c.timer_div.ensures, c.tree-tree.ensures) ((timer-divider _ c.args.t.inst.apb (bounded c.args.words.now c.args.reals.now).divided).pos, (timer-divider _ c.args.t.inst.apb (bounded c.args.words.now c.args.reals.now).divided).le) }

@@ -1,0 +1,25 @@
+use Rattle.outputs.proofs.Laws.{bit-small, channel-drives, channel-same, channel-still}
+use mathlib.Core.Path.{◌∙◌, sym}
+use borrow.Author.Rules.{rules}
+use Rattle.outputs.proofs.drive_channel.Reads as reads
+use Rattle.outputs.proofs.drive_channel.Lts as lts
+use Rattle.state.proofs.sig_level.Reads as sig-level-reads
+use Rattle.sys.proofs.move_signal.Reads as move-signal-reads
+use Rattle.outputs.proofs.bit.Reads as bit-reads
+use Rattle.outputs.proofs.drive_channel.Goals as goal
+
+pub returns-then-ch-channels : goal.returns-then-ch-channels
+returns-then-ch-channels c =
+    channel-still _ c.args.channels c.args.ch _ c.args.level c.if-ch-channels.true
+
+pub returns-then-was-want : goal.returns-then-was-want
+returns-then-was-want c =
+    channel-same _ c.args.channels c.args.ch _ _ c.args.level c.if-ch-channels.false (sym (c.sig_level-was.ensures c.args.reals.now) ∙ c.if-was-want.true) c.bit-want.ensures
+
+pub move_signal-requires : goal.move_signal-requires
+move_signal-requires c =
+    (c.requires, rw c.bit-want.ensures (bit-small c.args.level), λ e. c.if-was-want.false (c.sig_level-was.ensures c.args.reals.now ∙ e))
+
+pub returns : goal.returns
+returns c =
+    channel-drives _ _ c.args.channels c.args.ch _ _ c.args.level _ c.if-ch-channels.false c.bit-want.ensures c.move_signal.ensures

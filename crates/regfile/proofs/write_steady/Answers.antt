@@ -1,0 +1,14 @@
+use Rattle.state.specs.View.{view}
+use Rattle.state.proofs.InRange.{bounded}
+use Rattle.regfile.proofs.Unmoved.{moved}
+use native.Mathlib.Omega.{arith}
+use borrow.Author.Rules.{rules}
+use Rattle.regfile.proofs.write_steady.Reads as reads
+use Rattle.regfile.proofs.write_steady.Lts as lts
+use Rattle.fields.proofs.set_reg.Reads as set-reg-reads
+use Rattle.regfile.proofs.sync.Reads as sync-reads
+use Rattle.regfile.proofs.write_steady.Goals as goal
+
+pub returns : goal.returns
+returns c =
+    λ x. moved (view c.args.words.now x) _ _ c.args.i c.args.cycle c.args.new (omega (arith, c.requires.0, (bounded c.args.words.now x).timers-length)) (c.sync.ensures x) (c.set_reg.ensures x)

@@ -1,0 +1,16 @@
+-- Connected, then resolved.
+use Rattle.gpio.proofs.Fits.{connected-fit}
+use Rattle.machine.specs.Board.{Pads}
+use Rattle.machine.specs.Sys.{drive_pin, update_pin}
+use Rattle.state.proofs.InRange.{bounded}
+use Rattle.sys.proofs.Laws.{then-moves}
+use borrow.Author.Rules.{rules}
+use mathlib.Core.Path.{◌∙◌}
+use Rattle.sys.proofs.drive_pin.Goals as goal
+
+pub store_gpio-requires : goal.store_gpio-requires
+store_gpio-requires c = (c.requires, rw (c.connect.ensures, c.load_gpio-g.ensures) (connected-fit _ ((bounded c.args.words.now c.args.reals.now).gpio-fit c.args.i) _))
+
+pub returns : goal.returns
+unfolding drive_pin
+returns c = then-moves _ _ _ _ (λ (p : Pads). update_pin p c.args.i) _ (c.store_gpio.ensures ∙ rw (c.connect.ensures, c.load_gpio-g.ensures)) c.update_pin.ensures

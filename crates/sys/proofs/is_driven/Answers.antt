@@ -1,0 +1,18 @@
+use mathlib.Core.Path.{◌∙◌, ap, sym}
+use borrow.Author.Rules.{rules}
+use Rattle.sys.proofs.is_driven.Reads as reads
+use Rattle.sys.proofs.is_driven.Lts as lts
+use Rattle.gpio.proofs.drives.Reads as drives-reads
+use Rattle.levels.proofs.is_push_pull.Reads as is-push-pull-reads
+use Rattle.levels.proofs.signal.Reads as signal-reads
+use Rattle.sys.proofs.is_driven.Goals as goal
+
+-- src/lib.rt:40:9
+pub returns-then-is_push_pull : goal.returns-then-is_push_pull
+returns-then-is_push_pull c =
+    λ x. rw (sym (c.is_push_pull.ensures x) ∙ c.if-is_push_pull.true, ← c.signal.ensures.value x) c.drives.ensures
+
+-- src/lib.rt:35:1
+pub returns : goal.returns
+returns c =
+    λ x. rw (sym (c.is_push_pull.ensures x) ∙ c.if-is_push_pull.false)

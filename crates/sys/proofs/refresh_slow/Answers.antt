@@ -1,0 +1,15 @@
+use Rattle.sys.proofs.Laws.{refresh-moves, told}
+use Rattle.sys.proofs.Small.{pin-there}
+use borrow.Author.Rules.{rules}
+use Rattle.sys.proofs.refresh_slow.Reads as reads
+use Rattle.sys.proofs.refresh_slow.Lts as lts
+use Rattle.gpio.proofs.changed.Reads as changed-reads
+use Rattle.gpio.proofs.code_of.Reads as code-of-reads
+use Rattle.levels.proofs.level.Reads as level-reads
+use Rattle.levels.proofs.source.Reads as source-reads
+use Rattle.sys.proofs.refresh_any.Reads as refresh-any-reads
+use Rattle.sys.proofs.refresh_slow.Goals as goal
+
+pub returns : goal.returns
+returns c =
+    told _ _ _ _ _ c.code_of.ensures (refresh-moves _ _ c.args.i (pin-there c.args.words.now c.args.reals.now c.requires) c.refresh_any.ensures _ _ _ (c.level-was.ensures c.args.reals.now) (c.level.ensures _) (c.source.ensures _) _ c.changed.ensures)

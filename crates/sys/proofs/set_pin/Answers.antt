@@ -1,0 +1,10 @@
+-- Configured, then refreshed.
+use Rattle.machine.specs.Board.{Pads}
+use Rattle.machine.specs.Sys.{refresh_pin, set_pin}
+use Rattle.sys.proofs.Laws.{then-moves}
+use borrow.Author.Rules.{rules}
+use Rattle.sys.proofs.set_pin.Goals as goal
+
+pub returns : goal.returns
+unfolding set_pin
+returns c = then-moves _ _ _ _ (λ (p : Pads). refresh_pin p c.args.i) _ c.select_af.ensures c.refresh_pin.ensures
