@@ -100,9 +100,19 @@ def as_record(body, names):
     if len(names) < 2:
         return body
     got = tuple_parts(body)
+    if re.match(r"\s*(omega|search|grind|rw|simp|cc|first_of|elim)\b", body):
+        return body
     if not got:
         return " let both = " + body.strip() + " in record { " + "; ".join(f"{n} = both.{i}" for i, n in enumerate(names)) + " }"
     pre, parts = got
+    if parts[-1] == "":
+        parts.pop()
+    # more than two clauses were pairs within pairs
+    while len(parts) < len(names):
+        last = tuple_parts(parts[-1])
+        if not last or last[0]:
+            break
+        parts[-1:] = [p for p in last[1] if p]
     if len(parts) != len(names):
         return body
     return " " + pre + "record { " + "; ".join(f"{n} = {v}" for n, v in zip(names, parts)) + " }"
@@ -202,8 +212,14 @@ def turn_body(fn, place, wrapped, body):
         if fn.last and len(rest) > 1 and rest[0] in ("ensures", "requires") and rest[1].isdigit():
             parts = fn.last.split("::")
             ns = CLAUSES.get(parts[0] + "::" + parts[-1], ([], []))[rest[0] == "ensures"]
-            if int(rest[1]) < len(ns):
-                rest[1] = ns[int(rest[1])]
+            if len(ns) > 1:
+                k, at = 0, 1
+                while at < len(rest) and rest[at] == "1" and k < len(ns) - 1:
+                    k += 1
+                    at += 1
+                if k < len(ns) - 1:
+                    at += at < len(rest) and rest[at] == "0"
+                rest[1:at] = [ns[k]]
         return ".".join(["c", new] + rest)
 
     body = PATH.sub(path, body)

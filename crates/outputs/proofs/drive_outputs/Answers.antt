@@ -20,7 +20,8 @@ drive_two-m-requires c =
     omega (arith, c.tim-s.ensures, c.requires, c.if-t-lt2.false, c.if-t-gt4.false)
 
 pub drive_two-requires : goal.drive_two-requires
-drive_two-requires c = let both = omega (arith, c.tim-s.ensures, c.drive_two-m.ensures.upper_bound, c.drive_two-m.auto, c.requires, c.if-t-lt2.false, c.if-t-gt4.false) in record { s_bound = both.0; room = both.1 }
+drive_two-requires c =
+    omega (arith, c.tim-s.ensures, c.drive_two-m.ensures.upper_bound, c.drive_two-m.auto, c.requires, c.if-t-lt2.false, c.if-t-gt4.false)
 
 pub returns : goal.returns
 returns c = record { driven = at-timer _ _ _ _ _ _ _ _ (c.load_timer-t.ensures c.args.reals.now) (four-driven c.load_timer-t.result c.args.cnt c.args.at _ _ _ _ _ _ _ _ _ _ _ c.if-t-lt2.false c.if-t-gt4.false c.tim-s.ensures c.output-l.ensures c.output-l1.ensures c.output-l2.ensures c.output-l3.ensures c.drive_two-m.ensures.driven_two c.drive_two.ensures.driven_two); upper_bound = omega (arith, c.drive_two-m.ensures.upper_bound, c.drive_two.ensures.upper_bound) }

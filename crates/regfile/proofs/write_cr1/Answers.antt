@@ -6,7 +6,7 @@ use borrow.Author.Rules.{rules}
 use Rattle.regfile.proofs.write_cr1.Goals as goal
 
 pub returns-then-stays : goal.returns-then-stays
-returns-then-stays c = let k = sym c.stays.ensures ∙ c.if-stays.true in record { div_value = (λ q x div. steady-fine (view c.args.words.now x) c.args.i c.args.v c.args.cycle _ _ (c.load_timer-t.ensures x) c.kept_cr1-new.ensures k div); x_after = (λ q x div. steady-stored (view c.args.words.now x) c.args.i c.args.v c.args.cycle _ _ (c.load_timer-t.ensures x) c.kept_cr1-new.ensures k _ (c.write_steady.ensures x) div, λ q. not-served (sym q)); words_unchanged =  }
+returns-then-stays c = let k = sym c.stays.ensures ∙ c.if-stays.true in record { div_value = (λ q x div. steady-fine (view c.args.words.now x) c.args.i c.args.v c.args.cycle _ _ (c.load_timer-t.ensures x) c.kept_cr1-new.ensures k div); x_after = λ q x div. steady-stored (view c.args.words.now x) c.args.i c.args.v c.args.cycle _ _ (c.load_timer-t.ensures x) c.kept_cr1-new.ensures k _ (c.write_steady.ensures x) div; words_unchanged = λ q. not-served (sym q) }
 
 pub returns : goal.returns
-returns c = (λ q. not-served q, (λ q. not-served q, λ q. refl))
+returns c = record { div_value = λ q. not-served q; x_after = λ q. not-served q; words_unchanged = λ q. refl }
