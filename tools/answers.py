@@ -183,6 +183,8 @@ def turn_body(fn, place, wrapped, body):
             return "c" + ".before" * (n + (1 if wrapped and n else 0))
         head = rest[0]
         head = rest[0] = {"well-formed": "well_formed", "pre": "requires"}.get(head, head)
+        if head == "args" and len(rest) > 1:
+            rest[1] = rest[1].replace("-", "_")
         if head in FLAT and head != "requires":
             return ".".join(["c"] + rest)
         if head == "requires" and len(rest) > 1 and rest[1].isdigit() and int(rest[1]) < len(fn.own[0]):
@@ -238,14 +240,17 @@ def finish(fn, goal, body):
         whole = m[0]
         return m[3] if whole.startswith("(") == whole.endswith(")") else ("(" if whole.startswith("(") else "") + m[3] + (")" if whole.endswith(")") else "")
 
-    body = NOT.sub(plain, body)
+    body = NOT.sub(lambda m: plain(m).replace("c.if-not-", "c.IF-not-"), body)
+    # where the old fact itself was handed on
+    body = re.sub(r"\bc\.if-not-[^ (),;]+\.(?:true|false)", lambda m: f"(ap not {m[0]})", body)
+    body = body.replace("c.IF-not-", "c.if-not-")
     if goal.startswith("returns"):
         return as_record(body, fn.own[1])
     m = re.match(r"(.*)-requires(-|$)", goal)
     if m:
         for p, (_, s) in fn.place.items():
             c = fn.callee.get(p)
-            if c and norm(c.split("::")[-1]) == norm(m[1]):
+            if c and norm(m[1]) in (norm(c.split("::")[-1]), norm(s[1])):
                 return as_record(body, CLAUSES.get(c.split("::")[0] + "::" + c.split("::")[-1], ([], []))[0])
     return body
 
@@ -430,6 +435,12 @@ def convert(folder, module, names):
     if out_inv:
         open(os.path.join(folder, "Invariants.antt"), "w", encoding="utf-8").write(top + "\n".join(keep) + ("\n" if keep else "") + f"use {base}.Given as goal\n\n" + "\n".join(out_inv))
     body = "\n".join(["\n".join(h) + "\n" for h in helpers] + out_ans)
+    if "ap not c.if" in body:
+        have = " ".join(keep)
+        if not re.search(r"[{ ]ap[,}]", have):
+            keep = keep + ["use mathlib.Core.Path.{ap}"]
+        if not re.search(r"[{ ]not[,}]", have):
+            keep = keep + ["use mathlib.Core.Bool.{not}"]
     if out_ans or helpers:
         open(os.path.join(folder, "Answers.antt"), "w", encoding="utf-8").write(("" if out_inv else top) + "\n".join(keep) + ("\n" if keep else "") + f"use {base}.Goals as goal\n\n" + body)
     os.remove(path)

@@ -1,5 +1,6 @@
 // What a call answers, and the refusals that calls share (document 01's table), lowest number first.
 #![tactic(auto)]
+
 ghost use Rattle.std.specs.Prelude.{◌≡◌, List, [], ◌∷◌, Float};
 ghost use Rattle.state.specs.View.{view};
 ghost use Rattle.book.specs.Book.{places, slices};

@@ -1,6 +1,7 @@
 // The calls that are no timer's and no pin's: the clock tree, an enable word, a pending clear, and the queries (document 01, "Queries
 // give"). None makes an entry. Each answers and leaves what `step` does.
 #![tactic(auto)]
+
 ghost use Rattle.answer.specs.Promise.{Answers};
 ghost use Rattle.machine.specs.Call as C;
 ghost use Rattle.machine.specs.Step.{step};

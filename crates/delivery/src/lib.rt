@@ -1,5 +1,6 @@
 // The delivery of a timer's due events over the lent state, their level changes into the lent book (tim.rs, on_event).
 #![tactic(auto)]
+
 ghost use Rattle.std.specs.Prelude.{◌≡◌, cond, List, ◌+◌, ◌<◌, ◌≤◌, eqb, Float, length};
 ghost use Rattle.tim.specs.Timer.{Fit, ccr_in_use};
 ghost use Rattle.tim.specs.Next.{next_steps, next_event};

@@ -1,5 +1,6 @@
 // The calls of pins, with the lent book: set a pin, drive it from outside, reset them all. Each answers and leaves what `step` does.
 #![tactic(auto)]
+
 ghost use Rattle.std.specs.Prelude.{◌≡◌, cond, List, [], ◌∷◌, ◌<◌, ◌≤◌, leb, Float, length};
 ghost use Rattle.answer.specs.Promise.{answer, Answers};
 ghost use Rattle.book.specs.Book.{book, puts, entry_of, places, Holds, slices, Room};

@@ -1,6 +1,7 @@
 // Set-up over the lent state, from numbers: seven of each timer (number, width, channels, bus, enable word, enable bit, interrupt), the mask of those in
 // manual mode, and the signal table.
 #![tactic(auto)]
+
 ghost use Rattle.std.specs.Prelude.{◌≡◌, true, List, ◌-◌, ◌<◌, ◌≤◌, Float, length};
 ghost use Rattle.machine.specs.Board.{no_inst, fresh_board};
 ghost use Rattle.machine.specs.Call.{set_up};

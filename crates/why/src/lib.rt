@@ -1,5 +1,6 @@
 // Why a pin is low (document 02, F-12): the first true of the reasons of crates/machine/specs/Why.antt. A query: nothing changes.
 #![tactic(auto)]
+
 ghost use Rattle.std.specs.Prelude.{◌≡◌, true, List, ◌<◌, eqb, ltb, Float};
 ghost use Rattle.tim.specs.Timer.{Fit};
 ghost use Rattle.tim.specs.Next.{next_steps, next_event};

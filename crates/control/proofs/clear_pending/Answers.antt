@@ -1,0 +1,7 @@
+-- The line cleared.
+use Rattle.control.proofs.Laws.{pending-cleared}
+use borrow.Author.Rules.{rules}
+use Rattle.control.proofs.clear_pending.Goals as goal
+
+pub returns : goal.returns
+returns c = pending-cleared _ _ _ _ c.served.ensures _ (c.clear_pending.ensures c.args.reals.now)

@@ -1,0 +1,14 @@
+-- By the event; a compare is of one of four channels.
+use Rattle.delivery.specs.Delivery.{OfFour}
+use borrow.Author.Rules.{rules}
+use mathlib.Core.Path.{subst}
+use Rattle.delivery.proofs.apply.Goals as goal
+
+pub compare-requires : goal.compare-requires
+compare-requires c = subst OfFour c.in-Compare.is c.requires.0
+
+pub returns-in-Update : goal.returns-in-Update
+returns-in-Update c = rw c.in-Update.is c.update.ensures
+
+pub returns-in-Compare : goal.returns-in-Compare
+returns-in-Compare c = rw c.in-Compare.is c.compare.ensures

@@ -1,0 +1,16 @@
+-- The timers that are left decide as all do.
+use Prim.Native.Nat.{◌-◌, ◌≤◌}
+use Rattle.machine.specs.Step as S
+use Rattle.setup.proofs.Limits.{good-bad, good-twice, good-next, good-end, good_start}
+use Rattle.setup.specs.Setup.{insts_from}
+use borrow.Author.Rules.{rules}
+use borrow.Author.Tests.{not-true, not-false}
+use mathlib.Core.Path.{◌≡◌, ◌∙◌, sym}
+use native.Mathlib.Omega.{arith}
+use Rattle.setup.proofs.timers_good.Given as goal
+
+abbrev pub invariant-loop-i : goal.invariant-loop-i
+invariant-loop-i l = (l.i ≤ l.count) × (S.insts_good (insts_from l.manual l.timers (l.count - l.i) l.i) ≡ S.insts_good (insts_from l.manual l.timers l.count 0))
+
+abbrev pub decreases-loop-i : goal.decreases-loop-i
+decreases-loop-i l = l.count - l.i

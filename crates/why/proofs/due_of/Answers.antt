@@ -1,0 +1,21 @@
+-- The steps of the first event, in cycles.
+use Rattle.tim.proofs.Laws.{due-fits, next-runs, steps-le}
+use Rattle.tim.specs.Next.{next_event}
+use borrow.Author.Rules.{rules}
+use borrow.Author.Tests.{not-false, not-true}
+use mathlib.Core.Path.{◌∙◌, sym}
+use native.Mathlib.Omega.{arith}
+use Rattle.why.proofs.due_of.Goals as goal
+
+pub returns-then-not-counts : goal.returns-then-not-counts
+unfolding next_event
+returns-then-not-counts c = rw (sym c.counts.ensures ∙ c.if-not-counts.true)
+
+pub cycles_of-requires : goal.cycles_of-requires
+cycles_of-requires c = (rw c.first_of-first.ensures (steps-le c.args.t (omega arith) (omega arith)), c.requires.tick-le)
+
+pub overflow_add-result : goal.overflow_add-result
+overflow_add-result c = record { fits = rw (c.cycles_of.ensures, c.first_of-first.ensures) (due-fits c.args.t c.requires (omega (arith, c.before.before.before.before.before)) (omega (arith, c.before.before.before.before.before))) }
+
+pub returns : goal.returns
+returns c = rw (c.cycles_of.ensures, c.first_of-first.ensures) (next-runs c.args.t (sym c.counts.ensures ∙ c.if-not-counts.false))

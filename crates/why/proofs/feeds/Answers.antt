@@ -1,0 +1,19 @@
+-- By the timer's number, and the channel that the signal would be.
+use Rattle.why.proofs.Laws.{feeds-below, feeds-above, feeds-before, feeds-behind, feeds-at}
+use borrow.Author.Rules.{rules}
+use Rattle.why.proofs.feeds.Goals as goal
+
+pub returns-then-k-lt2 : goal.returns-then-k-lt2
+returns-then-k-lt2 c = feeds-below c.args.k c.args.s c.if-k-lt2.true
+
+pub returns-then-k-gt4 : goal.returns-then-k-gt4
+returns-then-k-gt4 c = feeds-above c.args.k c.args.s c.if-k-lt2.false c.if-k-gt4.true
+
+pub returns-then-s-first : goal.returns-then-s-first
+returns-then-s-first c = feeds-before c.args.k c.args.s c.if-k-lt2.false c.if-k-gt4.false c.if-s-first.true
+
+pub returns-then-ch-ge4 : goal.returns-then-ch-ge4
+returns-then-ch-ge4 c = feeds-behind c.args.k c.args.s c.if-k-lt2.false c.if-k-gt4.false c.if-s-first.false c.if-ch-ge4.true
+
+pub returns : goal.returns
+returns c = feeds-at c.args.k c.args.s c.if-k-lt2.false c.if-k-gt4.false c.if-s-first.false c.if-ch-ge4.false
