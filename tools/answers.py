@@ -225,6 +225,22 @@ def turn_body(fn, place, wrapped, body):
         return ".".join(["c", new] + rest)
 
     body = PATH.sub(path, body)
+    # a let that holds what a call ensures
+    for m in re.finditer(r"let ([a-z][A-Za-z0-9_']*) = c\.(%s)\.ensures in" % ID, body):
+        c = next((fn.callee.get(p) for p, (_, s) in fn.place.items() if s and s[1] == m[2] and fn.callee.get(p)), None)
+        ns = CLAUSES.get(c.split("::")[0] + "::" + c.split("::")[-1], ([], []))[1] if c else []
+        if len(ns) > 1:
+
+            def named(k, ns=ns, v=m[1]):
+                rest, n, at = k[1].split(".")[1:], 0, 0
+                while at < len(rest) and rest[at] == "1" and n < len(ns) - 1:
+                    n += 1
+                    at += 1
+                if n < len(ns) - 1:
+                    at += at < len(rest) and rest[at] == "0"
+                return ".".join([v, ns[n]] + rest[at:])
+
+            body = re.sub(r"(?<![A-Za-z0-9_'\-.])%s((?:\.[01])+)" % m[1], named, body)
     for a, n in aliases.items():
         if a != "c":
             body = re.sub(r"(?<!%s)(?<!\.)%s(?!%s)(?!\.)" % (WORDCH, a, WORDCH), "c" + ".before" * (n + (1 if wrapped and n else 0)), body)

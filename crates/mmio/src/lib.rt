@@ -1,5 +1,6 @@
 // A timer's calls over the lent board (bus.rs, `Mmio`): read, peek, reset, deliver. Crate write has the writes.
 #![tactic(auto)]
+
 ghost use Rattle.std.specs.Prelude.{◌≡◌, cond, List, ◌<◌, ◌≤◌, Float, length};
 ghost use Rattle.tim.specs.Count.{cnt_at};
 ghost use Rattle.regs.specs.Regs as R;

@@ -1,6 +1,7 @@
 // A write of a timer's register over the lent board (bus.rs, tim.rs write_reg): one general way by value, and short ways: of whole writes of DIER and
 // SR, and of every write of CR1 and the compares.
 #![tactic(auto)]
+
 ghost use Rattle.std.specs.Prelude.{◌≡◌, true, false, List, ◌<◌, ◌≤◌, Float, length};
 ghost use Rattle.regs.specs.Regs as R;
 ghost use Rattle.periph.specs.Lane.{lane_write};

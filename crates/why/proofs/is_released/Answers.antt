@@ -10,19 +10,19 @@ use Rattle.why.proofs.is_released.Goals as goal
 
 pub returns-then-not-g : goal.returns-then-not-g
 unfolding is_released
-returns-then-not-g c = rw c.if-not-g.true
+returns-then-not-g c = rw (not-true c.args.g.cfg.open_drain c.if-not-g.true)
 
 pub returns-then-g-eq1 : goal.returns-then-g-eq1
 unfolding is_released
-returns-then-g-eq1 c = rw (c.if-not-g.false, eq-eqb _ _ c.if-g-eq1.true)
+returns-then-g-eq1 c = rw (not-false c.args.g.cfg.open_drain c.if-not-g.false, eq-eqb _ _ c.if-g-eq1.true)
 
 pub drives-requires : goal.drives-requires
 drives-requires c = rw c.signal_of.ensures (signal-lt c.args.g 65536 (omega arith) c.requires)
 
 pub returns-then-drives : goal.returns-then-drives
 unfolding is_released
-returns-then-drives c = rw (c.if-not-g.false, ne_eqb _ _ c.if-g-eq1.false, ap drives (sym c.signal_of.ensures) ∙ sym c.drives.ensures ∙ c.if-drives.true)
+returns-then-drives c = rw (not-false c.args.g.cfg.open_drain c.if-not-g.false, ne_eqb _ _ c.if-g-eq1.false, ap drives (sym c.signal_of.ensures) ∙ sym c.drives.ensures ∙ c.if-drives.true)
 
 pub returns : goal.returns
 unfolding is_released
-returns c = rw (c.if-not-g.false, ne_eqb _ _ c.if-g-eq1.false, ap drives (sym c.signal_of.ensures) ∙ sym c.drives.ensures ∙ c.if-drives.false)
+returns c = rw (not-false c.args.g.cfg.open_drain c.if-not-g.false, ne_eqb _ _ c.if-g-eq1.false, ap drives (sym c.signal_of.ensures) ∙ sym c.drives.ensures ∙ c.if-drives.false)

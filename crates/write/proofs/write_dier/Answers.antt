@@ -1,0 +1,9 @@
+-- The register stored, then the line.
+use Rattle.mmio.proofs.Laws.{of-eight}
+use Rattle.write.proofs.Laws.{dier-gives}
+use borrow.Author.Rules.{rules}
+use Rattle.write.proofs.write_dier.Goals as goal
+
+pub returns : goal.returns
+returns c =
+    λ x. dier-gives c.args.words.now x c.args.i c.args.v c.args.cycle _ _ _ (of-eight c.args.words.now x c.args.i c.requires) (c.settle_line_at.ensures x) (c.set_last.ensures x) _ c.kept.ensures (c.set_reg.ensures x)
