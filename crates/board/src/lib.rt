@@ -2,6 +2,7 @@
 // call's own numbers are passed in registers. Each answers and leaves what the machine's `step` gives, for every argument and every
 // content of the arrays.
 #![tactic(auto)]
+
 ghost use Rattle.std.specs.Prelude.{◌≡◌, Float};
 ghost use Rattle.book.specs.Book.{places, Holds, slices};
 ghost use Rattle.state.specs.View.{view};

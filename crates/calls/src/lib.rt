@@ -1,5 +1,6 @@
 // Calls as words of 32 bits (docs/CALLS.md's order): each is performed as the machine's `step` says.
 #![tactic(auto)]
+
 ghost use Rattle.std.specs.Prelude.{◌≡◌, ◌||◌, [], ◌∷◌, ◌+◌, ◌*◌, ◌<◌, ◌≤◌, eqb, length};
 ghost use Rattle.std.specs.Float.Ieee as Ieee;
 ghost use Rattle.std.proofs.lemmas.List.Edits.{sets};

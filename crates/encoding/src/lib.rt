@@ -1,5 +1,6 @@
 // Calls as words of 32 bits (docs/CALLS.md's order): their arguments and their lengths.
 #![tactic(auto)]
+
 ghost use Rattle.std.specs.Prelude.{◌≡◌, ◌+◌, ◌*◌, ◌<◌};
 ghost use Rattle.std.specs.Float.Ieee as Ieee;
 ghost use Rattle.encoding.specs.Encoding as E;

@@ -1,5 +1,6 @@
 // A line of the call list, byte by byte, to an encoded call. The state is lent, so lines may be of any length.
 #![tactic(auto)]
+
 use text::{Number, Reading};
 
 // Places of the state: the number of the line; 0 before the first word, 1 in it, 2 between numbers, 3 in a number, 4 in `manual`, 5 in bytes; whether a

@@ -1,5 +1,6 @@
 // Functions below the calls, exported for measurement alone (bench/).
 #![tactic(auto)]
+
 ghost use Rattle.std.specs.Prelude.{◌≡◌, List, ◌%◌, Float};
 ghost use Rattle.state.specs.View.{view};
 ghost use Rattle.machine.specs.Board.{timer_at, with_timer, with_pads};

@@ -1,0 +1,7 @@
+-- The sum of its parts.
+use borrow.Author.Rules.{rules}
+use Rattle.encoding.specs.Encoding as E
+use Rattle.encoding.proofs.set_up_size.Goals as goal
+
+pub returns : goal.returns
+returns c = rw (c.word-n.ensures, c.word-len.ensures)
