@@ -49,7 +49,7 @@ def clauses(top):
             text = open(os.path.join(src, f), encoding="utf-8").read()
             for m in re.finditer(r"\bfn (\w+)(?=[<(])(.*?)\n\s*\{\s*\n", text, re.S):
                 sig = m[2]
-                SLICES[f"{crate}::{m[1]}"] = re.findall(r"(\w+): &(?:'\w+ )?mut \[[^;\]]*\]", sig)
+                SLICES[f"{crate}::{m[1]}"] = re.findall(r"(\w+): &", sig)
                 CLAUSES[f"{crate}::{m[1]}"] = (re.findall(r"^\s*requires (\w+) \{", sig, re.M), re.findall(r"^\s*ensures (\w+) \{", sig, re.M))
 
 
@@ -187,8 +187,14 @@ def turn_body(fn, place, wrapped, body):
             rest[1] = rest[1].replace("-", "_")
         if head in FLAT and head != "requires":
             return ".".join(["c"] + rest)
-        if head == "requires" and len(rest) > 1 and rest[1].isdigit() and int(rest[1]) < len(fn.own[0]):
-            rest[1] = fn.own[0][int(rest[1])]
+        if head == "requires" and len(rest) > 1 and rest[1].isdigit() and len(fn.own[0]) > 1:
+            ns, k, k2 = fn.own[0], 0, 1
+            while k2 < len(rest) and rest[k2] == "1" and k < len(ns) - 1:
+                k += 1
+                k2 += 1
+            if k < len(ns) - 1:
+                k2 += k2 < len(rest) and rest[k2] == "0"
+            rest[1:k2] = [ns[k]]
         got = None if head in FLAT else fn.arm(place, rest)
         if got:
             return ".".join(["c"] + got)

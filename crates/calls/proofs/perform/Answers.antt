@@ -5,7 +5,7 @@ use Rattle.calls.proofs.Laws.{books-as, bookless, size_fits, with-book, with-cha
 use Rattle.calls.proofs.perform.Goals as goal
 
 pub returns-then-has_book : goal.returns-then-has_book
-returns-then-has_book c = let both = books-as _ _ (with-book c.args.calls.now _ _ c.word-op.ensures _ c.has_book.ensures c.if-has_book.true) _ _ _ _ _ _ _ _ c.book_call.ensures in record { answers = both.0; holds = both.1 }
+returns-then-has_book c = let both = books-as _ _ (with-book c.args.calls.now _ _ c.word-op.ensures _ c.has_book.ensures c.if-has_book.true) _ _ _ _ _ _ _ _ (c.book_call.ensures.answers, c.book_call.ensures.holds) in record { answers = both.0; holds = both.1 }
 
 pub change-requires : goal.change-requires
 change-requires c = size_fits c.args.calls.now _ c.word-op.ensures c.requires

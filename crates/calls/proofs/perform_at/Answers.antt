@@ -44,16 +44,16 @@ pub perform-requires : goal.perform-requires
 perform-requires c = c.requires.calls_in_bounds
 
 pub shape_of-pins : goal.shape_of-pins
-shape_of-pins c = whole_length c.args.at c.args.end _ c.perform.new.1.1.1.0 (omega (arith, c.requires)) (omega (arith, c.requires)) c.perform.auto.sources
+shape_of-pins c = whole_length c.args.at c.args.end _ c.perform.new.pins (omega (arith, c.requires)) (omega (arith, c.requires)) c.perform.auto.pins
 
 pub shape_of-levels : goal.shape_of-levels
-shape_of-levels c = whole_length c.args.at c.args.end _ c.perform.new.1.1.1.1.0 (omega (arith, c.requires)) (omega (arith, c.requires)) c.perform.auto.1.1.1.1.0
+shape_of-levels c = whole_length c.args.at c.args.end _ c.perform.new.levels (omega (arith, c.requires)) (omega (arith, c.requires)) c.perform.auto.levels
 
 pub shape_of-cycles : goal.shape_of-cycles
-shape_of-cycles c = whole_length c.args.at c.args.end _ c.perform.new.1.1.1.1.1.0 (omega (arith, c.requires)) (omega (arith, c.requires)) c.perform.auto.1.1.1.1.1.0
+shape_of-cycles c = whole_length c.args.at c.args.end _ c.perform.new.cycles (omega (arith, c.requires)) (omega (arith, c.requires)) c.perform.auto.cycles
 
 pub shape_of-sources : goal.shape_of-sources
-shape_of-sources c = whole_length c.args.at c.args.end _ c.perform.new.1.1.1.1.1.1.0 (omega (arith, c.requires)) (omega (arith, c.requires)) c.perform.auto.1.1.1.1.1.1.0
+shape_of-sources c = whole_length c.args.at c.args.end _ c.perform.new.sources (omega (arith, c.requires)) (omega (arith, c.requires)) c.perform.auto.sources
 
 pub returns : goal.returns
-returns c = let both = part-does c.args.calls.now _ _ _ _ _ _ _ _ _ _ c.requires.calls_value.0 c.requires.calls_value.1 c.perform.ensures in record { answers = both.0; count_after = both.1 }
+returns c = let both = part-does c.args.calls.now _ _ _ _ _ _ _ _ _ _ c.requires.calls_value.0 c.requires.calls_value.1 (c.perform.ensures.answers, c.perform.ensures.holds) in record { answers = both.0; count_after = both.1 }
