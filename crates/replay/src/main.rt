@@ -5,6 +5,7 @@ use line::{AT, ENCODED, LINE, OP, STATE, USED, WIDE, WORD};
 use reply::OUT;
 use settings::{Read, Stored};
 use state::{REALS, WORDS};
+use std::io;
 
 // 100,001 events make at most four entries each: a longer book never matters.
 const PLACES: usize = 400004;
@@ -16,6 +17,9 @@ const PILOT: u64 = 19;
 const WRITTEN: usize = 15;
 
 const BYTES: usize = 65537;
+
+// How much of the list is read at once.
+const PART: usize = 65536;
 
 // What a turn leads to: the next, the end of the run, or the end because the list cannot be read.
 const MORE: u8 = 0;
@@ -39,6 +43,7 @@ fn lent(op: u64, wide: u64) -> usize {
 
 // Runs a call with its book, and writes its answer.
 fn run(
+    rt: &impl Print,
     words: &mut [u64; WORDS],
     reals: &mut [f64; REALS],
     call: &[u32],
@@ -60,7 +65,17 @@ fn run(
         cycles,
         sources,
     );
-    reply::answer(out, n, &answers, pins, levels, cycles, sources, ran.entries)
+    reply::answer(
+        rt,
+        out,
+        n,
+        &answers,
+        pins,
+        levels,
+        cycles,
+        sources,
+        ran.entries,
+    )
 }
 
 // The call asks for as many places as it is lent: its last number.
@@ -78,6 +93,7 @@ fn ask(call: &mut [u32; ENCODED], op: u64, length: usize, places: usize) {
 
 // Lends the call's words and its places of the book.
 fn lend(
+    rt: &impl Print,
     words: &mut [u64; WORDS],
     reals: &mut [f64; REALS],
     call: &[u32],
@@ -106,6 +122,7 @@ fn lend(
         return n;
     }
     run(
+        rt,
         words,
         reals,
         &call[..length],
@@ -119,11 +136,11 @@ fn lend(
 }
 
 // The setting at place K of the pilots up to N (document 02, F-9).
-fn pilot(n: u32, k: u32, out: &mut [u8; OUT], used: usize) -> usize {
+fn pilot(rt: &impl Print, n: u32, k: u32, out: &mut [u8; OUT], used: usize) -> usize {
     let p = small::pilot(n, k);
     let answer = [p.number as u64, 0, 0];
     if p.number != 0 {
-        return reply::plain(out, used, &answer);
+        return reply::plain(rt, out, used, &answer);
     }
     let setting = [
         p.reload as u64,
@@ -132,7 +149,7 @@ fn pilot(n: u32, k: u32, out: &mut [u8; OUT], used: usize) -> usize {
         p.mode as u64,
         p.down as u64,
     ];
-    reply::numbers(out, used, &answer, &setting)
+    reply::numbers(rt, out, used, &answer, &setting)
 }
 
 fn joined(low: u32, high: u32) -> u64 {
@@ -170,15 +187,22 @@ fn store(call: &[u32; ENCODED], places: &mut [u8], n: usize) -> Stored {
 }
 
 // The record as it was written.
-fn written(places: &[u8], answer: &[u64; 3], n: usize, out: &mut [u8; OUT], used: usize) -> usize {
+fn written(
+    rt: &impl Print,
+    places: &[u8],
+    answer: &[u64; 3],
+    n: usize,
+    out: &mut [u8; OUT],
+    used: usize,
+) -> usize {
     if places.len() < n {
         return used;
     }
-    reply::bytes(out, used, answer, &places[..n])
+    reply::bytes(rt, out, used, answer, &places[..n])
 }
 
 // The writer of records (document 02, F-10), lent as many of the line's places as a record can need.
-fn record(call: &[u32; ENCODED], out: &mut [u8; OUT], used: usize) -> usize {
+fn record(rt: &impl Print, call: &[u32; ENCODED], out: &mut [u8; OUT], used: usize) -> usize {
     let mut places = [0u8; WRITTEN];
     let asked = wide(call, 8);
     let n = if asked < 15 {
@@ -189,9 +213,9 @@ fn record(call: &[u32; ENCODED], out: &mut [u8; OUT], used: usize) -> usize {
     let s = store(call, &mut places, n);
     let answer = [s.number as u64, 0, s.count as u64];
     if s.number != 0 {
-        return reply::plain(out, used, &answer);
+        return reply::plain(rt, out, used, &answer);
     }
-    written(&places, &answer, s.count as usize, out, used)
+    written(rt, &places, &answer, s.count as usize, out, used)
 }
 
 fn take_byte(call: &[u32; ENCODED], bytes: &mut [u8; BYTES], i: usize) {
@@ -226,6 +250,7 @@ fn load(bytes: &[u8; BYTES], n: usize, kind_1: bool) -> Read {
 
 // The readers of records: the bytes are the call's words behind its number.
 fn unrecord(
+    rt: &impl Print,
     call: &[u32; ENCODED],
     length: usize,
     kind_1: bool,
@@ -238,7 +263,7 @@ fn unrecord(
     let r = load(&bytes, n, kind_1);
     let answer = [r.number as u64, 0, 0];
     if r.number != 0 {
-        return reply::plain(out, used, &answer);
+        return reply::plain(rt, out, used, &answer);
     }
     let t = r.timer;
     let settings = [
@@ -251,21 +276,29 @@ fn unrecord(
         t.irq as u64,
         t.manual as u64,
     ];
-    reply::numbers(out, used, &answer, &settings)
+    reply::numbers(rt, out, used, &answer, &settings)
 }
 
 // A line that asks the board nothing.
-fn aside(op: u64, call: &[u32; ENCODED], length: usize, out: &mut [u8; OUT], used: usize) -> usize {
+fn aside(
+    rt: &impl Print,
+    op: u64,
+    call: &[u32; ENCODED],
+    length: usize,
+    out: &mut [u8; OUT],
+    used: usize,
+) -> usize {
     match op {
-        19 => pilot(call[1], call[2], out, used),
-        20 => record(call, out, used),
-        21 => unrecord(call, length, false, out, used),
-        _ => unrecord(call, length, true, out, used),
+        19 => pilot(rt, call[1], call[2], out, used),
+        20 => record(rt, call, out, used),
+        21 => unrecord(rt, call, length, false, out, used),
+        _ => unrecord(rt, call, length, true, out, used),
     }
 }
 
 // A line is complete: a call is answered, a reason is told. Whether the run goes on: not when a write has failed.
 fn act(
+    rt: &impl Print,
     event: u8,
     state: &mut [u64; STATE],
     call: &mut [u32; ENCODED],
@@ -282,19 +315,19 @@ fn act(
         let length = line::size(state[AT]);
         let op = state[OP];
         if PILOT <= op {
-            let p = aside(op, call, length, out, used);
+            let p = aside(rt, op, call, length, out, used);
             state[USED] = p as u64;
             return reply::whole(p);
         }
         let places = lent(op, state[WIDE]);
         ask(call, op, length, places);
         let n = lend(
-            words, reals, call, length, pins, levels, cycles, sources, places, out, used,
+            rt, words, reals, call, length, pins, levels, cycles, sources, places, out, used,
         );
         state[USED] = n as u64;
         return reply::whole(n);
     }
-    let m = reply::malformed(out, used, state[LINE], event);
+    let m = reply::malformed(rt, out, used, state[LINE], event);
     state[USED] = m as u64;
     line::leave(state);
     false
@@ -302,6 +335,7 @@ fn act(
 
 // Takes the bytes of a part of the list. Whether the run goes on.
 fn pass(
+    rt: &impl Print,
     part: &[u8],
     state: &mut [u64; STATE],
     word: &mut [u8; WORD],
@@ -319,7 +353,7 @@ fn pass(
         let e = line::feed(state, word, call, part[i]);
         if e != line::GO_ON {
             if !act(
-                e, state, call, words, reals, pins, levels, cycles, sources, out,
+                rt, e, state, call, words, reals, pins, levels, cycles, sources, out,
             ) {
                 return false;
             }
@@ -331,6 +365,8 @@ fn pass(
 
 // Reads a part of the list and takes it.
 fn turn(
+    rt: &impl Print,
+    input: &mut impl io::Read,
     state: &mut [u64; STATE],
     word: &mut [u8; WORD],
     call: &mut [u32; ENCODED],
@@ -342,16 +378,16 @@ fn turn(
     sources: &mut [u8; PLACES],
     out: &mut [u8; OUT],
 ) -> u8 {
-    let mut part = io::large_buffer();
-    let got = libc::read(0, &mut part);
-    if got < 0 {
-        return UNREAD;
-    }
-    if got == 0 {
+    let mut part = [0u8; PART];
+    let n = match input.read(&mut part) {
+        Ok(n) => n,
+        Err(_) => return UNREAD,
+    };
+    if n == 0 {
         return END;
     }
-    let n = io::count(got, &part);
     if pass(
+        rt,
         &part[..n],
         state,
         word,
@@ -371,6 +407,7 @@ fn turn(
 
 // The line that the list ends in, perhaps an empty one.
 fn last(
+    rt: &impl Print,
     state: &mut [u64; STATE],
     word: &mut [u8; WORD],
     call: &mut [u32; ENCODED],
@@ -385,14 +422,19 @@ fn last(
     let e = line::line_end(state, word, call);
     if e != line::GO_ON {
         act(
-            e, state, call, words, reals, pins, levels, cycles, sources, out,
+            rt, e, state, call, words, reals, pins, levels, cycles, sources, out,
         );
     }
 }
 
-// The list has ended. What could not be read or written is told on standard error: the
-// language has no exit status.
+// Tells something on standard error, if that can be written.
+fn tell(rt: &impl Eprint, text: &str) {
+    let _ = rt.eprint(text);
+}
+
+// The list has ended. What could not be read or written is told on standard error, and the exit status is 0 all the same.
 fn finish(
+    rt: &(impl Print + Eprint),
     told: u8,
     state: &mut [u64; STATE],
     word: &mut [u8; WORD],
@@ -406,20 +448,20 @@ fn finish(
     out: &mut [u8; OUT],
 ) {
     if told == UNREAD {
-        io::write_all(2, b"replay: a read failed: the list ends before its end\n");
+        tell(rt, "replay: a read failed: the list ends before its end\n");
     } else {
         last(
-            state, word, call, words, reals, pins, levels, cycles, sources, out,
+            rt, state, word, call, words, reals, pins, levels, cycles, sources, out,
         );
     }
-    if !reply::flush(out, line::size(state[USED])) {
-        io::write_all(2, b"replay: a write failed: answers are missing\n");
+    if !reply::flush(rt, out, line::size(state[USED])) {
+        tell(rt, "replay: a write failed: answers are missing\n");
     }
 }
 
 // A proved loop has to end, and nothing says that a list does. So the loop counts its turns down from a number that no run
 // uses up.
-fn main() {
+fn main(rt: HostRuntime) {
     let mut state = [0u64; STATE];
     state[LINE] = 1;
     let mut word = [0u8; WORD];
@@ -432,10 +474,13 @@ fn main() {
     let mut sources = [0u8; PLACES];
     let mut out = [0u8; OUT];
     blank::clear(&mut words, &mut reals, 1.0, 1.0);
+    let mut input = rt.stdin();
     let mut told = MORE;
     let mut turns = u64::MAX;
     while turns > 0 && told == MORE {
         told = turn(
+            &rt,
+            &mut input,
             &mut state,
             &mut word,
             &mut call,
@@ -450,6 +495,7 @@ fn main() {
         turns -= 1;
     }
     finish(
+        &rt,
         told,
         &mut state,
         &mut word,

@@ -1,5 +1,7 @@
 // An answer as text, by way of a buffer that is written out when it is nearly full.
 #![tactic(auto)]
+
+use std::io::Print;
 use text::Written;
 
 pub const OUT: usize = 65536;
@@ -11,9 +13,9 @@ const LOST: usize = 65537;
 const PIECE: usize = 64;
 
 // Writes out what is in the buffer. Whether everything is written.
-pub fn flush(out: &[u8], n: usize) -> bool {
+pub fn flush(rt: &impl Print, out: &[u8], n: usize) -> bool {
     if n <= out.len() {
-        return io::write_all(1, &out[..n]);
+        return rt.write_all(&out[..n]).is_ok();
     }
     false
 }
@@ -24,11 +26,11 @@ pub fn whole(n: usize) -> bool {
 }
 
 // Makes room for a piece.
-fn room(out: &[u8; OUT], n: usize) -> usize {
+fn room(rt: &impl Print, out: &[u8; OUT], n: usize) -> usize {
     if n <= OUT - PIECE {
         return n;
     }
-    if flush(out, n) {
+    if flush(rt, out, n) {
         return 0;
     }
     LOST
@@ -52,8 +54,16 @@ pub fn number(out: &mut [u8; OUT], n: usize, x: u64) -> usize {
 }
 
 // ` PIN:LEVEL@CYCLE/SOURCE`
-fn entry(out: &mut [u8; OUT], n: usize, pin: u8, level: u8, cycle: u64, source: u8) -> usize {
-    let a = room(out, n);
+fn entry(
+    rt: &impl Print,
+    out: &mut [u8; OUT],
+    n: usize,
+    pin: u8,
+    level: u8,
+    cycle: u64,
+    source: u8,
+) -> usize {
+    let a = room(rt, out, n);
     let b = put(out, a, b' ');
     let c = number(out, b, pin as u64);
     let d = put(out, c, b':');
@@ -65,8 +75,8 @@ fn entry(out: &mut [u8; OUT], n: usize, pin: u8, level: u8, cycle: u64, source: 
 }
 
 // `NUMBER VALUE COUNT`
-fn head(out: &mut [u8; OUT], n: usize, answer: &[u64; 3]) -> usize {
-    let a = room(out, n);
+fn head(rt: &impl Print, out: &mut [u8; OUT], n: usize, answer: &[u64; 3]) -> usize {
+    let a = room(rt, out, n);
     let b = number(out, a, answer[0]);
     let c = put(out, b, b' ');
     let d = number(out, c, answer[1]);
@@ -76,6 +86,7 @@ fn head(out: &mut [u8; OUT], n: usize, answer: &[u64; 3]) -> usize {
 
 // The entry at a place of the book.
 fn entry_at(
+    rt: &impl Print,
     out: &mut [u8; OUT],
     n: usize,
     pins: &[u8],
@@ -96,11 +107,12 @@ fn entry_at(
     if sources.len() <= i {
         return n;
     }
-    entry(out, n, pins[i], levels[i], cycles[i], sources[i])
+    entry(rt, out, n, pins[i], levels[i], cycles[i], sources[i])
 }
 
 // An answer's line.
 pub fn answer(
+    rt: &impl Print,
     out: &mut [u8; OUT],
     n: usize,
     answer: &[u64; 3],
@@ -110,39 +122,45 @@ pub fn answer(
     sources: &[u8],
     entries: usize,
 ) -> usize {
-    let mut at = head(out, n, answer);
+    let mut at = head(rt, out, n, answer);
     let mut i = 0;
     while i < entries {
-        at = entry_at(out, at, pins, levels, cycles, sources, i);
+        at = entry_at(rt, out, at, pins, levels, cycles, sources, i);
         i += 1;
     }
-    let last = room(out, at);
+    let last = room(rt, out, at);
     put(out, last, b'\n')
 }
 
 // The line of an answer that is its three numbers.
-pub fn plain(out: &mut [u8; OUT], n: usize, answer: &[u64; 3]) -> usize {
-    let at = head(out, n, answer);
-    let last = room(out, at);
+pub fn plain(rt: &impl Print, out: &mut [u8; OUT], n: usize, answer: &[u64; 3]) -> usize {
+    let at = head(rt, out, n, answer);
+    let last = room(rt, out, at);
     put(out, last, b'\n')
 }
 
 // ` NUMBER`
-fn another(out: &mut [u8; OUT], n: usize, x: u64) -> usize {
-    let a = room(out, n);
+fn another(rt: &impl Print, out: &mut [u8; OUT], n: usize, x: u64) -> usize {
+    let a = room(rt, out, n);
     let b = put(out, a, b' ');
     number(out, b, x)
 }
 
 // The line of an answer that has numbers behind its three and no entries.
-pub fn numbers(out: &mut [u8; OUT], n: usize, answer: &[u64; 3], more: &[u64]) -> usize {
-    let mut at = head(out, n, answer);
+pub fn numbers(
+    rt: &impl Print,
+    out: &mut [u8; OUT],
+    n: usize,
+    answer: &[u64; 3],
+    more: &[u64],
+) -> usize {
+    let mut at = head(rt, out, n, answer);
     let mut i = 0;
     while i < more.len() {
-        at = another(out, at, more[i]);
+        at = another(rt, out, at, more[i]);
         i += 1;
     }
-    let last = room(out, at);
+    let last = room(rt, out, at);
     put(out, last, b'\n')
 }
 
@@ -152,28 +170,34 @@ fn hex_digit(d: u8) -> u8 {
     if e < 10 { 48 + e } else { 87 + e }
 }
 
-fn hex(out: &mut [u8; OUT], n: usize, b: u8) -> usize {
-    let a = room(out, n);
+fn hex(rt: &impl Print, out: &mut [u8; OUT], n: usize, b: u8) -> usize {
+    let a = room(rt, out, n);
     let c = put(out, a, hex_digit(b / 16));
     put(out, c, hex_digit(b))
 }
 
 // The line of an answer whose count is that of the bytes behind its three numbers.
-pub fn bytes(out: &mut [u8; OUT], n: usize, answer: &[u64; 3], bytes: &[u8]) -> usize {
-    let a = head(out, n, answer);
+pub fn bytes(
+    rt: &impl Print,
+    out: &mut [u8; OUT],
+    n: usize,
+    answer: &[u64; 3],
+    bytes: &[u8],
+) -> usize {
+    let a = head(rt, out, n, answer);
     let mut at = put(out, a, b' ');
     let mut i = 0;
     while i < bytes.len() {
-        at = hex(out, at, bytes[i]);
+        at = hex(rt, out, at, bytes[i]);
         i += 1;
     }
-    let last = room(out, at);
+    let last = room(rt, out, at);
     put(out, last, b'\n')
 }
 
 // A text of few bytes.
-fn words(out: &mut [u8; OUT], n: usize, s: &[u8]) -> usize {
-    let mut at = room(out, n);
+fn words(rt: &impl Print, out: &mut [u8; OUT], n: usize, s: &[u8]) -> usize {
+    let mut at = room(rt, out, n);
     let mut i = 0;
     while i < s.len() {
         at = put(out, at, s[i]);
@@ -183,15 +207,15 @@ fn words(out: &mut [u8; OUT], n: usize, s: &[u8]) -> usize {
 }
 
 // `line N: ` and the reason.
-pub fn malformed(out: &mut [u8; OUT], n: usize, line: u64, reason: u8) -> usize {
-    let a = words(out, n, b"line ");
+pub fn malformed(rt: &impl Print, out: &mut [u8; OUT], n: usize, line: u64, reason: u8) -> usize {
+    let a = words(rt, out, n, b"line ");
     let b = number(out, a, line);
-    let c = words(out, b, b": ");
+    let c = words(rt, out, b, b": ");
     match reason {
-        2 => words(out, c, b"unknown word\n"),
-        3 => words(out, c, b"missing number\n"),
-        4 => words(out, c, b"surplus number\n"),
-        5 => words(out, c, b"not a number\n"),
-        _ => words(out, c, b"number too large\n"),
+        2 => words(rt, out, c, b"unknown word\n"),
+        3 => words(rt, out, c, b"missing number\n"),
+        4 => words(rt, out, c, b"surplus number\n"),
+        5 => words(rt, out, c, b"not a number\n"),
+        _ => words(rt, out, c, b"number too large\n"),
     }
 }

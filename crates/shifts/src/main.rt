@@ -1,8 +1,10 @@
 // The duty report for a shift (docs/CALLS.md): the line `FROM TO W0 W1 W2 W3`, then entries `PIN:LEVEL@CYCLE`, with or without `/SOURCE`, as
 // `replay` writes them: an answer's three numbers before its entries are passed over. Each entry is fed by itself, so memory stays constant.
 #![tactic(auto)]
+
 use reply::OUT;
 use shift::{FIGURES, KEPT};
+use std::io::Read;
 use text::{Number, Reading};
 
 // Places of the state: the number of the line; whether a comment runs, a carriage return waits, a word runs.
@@ -51,6 +53,9 @@ const TOO_LARGE: u8 = 6;
 const END: u8 = 255;
 
 const UNREAD: u8 = 254;
+
+// How much of the input is read at once.
+const BYTES: usize = 65536;
 
 const SHORT: u64 = 4294967295;
 
@@ -377,6 +382,7 @@ fn report(kept: &[u64; KEPT], out: &mut [u8; OUT]) -> usize {
 
 // The input has ended, perhaps in the middle of a line, or was wrong before: what there is to write.
 fn told(
+    rt: &impl Print,
     reason: u8,
     state: &mut [u64; STATE],
     first: &mut [u64; 6],
@@ -384,21 +390,27 @@ fn told(
     out: &mut [u8; OUT],
 ) -> usize {
     if reason != GO_ON {
-        return reply::malformed(out, 0, state[LINE], reason);
+        return reply::malformed(rt, out, 0, state[LINE], reason);
     }
     let line = state[LINE];
     let e = line_end(state, first, kept);
     if e != GO_ON {
-        return reply::malformed(out, 0, line, e);
+        return reply::malformed(rt, out, 0, line, e);
     }
     if state[BEGUN] == 0 {
-        return reply::malformed(out, 0, line, MISSING);
+        return reply::malformed(rt, out, 0, line, MISSING);
     }
     report(kept, out)
 }
 
+// Tells something on standard error, if that can be written.
+fn tell(rt: &impl Eprint, text: &str) {
+    let _ = rt.eprint(text);
+}
+
 // A report of a part of the input would be a wrong one: if it cannot be read to its end there is none.
 fn finish(
+    rt: &(impl Print + Eprint),
     reason: u8,
     state: &mut [u64; STATE],
     first: &mut [u64; 6],
@@ -406,45 +418,50 @@ fn finish(
     out: &mut [u8; OUT],
 ) {
     if reason == UNREAD {
-        io::write_all(2, b"shifts: a read failed: there is no report\n");
+        tell(rt, "shifts: a read failed: there is no report\n");
         return;
     }
-    let n = told(reason, state, first, kept, out);
-    if !reply::flush(out, n) {
-        io::write_all(2, b"shifts: a write failed: the report is not whole\n");
+    let n = told(rt, reason, state, first, kept, out);
+    if !reply::flush(rt, out, n) {
+        tell(rt, "shifts: a write failed: the report is not whole\n");
     }
 }
 
 // Reads a part of the input and takes it: GO_ON, END, UNREAD, or a reason.
-fn turn(state: &mut [u64; STATE], first: &mut [u64; 6], kept: &mut [u64; KEPT]) -> u8 {
-    let mut part = io::large_buffer();
-    let got = libc::read(0, &mut part);
-    if got < 0 {
-        return UNREAD;
-    }
-    if got == 0 {
+fn turn(
+    input: &mut impl Read,
+    state: &mut [u64; STATE],
+    first: &mut [u64; 6],
+    kept: &mut [u64; KEPT],
+) -> u8 {
+    let mut part = [0u8; BYTES];
+    let n = match input.read(&mut part) {
+        Ok(n) => n,
+        Err(_) => return UNREAD,
+    };
+    if n == 0 {
         return END;
     }
-    let n = io::count(got, &part);
     pass(&part[..n], state, first, kept)
 }
 
 // A proved loop has to end, and nothing says that the input does. So the loop counts its turns down from a number that no run
 // uses up.
-fn main() {
+fn main(rt: HostRuntime) {
     let mut state = [0u64; STATE];
     state[LINE] = 1;
     let mut first = [0u64; 6];
     let mut kept = [0u64; KEPT];
     let mut out = [0u8; OUT];
+    let mut input = rt.stdin();
     let mut reason = GO_ON;
     let mut turns = u64::MAX;
     while turns > 0 && reason == GO_ON {
-        reason = turn(&mut state, &mut first, &mut kept);
+        reason = turn(&mut input, &mut state, &mut first, &mut kept);
         turns -= 1;
     }
     if reason == END {
         reason = GO_ON;
     }
-    finish(reason, &mut state, &mut first, &mut kept, &mut out);
+    finish(&rt, reason, &mut state, &mut first, &mut kept, &mut out);
 }
