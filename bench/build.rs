@@ -1,4 +1,4 @@
-//! Finds the archive of the measured inner functions: in BOARD_LIB_DIR if that is set, else where `rt staticlib probe` writes it.
+//! Finds the archive of the measured inner functions: in BOARD_LIB_DIR if that is set, else where `.ci/libraries probe` writes it.
 
 use std::env;
 use std::path::PathBuf;
@@ -13,7 +13,7 @@ fn main() {
     let lib = dir.join("libprobe.a");
     println!("cargo:rerun-if-changed={}", lib.display());
     if !lib.is_file() {
-        eprintln!("\n{} is not there.\nRun `rt staticlib probe` in the repository's root, or set BOARD_LIB_DIR to the folder that has libprobe.a.\n", lib.display());
+        eprintln!("\n{} is not there.\nRun `.ci/libraries probe` in the repository's root, or set BOARD_LIB_DIR to the folder that has libprobe.a.\n", lib.display());
         std::process::exit(1);
     }
     let dir = dir.canonicalize().unwrap_or(dir);

@@ -2,10 +2,10 @@
  * The proved pilot timer from C: a board of timers and pins and a test desk's list of pilots (libboard.a), the duty report of a shift
  * (libshift.a), and timers' settings as records (libsettings.a).
  *
- *     rt staticlib board && rt staticlib shift && rt staticlib settings
+ *     .ci/libraries
  *     cc -std=c11 -Iinclude program.c target/staticlib/libboard.a target/staticlib/libshift.a target/staticlib/libsettings.a
  *
- * The archives are for x86-64 Linux and need memset of the C library alone. examples/pilot.c is a whole program, examples/record.c another of records.
+ * The archives are for x86-64 Linux and need memcpy and memset of the C library alone. examples/pilot.c is a whole program, examples/record.c another of records.
  *
  * Memory. All of it is the caller's: the library has none of its own, allocates nothing and keeps no pointer. So boards have nothing to do with
  * each other and may be used on different threads; calls on one board are made one at a time.

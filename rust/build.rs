@@ -1,4 +1,4 @@
-//! Finds the static libraries: in BOARD_LIB_DIR if that is set, else where `rt staticlib` writes them.
+//! Finds the static libraries: in BOARD_LIB_DIR if that is set, else where `.ci/libraries` writes them.
 
 use std::env;
 use std::path::PathBuf;
@@ -14,7 +14,7 @@ fn main() {
         let lib = dir.join(format!("lib{name}.a"));
         println!("cargo:rerun-if-changed={}", lib.display());
         if !lib.is_file() {
-            eprintln!("\n{} is not there.\nRun `rt staticlib {name}` in the repository's root, or set BOARD_LIB_DIR to the folder that has it.\n", lib.display());
+            eprintln!("\n{} is not there.\nRun `.ci/libraries {name}` in the repository's root, or set BOARD_LIB_DIR to the folder that has it.\n", lib.display());
             std::process::exit(1);
         }
         println!("cargo:rustc-link-lib=static={name}");

@@ -140,7 +140,7 @@ pub struct Read {
     pub timer: Settings,
 }
 
-// The exports of crates/board: tests/header.rs holds these declarations to them, and those of include/pilot_timer.h.
+// The exports of crates/board_c: tests/header.rs holds these declarations to them, and those of include/pilot_timer.h.
 unsafe extern "C" {
     safe fn board_words() -> usize;
     safe fn board_reals() -> usize;
@@ -168,7 +168,7 @@ unsafe extern "C" {
     safe fn small_pilot(n: u32, k: u32) -> Listed;
 }
 
-// The exports of crates/shift.
+// The exports of crates/shift_c.
 unsafe extern "C" {
     fn shift_begin(kept: *mut u64, words: *const u32, from: u64, to: u64);
     fn shift_feed(kept: *mut u64, pins: *const u8, pins_len: usize, levels: *const u8, levels_len: usize, cycles: *const u64, cycles_len: usize);
@@ -176,7 +176,7 @@ unsafe extern "C" {
     fn shift_report(figures: *mut u64, words: *const u32, from: u64, to: u64, pins: *const u8, pins_len: usize, levels: *const u8, levels_len: usize, cycles: *const u64, cycles_len: usize) -> Summary;
 }
 
-// The exports of crates/settings.
+// The exports of crates/settings_c.
 unsafe extern "C" {
     fn record_write(out: *mut u8, out_len: usize, number: u64, width: u64, channels: u64, bus: u64, word: u64, bit: u64, irq: u64, manual: u64) -> Stored;
     fn record_read(bytes: *const u8, bytes_len: usize) -> Read;

@@ -1,5 +1,5 @@
-//! include/pilot_timer.h and src/ffi.rs against the library: its sources, crates/board, crates/shift and crates/settings, and the archives that were made of
-//! them.
+//! include/pilot_timer.h and src/ffi.rs against the library: its sources, crates/board_c, crates/shift_c and crates/settings_c, and the archives that were
+//! made of them.
 
 use std::path::Path;
 use std::process::Command;
@@ -55,9 +55,9 @@ fn length(of: &str) -> String {
 
 fn sources() -> Vec<Function> {
     let mut functions = Vec::new();
-    for file in ["../crates/board/src/lib.rt", "../crates/shift/src/lib.rt", "../crates/settings/src/lib.rt"] {
+    for file in ["../crates/board_c/src/lib.rt", "../crates/shift_c/src/lib.rt", "../crates/settings_c/src/lib.rt"] {
         let file = code(&text(file));
-        for f in file.split("#[no_mangle]\npub extern \"C\" fn ").skip(1) {
+        for f in file.split("#[unsafe(no_mangle)]\npub extern \"C\" fn ").skip(1) {
             let (name, rest) = f.split_once('(').unwrap();
             let (arguments, rest) = rest.split_once(')').unwrap();
             // The contract, or the body, ends the first line.
@@ -91,7 +91,7 @@ fn source_fields(name: &str) -> Vec<String> {
         _ => "shift",
     };
     let file = code(&text(&format!("../crates/{of}/src/lib.rt")));
-    let (fields, _) = between(&file, &format!("#[repr(C)]\npub struct {name} {{"), "}");
+    let (fields, _) = between(&file, &format!("#[repr(C)]\n#[derive(Clone, Copy)]\npub struct {name} {{"), "}");
     parts(fields).map(|f| f.trim_start_matches("pub ").to_owned()).collect()
 }
 
