@@ -6,6 +6,7 @@ use reply::OUT;
 use settings::{Read, Stored};
 use state::{REALS, WORDS};
 use std::io;
+use std::process::ExitCode;
 
 // 100,001 events make at most four entries each: a longer book never matters.
 const PLACES: usize = 400004;
@@ -432,7 +433,19 @@ fn tell(rt: &impl Eprint, text: &str) {
     let _ = rt.eprint(text);
 }
 
-// The list has ended. What could not be read or written is told on standard error, and the exit status is 0 all the same.
+// The run is over, with the buffer filled so far. What could not be written is told on standard error, and the exit status is 0 all the same. Where
+// nobody reads any more nothing is told, and the status is what a shell gives for a program that SIGPIPE ends.
+fn ended(rt: &impl Eprint, left: usize) -> ExitCode {
+    if reply::is_unread(left) {
+        return ExitCode::from(141);
+    }
+    if left != 0 {
+        tell(rt, "replay: a write failed: answers are missing\n");
+    }
+    ExitCode::SUCCESS
+}
+
+// The list has ended. That it could not be read is told on standard error.
 fn finish(
     rt: &(impl Print + Eprint),
     told: u8,
@@ -446,7 +459,7 @@ fn finish(
     cycles: &mut [u64; PLACES],
     sources: &mut [u8; PLACES],
     out: &mut [u8; OUT],
-) {
+) -> ExitCode {
     if told == UNREAD {
         tell(rt, "replay: a read failed: the list ends before its end\n");
     } else {
@@ -454,14 +467,12 @@ fn finish(
             rt, state, word, call, words, reals, pins, levels, cycles, sources, out,
         );
     }
-    if !reply::flush(rt, out, line::size(state[USED])) {
-        tell(rt, "replay: a write failed: answers are missing\n");
-    }
+    ended(rt, reply::send(rt, out, line::size(state[USED])))
 }
 
 // A proved loop has to end, and nothing says that a list does. So the loop counts its turns down from a number that no run
 // uses up.
-fn main(rt: HostRuntime) {
+fn main(rt: HostRuntime) -> ExitCode {
     let mut state = [0u64; STATE];
     state[LINE] = 1;
     let mut word = [0u8; WORD];
@@ -507,5 +518,5 @@ fn main(rt: HostRuntime) {
         &mut cycles,
         &mut sources,
         &mut out,
-    );
+    )
 }

@@ -1,7 +1,7 @@
 // An answer as text, by way of a buffer that is written out when it is nearly full.
 #![tactic(auto)]
 
-use std::io::Print;
+use std::io::{ErrorKind, Print};
 use text::Written;
 
 pub const OUT: usize = 65536;
@@ -9,15 +9,38 @@ pub const OUT: usize = 65536;
 // How far the buffer is filled once a write has failed: no piece fits any more, so the answers end there.
 const LOST: usize = 65537;
 
+// The same where nobody reads them any more.
+const UNREAD: usize = 65538;
+
 // More than any piece that is put into the buffer at once.
 const PIECE: usize = 64;
 
+// Writes out what is in the buffer: how far it is filled then.
+pub fn send(rt: &impl Print, out: &[u8], n: usize) -> usize {
+    if n <= out.len() {
+        return match rt.write_all(&out[..n]) {
+            Ok(()) => 0,
+            Err(e) => lost(e.kind()),
+        };
+    }
+    n
+}
+
+fn lost(kind: ErrorKind) -> usize {
+    if kind == ErrorKind::BrokenPipe {
+        return UNREAD;
+    }
+    LOST
+}
+
 // Writes out what is in the buffer. Whether everything is written.
 pub fn flush(rt: &impl Print, out: &[u8], n: usize) -> bool {
-    if n <= out.len() {
-        return rt.write_all(&out[..n]).is_ok();
-    }
-    false
+    send(rt, out, n) == 0
+}
+
+// Whether a write has found that nobody reads any more.
+pub fn is_unread(n: usize) -> bool {
+    n == UNREAD
 }
 
 // Whether no write has failed.
@@ -30,10 +53,7 @@ fn room(rt: &impl Print, out: &[u8; OUT], n: usize) -> usize {
     if n <= OUT - PIECE {
         return n;
     }
-    if flush(rt, out, n) {
-        return 0;
-    }
-    LOST
+    send(rt, out, n)
 }
 
 // One byte, and a number, at place n: the place behind.

@@ -5,6 +5,7 @@
 use reply::OUT;
 use shift::{FIGURES, KEPT};
 use std::io::Read;
+use std::process::ExitCode;
 use text::{Number, Reading};
 
 // Places of the state: the number of the line; whether a comment runs, a carriage return waits, a word runs.
@@ -408,6 +409,18 @@ fn tell(rt: &impl Eprint, text: &str) {
     let _ = rt.eprint(text);
 }
 
+// What could not be written is told on standard error, and the exit status is 0 all the same. Where nobody reads any more nothing is told, and the
+// status is what a shell gives for a program that SIGPIPE ends.
+fn ended(rt: &impl Eprint, left: usize) -> ExitCode {
+    if reply::is_unread(left) {
+        return ExitCode::from(141);
+    }
+    if left != 0 {
+        tell(rt, "shifts: a write failed: the report is not whole\n");
+    }
+    ExitCode::SUCCESS
+}
+
 // A report of a part of the input would be a wrong one: if it cannot be read to its end there is none.
 fn finish(
     rt: &(impl Print + Eprint),
@@ -416,15 +429,13 @@ fn finish(
     first: &mut [u64; 6],
     kept: &mut [u64; KEPT],
     out: &mut [u8; OUT],
-) {
+) -> ExitCode {
     if reason == UNREAD {
         tell(rt, "shifts: a read failed: there is no report\n");
-        return;
+        return ExitCode::SUCCESS;
     }
     let n = told(rt, reason, state, first, kept, out);
-    if !reply::flush(rt, out, n) {
-        tell(rt, "shifts: a write failed: the report is not whole\n");
-    }
+    ended(rt, reply::send(rt, out, n))
 }
 
 // Reads a part of the input and takes it: GO_ON, END, UNREAD, or a reason.
@@ -447,7 +458,7 @@ fn turn(
 
 // A proved loop has to end, and nothing says that the input does. So the loop counts its turns down from a number that no run
 // uses up.
-fn main(rt: HostRuntime) {
+fn main(rt: HostRuntime) -> ExitCode {
     let mut state = [0u64; STATE];
     state[LINE] = 1;
     let mut first = [0u64; 6];
@@ -463,5 +474,5 @@ fn main(rt: HostRuntime) {
     if reason == END {
         reason = GO_ON;
     }
-    finish(&rt, reason, &mut state, &mut first, &mut kept, &mut out);
+    finish(&rt, reason, &mut state, &mut first, &mut kept, &mut out)
 }
