@@ -1,0 +1,6 @@
+-- Byte by byte.
+use Rattle.std.proofs.Common.{◌-◌}
+use Rattle.replay.proofs.take.Given as goal
+
+abbrev pub decreases-loop-i : goal.decreases-loop-i
+decreases-loop-i l = l.n - l.i
