@@ -19,7 +19,7 @@ use Rattle.machine.proofs.Reach.{Spared, Calm, Rest}
 use Rattle.book.specs.Level.{level_at}
 use Rattle.accuracy.proofs.Levels.{Silent, level-append, Upward, upward-then}
 use Rattle.accuracy.proofs.Aim.{Aim, signal_of, due, Fixed, Phase, coming, in_period}
-use Rattle.accuracy.proofs.Drive.{wired-held, shown}
+use Rattle.accuracy.proofs.Drive.{wired-held}
 use Rattle.accuracy.proofs.Record.{Told}
 use Rattle.accuracy.proofs.Own.{Kept}
 

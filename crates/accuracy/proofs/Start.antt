@@ -7,7 +7,7 @@ use native.Mathlib.Nat.{mul-le-mul_right}
 use native.Mathlib.Omega.{arith}
 use lib.Dec.{eqb, ltb}
 use borrow.Author.Tests.{ltb-true, ltb-false}
-use lib.ListN.{get_or, set, length, get_or-eq_default}
+use lib.ListN.{get_or, length, get_or-eq_default}
 use Rattle.rm0440.specs.Bits.{DIR}
 use Rattle.rm0440.specs.Counter.{step_cycles}
 use Rattle.tim.specs.Next.{next_steps}

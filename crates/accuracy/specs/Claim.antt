@@ -1,7 +1,7 @@
 -- Demand 3, clause by clause. "After every list of the board's calls from the first board, however late the deliveries fell: a steady pilot in
 -- PWM mode 1 started upward holds H high cycles in any W consecutive cycles from the first update to the last full delivery, with
 -- H × P and W × D at most D × (P − D) apart. One claim about the list."
-use Rattle.std.specs.Prelude.{◌≡◌, Bool, true, false, cond, not, ◌&&◌, ◌||◌, List, [], ◌∷◌, ◌++◌, ℕ, zero, suc, ◌+◌, ◌-◌, ◌*◌, ◌≤◌, ◌<◌, min, eqb, leb, get_or}
+use Rattle.std.specs.Prelude.{◌≡◌, Bool, true, false, cond, not, ◌&&◌, ◌||◌, List, [], ◌∷◌, ◌++◌, ℕ, ◌+◌, ◌-◌, ◌*◌, ◌≤◌, ◌<◌, min, eqb, get_or}
 use Rattle.rm0440.specs.Bits.{CEN, OPM, DIR}
 use Rattle.rm0440.specs.Counter.{step_cycles}
 use Rattle.rm0440.specs.Output as Out

@@ -1,15 +1,12 @@
 -- The cleared words are the machine's board without timers, pins or lines. Assumes nothing.
-use mathlib.Core.Path.{◌≡◌, refl, ap, ◌∙◌}
-use mathlib.Core.List.{List, []}
+use mathlib.Core.Path.{◌≡◌, refl}
+use mathlib.Core.List.{[]}
 use Prim.Native.Nat.{ℕ}
 use lib.Ieee.{Float}
-use Rattle.tim.specs.declared.Timer.{Timer}
-use Rattle.gpio.specs.declared.Gpio.{Gpio}
-use Rattle.nvic.specs.Nvic.{Line}
 use Rattle.nvic.specs.Nvic.{idle}
 use Rattle.scheduler.specs.Booking.{never}
 use Rattle.codec.specs.Codec.{decode_timer}
-use Rattle.machine.specs.Board.{Board, no_timer, blank_gpio, fresh_board}
+use Rattle.machine.specs.Board.{no_timer, blank_gpio, fresh_board}
 use Rattle.blank.proofs.Blank.{blank_board}
 use Rattle.blank.proofs.Unrouted.{alike, idle-list}
 

@@ -1,12 +1,12 @@
 -- The words after the routes and the signal levels were made anew. Assumes nothing.
-use mathlib.Core.Path.{◌≡◌, refl, ap, sym, ◌∙◌}
+use mathlib.Core.Path.{◌≡◌, refl, ap, ◌∙◌}
 use mathlib.Core.Bool.{Bool, true, false, cond}
-use mathlib.Core.List.{List, [], ◌∷◌, map}
-use Prim.Native.Nat.{ℕ, zero, suc, ◌+◌, ◌%◌}
+use mathlib.Core.List.{List, ◌∷◌}
+use Prim.Native.Nat.{ℕ, zero, suc, ◌%◌}
 use native.Mathlib.Omega.{arith}
 use lib.Dec.{lit≤}
 use lib.Ieee.{Float, nan}
-use lib.ListN.{get_or, set, length, replicate}
+use lib.ListN.{set, length, replicate}
 use lib.Seq.{paste, length-paste}
 use native.Mathlib.Numerals.{add-one}
 use Rattle.sig.specs.Signal.{is_uart, idle_level}

@@ -1,9 +1,9 @@
 -- What holds of every timer that a call can leave holds of every timer of every board that calls lead to. Assumes nothing.
-use mathlib.Core.Path.{◌≡◌, refl, sym, ap, ◌∙◌}
-use mathlib.Core.Bool.{Bool, true, false, cond, not}
+use mathlib.Core.Path.{◌∙◌}
+use mathlib.Core.Bool.{cond}
 use mathlib.Core.List.{List, [], ◌∷◌, ◌++◌, map}
-use Prim.Native.Nat.{ℕ, zero, suc, ◌+◌, ◌-◌, ◌≤◌}
-use lib.Dec.{eqb, ltb}
+use Prim.Native.Nat.{ℕ, zero, suc, ◌+◌, ◌-◌}
+use lib.Dec.{ltb}
 use lib.Ieee.{Float}
 use lib.ListN.{get_or, set, length, replicate}
 use Rattle.tim.specs.declared.Timer.{Timer}
@@ -16,16 +16,15 @@ use Rattle.tim.specs.Change as T
 use Rattle.regs.specs.declared.Written.{Written}
 use Rattle.regs.specs.Regs as R
 use Rattle.clk.specs.declared.ClockTree.{ClockTree}
-use Rattle.clk.specs.Clk.{good, differing}
-use Rattle.real.specs.Real.{positive}
+use Rattle.clk.specs.Clk.{differing}
 use Rattle.periph.specs.Lane.{lane_write}
-use Rattle.machine.specs.Board.{Board, Pads, timer_at, no_timer, with_timer, with_pads, with_last, with_clocks, filled, fresh_board, first_board, one}
+use Rattle.machine.specs.Board.{Board, Pads, timer_at, no_timer, with_timer, with_pads, fresh_board, first_board, one}
 use Rattle.machine.specs.Sys as Sys
 use Rattle.machine.specs.Deliver.{Run, divider_of, line_settled, rebooked, turn, turn_of, due_by, most_events, delivered, after_delivery}
 use Rattle.machine.specs.Deliver as D
 use Rattle.machine.specs.Call.{Call, set_up, clock_tree, enable, clear_pending, ask, lend, pin_setting, outside_drive, pin_reset, writing, resetting, delivery, Outcome}
 use Rattle.machine.specs.Step.{clock_on, register, present, written, followed, timer_reset, delivered_to, timer_retimed, all_retimed, tree_set, step, board_after}
-use Rattle.machine.specs.Refusals.{refusals, applies}
+use Rattle.machine.specs.Refusals.{refusals}
 use Rattle.machine.proofs.NumberLaws.{Verdict, refuses, passes, answered, step_given, performed}
 use Rattle.machine.proofs.Routing.{either}
 

@@ -1,8 +1,6 @@
 -- Every timer's reload, written and in use, fits its width. Assumes nothing.
-use mathlib.Core.Path.{◌≡◌, refl}
 use mathlib.Core.Bool.{Bool, true, false, cond}
-use mathlib.Core.List.{List}
-use Prim.Native.Nat.{ℕ, ◌+◌, ◌/◌, ◌≤◌}
+use Prim.Native.Nat.{ℕ, ◌+◌, ◌≤◌}
 use native.Mathlib.Nat.{le_refl}
 use native.Mathlib.Omega.{arith}
 use lib.Dec.{eqb}
@@ -11,17 +9,14 @@ use Rattle.rm0440.specs.Bits.{field, is_set, CEN, ARPE, UDIS, URS}
 use Rattle.rm0440.specs.Output as Out
 use Rattle.tim.specs.declared.Timer.{Timer}
 use Rattle.tim.specs.declared.Inst.{Inst}
-use Rattle.tim.specs.Timer.{max, is_output, ccmr_byte, with_count, with_cr1}
-use Rattle.tim.specs.Count.{synced, at_count, cnt_at}
+use Rattle.tim.specs.Timer.{max, is_output, ccmr_byte, with_cr1}
+use Rattle.tim.specs.Count.{synced}
 use Rattle.tim.specs.Change as T
 use Rattle.regs.specs.declared.Written.{Written}
 use Rattle.regs.specs.Regs as R
-use Rattle.follows.specs.Seen.{seen}
 use Rattle.follows.proofs.Standing.{either-sync}
-use Rattle.machine.specs.Board.{timer_at, no_timer}
-use Rattle.machine.specs.Call.{Call}
 use Rattle.machine.proofs.Routing.{either}
-use Rattle.boards.specs.Boards.{div_of, StepFits}
+use Rattle.boards.specs.Boards.{StepFits}
 use Rattle.boards.proofs.Everywhere.{everywhere}
 
 abbrev Fit : Timer → Type 0

@@ -10,36 +10,34 @@ use native.Mathlib.Omega.{arith}
 use lib.Dec.{eqb, ltb, leb}
 use lib.Ieee.{Float}
 use lib.Ieee as Ieee
-use lib.ListN.{get_or, set, length, length-set}
+use lib.ListN.{get_or, length, length-set}
 use lib.Seq.{get_or-set_same, get_or-set_other}
-use borrow.Author.Tests.{eqb-true, eqb-false, leb-true, leb-false, ltb-false, not-true, not-false}
+use borrow.Author.Tests.{eqb-true, eqb-false, leb-true, leb-false, ltb-false, not-false}
 use Rattle.tim.specs.declared.Timer.{Timer}
 use Rattle.tim.specs.declared.Inst.{Inst}
 use Rattle.tim.specs.declared.Due.{Due}
 use Rattle.tim.specs.declared.Due.TheVariants.{At, Stopped}
 use Rattle.tim.specs.declared.Next.TheVariants.{Update, Compare}
 use Rattle.tim.specs.Next.{next_event}
-use Rattle.tim.specs.Count.{synced}
 use Rattle.tim.specs.Change as T
 use Rattle.regs.specs.declared.Written.{Written}
-use Rattle.regs.specs.Regs as R
 use Rattle.clk.specs.declared.ClockTree.{ClockTree}
 use Rattle.clk.specs.Clk.{flat_tree, timer_div, in_range, good, differing}
 use Rattle.real.specs.Real.{positive}
 use Rattle.pins.specs.declared.ExtDrive.{ExtDrive}
 use Rattle.pins.specs.Clock as Clock
 use Rattle.periph.specs.Lane.{lane_write}
-use Rattle.follows.specs.Seen.{Timed, Left}
+use Rattle.follows.specs.Seen.{Left}
 use Rattle.follows.proofs.Ports as P
 use Rattle.follows.proofs.Standing.{either-sync}
 use Rattle.follows.proofs.Lasting.{left-updated, left-compared, left-retimed, left-reset}
-use Rattle.machine.specs.Board.{Board, Pads, timer_at, no_timer, with_timer, with_pads, with_last, with_clocks, filled, fresh_board, first_board, one}
+use Rattle.machine.specs.Board.{Board, Pads, timer_at, no_timer, with_timer, with_pads, with_clocks, filled, fresh_board, first_board, one}
 use Rattle.machine.specs.Sys as Sys
 use Rattle.machine.specs.Deliver.{Run, divider_of, line_settled, rebooked, turn, turn_of, due_by, most_events, delivered, after_delivery}
 use Rattle.machine.specs.Deliver as D
 use Rattle.machine.specs.Call.{Setup, Call, set_up, clock_tree, enable, set_pin, drive_pin, reset_pins, write, reset_timer, deliver, clear_pending, Outcome, Question, BookCall, pin_setting, outside_drive, pin_reset, writing, resetting, delivery, ask, lend}
 use Rattle.machine.specs.Step.{absent, odd_size, cycle_astray, book_full, socket_taken, within_limits, clock_on, register, present, written, counter_astray, followed, timer_reset, delivered_to, timer_retimed, all_retimed, tree_set, step, board_after}
-use Rattle.machine.specs.Sound.{Sound, SoundPads}
+use Rattle.machine.specs.Sound.{Sound}
 use Rattle.machine.proofs.NumberLaws.{asked-board}
 use Rattle.machine.proofs.Routing.{either, by-test}
 use Rattle.machine.proofs.Reach.{inst-written, run-good, sound-step, sound-first}

@@ -1,28 +1,25 @@
 -- Deliveries one after the other, reads, late writes, reset, gate and clock tree, of a timer of a board that calls lead to: the statement of
 -- specs/Boards.antt. Assumes nothing.
 use mathlib.Core.Path.{◌≡◌, refl, sym, ap, ◌∙◌, subst}
-use mathlib.Core.Bool.{Bool, true, false, cond, not, ◌&&◌, ◌||◌}
-use mathlib.Core.List.{List, [], ◌∷◌, map}
+use mathlib.Core.Bool.{Bool, true, false, cond, not}
+use mathlib.Core.List.{List, [], ◌∷◌}
 use Prim.Native.Nat.{ℕ, zero, suc, ◌+◌, ◌-◌, ◌%◌, ◌≤◌, ◌<◌}
-use native.Mathlib.Nat.{le_refl, le_trans, le_of_suc-le-suc, zero-add}
+use native.Mathlib.Nat.{le_trans, zero-add}
 use native.Mathlib.Numerals.{add-one}
 use native.Mathlib.Omega.{arith}
-use lib.Dec.{eqb, ltb, leb}
-use lib.ListN.{get_or, set, length, length-set}
+use lib.Dec.{eqb, ltb}
+use lib.ListN.{length, length-set}
 use lib.Seq.{get_or-set_same}
-use borrow.Author.Tests.{eqb-true, eqb-false, not-false}
+use borrow.Author.Tests.{eqb-true, eqb-false}
 use Rattle.rm0440.specs.State as State
-use Rattle.rm0440.specs.Clock.{clocks}
 use Rattle.rm0440.specs.Write as M
 use Rattle.rm0440.proofs.SameClock.{clocks-same}
 use Rattle.rm0440.proofs.SameEgr.{write_same}
 use Rattle.tim.specs.declared.Timer.{Timer}
 use Rattle.tim.specs.declared.Inst.{Inst}
-use Rattle.tim.specs.declared.Due.{Due}
 use Rattle.tim.specs.Count.{counts, ticks_at, cnt_at, synced}
 use Rattle.tim.specs.Next.{next_event}
 use Rattle.tim.specs.Change as T
-use Rattle.regs.specs.declared.Written.{Written}
 use Rattle.regs.specs.Regs as R
 use Rattle.clk.specs.declared.ClockTree.{ClockTree}
 use Rattle.clk.specs.Clk.{timer_div, good, differing}
@@ -31,22 +28,22 @@ use Rattle.book.specs.Book.{Entry}
 use Rattle.periph.specs.Lane.{lane_read}
 use Rattle.follows.specs.Seen as S
 use Rattle.follows.specs.Seen.{clocks_at, per, seen, rules_of, Within, Left}
-use Rattle.follows.specs.Follows.{Delivered, between, Call, acts, WithinDown}
+use Rattle.follows.specs.Follows.{Delivered, between, Call, acts}
 use Rattle.follows.proofs.Theorem.{follows}
 use Rattle.follows.proofs.Standing.{either-sync}
-use Rattle.machine.specs.Board.{Board, Pads, timer_at, no_timer, with_timer, with_pads, with_last, with_clocks, first_board}
+use Rattle.machine.specs.Board.{Board, Pads, timer_at, no_timer, with_timer, with_last, with_clocks}
 use Rattle.machine.specs.Deliver.{Run, divider_of, line_settled, rebooked, turn_of, due_by, handled as run, stop, most_events, delivered, after_delivery}
 use Rattle.machine.specs.Deliver as D
 use Rattle.machine.specs.Call as C
 use Rattle.machine.specs.Call.{Outcome, served, refused}
-use Rattle.machine.specs.Step.{refuse_if, absent, odd_size, cycle_astray, book_full, clock_on, register, present, written, followed, counter_astray, timer_reset, delivered_to, timer_retimed, all_retimed, tree_set, step, board_after}
+use Rattle.machine.specs.Step.{refuse_if, absent, odd_size, cycle_astray, book_full, clock_on, register, written, timer_reset, delivered_to, timer_retimed, all_retimed, tree_set, step, board_after}
 use Rattle.machine.specs.Sound.{Sound}
 use Rattle.machine.specs.Demand1.{reached}
 use Rattle.machine.proofs.Routing.{either, by-test}
 use Rattle.machine.proofs.Reach.{run-good, sound-step, sound-after}
-use Rattle.boards.specs.Boards.{div_of, value_on, Boards, Delivery, deliveries, before, last, treed, StepEvents, StepSeries, StepSeriesDue, StepReads, StepLate, StepLateWrites, StepResets, StepGated, StepRetimes, StepDeliversManual, StepWritesManual}
+use Rattle.boards.specs.Boards.{div_of, value_on, Boards, Delivery, deliveries, treed, StepEvents, StepSeries, StepSeriesDue, StepReads, StepLate, StepLateWrites, StepResets, StepGated, StepRetimes, StepDeliversManual, StepWritesManual}
 use Rattle.boards.proofs.Kept.{at_place, elsewhere, not-astray, kept-after}
-use Rattle.boards.proofs.Stepped.{never, turn-same, run-same, Passed, peel, delivered-timer, followed-timer, delivers-so, handled, writes-so, written_is, delivers, writes}
+use Rattle.boards.proofs.Stepped.{never, turn-same, peel, delivered-timer, followed-timer, delivers-so, handled, writes-so, written_is, delivers, writes}
 use Rattle.boards.proofs.Fitting.{fits}
 
 -- ---- a delivery is as many events as its value says

@@ -1,14 +1,11 @@
 -- What a delivery and a write do to a timer of a board that calls lead to, of the statement of specs/Boards.antt. Assumes nothing.
 use mathlib.Core.Path.{◌≡◌, refl, sym, ap, ◌∙◌, subst}
-use mathlib.Core.Bool.{Bool, true, false, cond, not, ◌&&◌, ◌||◌}
+use mathlib.Core.Bool.{Bool, true, false, cond}
 use mathlib.Core.List.{List}
 use Prim.Native.Nat.{ℕ, zero, suc, ◌-◌, ◌≤◌, ◌<◌}
 use native.Mathlib.Omega.{arith}
-use lib.Dec.{ltb, leb}
-use lib.ListN.{get_or, length}
-use borrow.Author.Tests.{lt-leb, le-ltb}
-use Rattle.rm0440.specs.Clock.{clocks}
-use Rattle.rm0440.specs.Write as M
+use lib.Dec.{ltb}
+use lib.ListN.{length}
 use Rattle.tim.specs.declared.Timer.{Timer}
 use Rattle.tim.specs.declared.Due.{Due}
 use Rattle.tim.specs.declared.Due.TheVariants.{At, Stopped}
@@ -19,15 +16,15 @@ use Rattle.regs.specs.declared.Written.{Written}
 use Rattle.regs.specs.Regs as R
 use Rattle.follows.specs.Seen as S
 use Rattle.follows.specs.Seen.{seen, Within, Left}
-use Rattle.follows.specs.Follows.{Delivered, between, Call}
+use Rattle.follows.specs.Follows.{Delivered}
 use Rattle.follows.proofs.Theorem.{follows}
-use Rattle.machine.specs.Board.{Board, Pads, timer_at, with_timer, with_pads, with_last, first_board}
+use Rattle.machine.specs.Board.{Board, Pads, timer_at, with_timer, with_pads, with_last}
 use Rattle.machine.specs.Sys as Sys
 use Rattle.machine.specs.Deliver.{Run, divider_of, line_settled, rebooked, turn, turn_of, due_by, handled as run, stop, most_events, delivered, after_delivery}
 use Rattle.machine.specs.Deliver as D
 use Rattle.machine.specs.Call as C
 use Rattle.machine.specs.Call.{Outcome, served}
-use Rattle.machine.specs.Step.{refuse_if, absent, odd_size, cycle_astray, book_full, clock_on, register, present, written, counter_astray, followed, delivered_to, step, board_after}
+use Rattle.machine.specs.Step.{refuse_if, absent, odd_size, cycle_astray, book_full, clock_on, register, written, counter_astray, followed, delivered_to, step}
 use Rattle.machine.specs.Sound.{Sound}
 use Rattle.machine.specs.Demand1.{reached}
 use Rattle.machine.proofs.Routing.{either}

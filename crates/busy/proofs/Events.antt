@@ -1,16 +1,15 @@
 -- Events one after the other: in two parts they are the same, only so many are due, and they take no interrupt request back. Assumes nothing.
 use mathlib.Core.Path.{◌≡◌, refl, sym, ap, ◌∙◌, subst}
-use mathlib.Core.Bool.{Bool, true, false, not, false≢true}
-use mathlib.Core.List.{List, [], ◌∷◌, ◌++◌, append_assoc}
-use Prim.Native.Nat.{ℕ, zero, suc, ◌+◌, ◌*◌, ◌/◌, ◌%◌, ◌^◌, ◌≤◌, ◌<◌, min, max}
+use mathlib.Core.Bool.{true, false, not, false≢true}
+use mathlib.Core.List.{List, ◌++◌, append_assoc}
+use Prim.Native.Nat.{ℕ, zero, suc, ◌+◌, ◌*◌, ◌/◌, ◌%◌, ◌^◌, ◌≤◌, ◌<◌, max}
 use native.Mathlib.Nat.{mod-lt}
 use native.Mathlib.Omega.{arith}
 use lib.Bits.{bit_and, bit_or, and_step, or_step, and_mod, or_mod, and_zero_l}
-use lib.Dec.{eqb, leb, lit<}
-use borrow.Author.Tests.{eqb-true, eqb-false, ne_eqb, le-leb, leb-true, not-true}
+use lib.Dec.{eqb, lit<}
+use borrow.Author.Tests.{eqb-false, ne_eqb, le-leb, leb-true, not-true}
 use Rattle.rm0440.specs.Bits.{UDIS}
 use Rattle.tim.specs.declared.Timer.{Timer}
-use Rattle.tim.specs.declared.Next.{Next}
 use Rattle.tim.specs.declared.Next.TheVariants.{Update, Compare}
 use Rattle.tim.specs.declared.Due.{Due}
 use Rattle.tim.specs.declared.Due.TheVariants.{At, Stopped}
@@ -18,7 +17,7 @@ use Rattle.tim.specs.Next.{next_event}
 use Rattle.tim.specs.Change as C
 use Rattle.book.specs.Book.{Entry}
 use Rattle.machine.specs.Board.{Pads}
-use Rattle.machine.specs.Deliver.{Turn, turn, turn_of, applied, due_by, wants_line}
+use Rattle.machine.specs.Deliver.{Turn, turn, turn_of, due_by, wants_line}
 use Rattle.machine.specs.Demand1.{after_events, AllDue}
 use Rattle.machine.proofs.Routing.{either}
 use Rattle.machine.proofs.Reach.{inst-applied}

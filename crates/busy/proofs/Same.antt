@@ -2,32 +2,31 @@
 use mathlib.Core.Path.{◌≡◌, refl, sym, ap, ◌∙◌, subst}
 use mathlib.Core.Bool.{Bool, true, false, cond, ◌&&◌, ◌||◌, false≢true}
 use mathlib.Core.List.{List, [], ◌∷◌, ◌++◌, append-nil}
-use Prim.Native.Nat.{ℕ, zero, suc, ◌+◌, ◌≤◌, ◌<◌}
+use Prim.Native.Nat.{ℕ, ◌+◌, ◌≤◌, ◌<◌}
 use native.Mathlib.Omega.{arith}
-use lib.Dec.{ltb, leb, eqb}
-use lib.ListN.{get_or, set, length, length-set}
+use lib.Dec.{ltb, eqb}
+use lib.ListN.{set, length, length-set}
 use lib.Seq.{get_or-set_same, set-set}
 use borrow.Author.Tests.{ltb-false, leb-false}
 use Rattle.tim.specs.declared.Timer.{Timer}
 use Rattle.tim.specs.declared.Inst.{Inst}
 use Rattle.tim.specs.Next.{next_event}
 use Rattle.clk.specs.Clk.{timer_div}
-use Rattle.nvic.specs.Nvic.{Nvic, line_at, has_line, set_line}
+use Rattle.nvic.specs.Nvic.{Nvic, has_line, set_line}
 use Rattle.book.specs.Book.{Entry}
 use Rattle.machine.specs.Board.{Board, no_timer, timer_at, with_nvic, first_board}
-use Rattle.machine.specs.Deliver.{Turn, Run, divider_of, booking_of, due_by, wants_line, most_events, delivered, after_delivery, rebooked, line_settled}
-use Rattle.machine.specs.Call.{Call, deliver, Outcome, is_refusal}
+use Rattle.machine.specs.Deliver.{Turn, divider_of, booking_of, due_by, wants_line, delivered, after_delivery, rebooked, line_settled}
+use Rattle.machine.specs.Call.{deliver, Outcome, is_refusal}
 use Rattle.machine.specs.Step.{absent, cycle_astray, book_full, refuse_if, delivered_to, step, run, board_after}
 use Rattle.machine.specs.Demand1.{after_events, AllDue}
 use Rattle.machine.specs.Sound.{Sound}
 use Rattle.machine.specs.Lines.{asks}
-use Rattle.machine.proofs.DeliverLaws.{Delivery, turn_part}
 use Rattle.machine.proofs.NumberLaws.{delivered-law}
 use Rattle.machine.proofs.Reach.{sound-step, sound-after}
 use Rattle.machine.proofs.LineLaws.{Wished, wished-run, wished-after}
 use Rattle.accuracy.specs.Claim.{joined}
 use Rattle.busy.specs.Busy.{Visit, visits, Answered, events, Same, SameButLines, Busy, pieces, SameRecord}
-use Rattle.busy.proofs.Events.{events-append, joined_turn, all-later, all_append, None, as_many, inst-events, wants-events}
+use Rattle.busy.proofs.Events.{events-append, joined_turn, all-later, all_append, as_many, inst-events, wants-events}
 use Rattle.busy.proofs.Twice.{set_twice}
 
 -- ---- a delivery that is not refused

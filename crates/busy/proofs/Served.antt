@@ -1,14 +1,12 @@
 -- Runs of the exported delivery, one after the other, are the deliveries of `step`; so what holds of those holds of the arrays and the books. Assumes
 -- nothing.
-use mathlib.Core.Path.{◌≡◌, refl, sym, ap, ◌∙◌, subst}
-use mathlib.Core.Bool.{false}
-use mathlib.Core.List.{List, [], ◌∷◌, ◌++◌, map, append-nil}
+use mathlib.Core.Path.{◌≡◌, sym, ap, ◌∙◌, subst}
+use mathlib.Core.List.{List, [], ◌∷◌, ◌++◌, map}
 use Prim.Native.Nat.{ℕ, ◌+◌}
-use native.Mathlib.Omega.{arith}
 use lib.Ieee.{Float}
 use Rattle.book.specs.Book.{Entry, places}
-use Rattle.machine.specs.Board.{Board, first_board}
-use Rattle.machine.specs.Call.{Call, deliver, Outcome, is_refusal}
+use Rattle.machine.specs.Board.{Board}
+use Rattle.machine.specs.Call.{deliver, Outcome, is_refusal}
 use Rattle.machine.specs.Step.{step, run, board_after}
 use Rattle.machine.specs.Sound.{Sound}
 use Rattle.machine.proofs.Reach.{sound-after}
@@ -17,7 +15,7 @@ use Rattle.accuracy.specs.Claim.{joined}
 use Rattle.state.specs.View.{view}
 use Rattle.book.specs.Level.{entries_from}
 use Rattle.recorded.proofs.Joined.{entries-held}
-use Rattle.busy.specs.Busy.{Visit, visits, Answered, events, Same, Busy, pieces}
+use Rattle.busy.specs.Busy.{Visit, visits, Answered, events, Same, pieces}
 use Rattle.busy.specs.Served.{Served, Meets, Serves, books_of, values_of, SameServed}
 use Rattle.busy.proofs.Same.{last_number, same-on}
 

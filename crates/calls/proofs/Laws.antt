@@ -9,7 +9,7 @@ use lib.Ieee.{Float}
 use lib.ListN.{length, take, drop}
 use borrow.Author.Tests.{ne_eqb}
 use Rattle.clk.specs.declared.ClockTree.{ClockTree}
-use Rattle.book.specs.Book.{Entry, Holds, slices, Lent}
+use Rattle.book.specs.Book.{Entry, Holds, Lent}
 use Rattle.machine.specs.Board.{Board}
 use Rattle.machine.specs.Call.{Call, set_up, clock_tree, enable, set_pin, drive_pin, reset_pins, read, write, peek, reset_timer, deliver, query_booked, query_next, query_level, query_volts, query_line, query_time, query_why, clear_pending, lent}
 use Rattle.machine.specs.Step.{step}

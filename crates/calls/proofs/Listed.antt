@@ -10,7 +10,7 @@ use lib.Ieee.{Float}
 use lib.ListN.{length, take, drop, set, length-map, length-append, length-drop, take-append-drop}
 use lib.Seq.{sets, sets-eq, drop-drop, drop-append-le, length-take-le, take_all}
 use borrow.Author.Tests.{ltb-false, leb-true, eqb-false}
-use Rattle.book.specs.Book.{Entry, Lent, slices, Room, Book, book, puts, put, places, over, Holds}
+use Rattle.book.specs.Book.{Entry, Lent, slices, Room, Book, book, puts, places, over, Holds}
 use Rattle.book.proofs.Laws.{puts-append, holds, roomy}
 use Rattle.machine.specs.Board.{Board}
 use Rattle.machine.specs.Call.{Call, Outcome, lent}

@@ -1,6 +1,6 @@
 -- A pin as 16 words and two floats: one word for each field, in the order of the struct's fields; the source is in the level's word. Every content of
 -- the words is a value in range: a word counts by its remainder. No word is spare.
-use Rattle.std.specs.Prelude.{Bool, cond, List, [], ◌∷◌, ℕ, ◌+◌, ◌/◌, ◌%◌, eqb, get_or, Float}
+use Rattle.std.specs.Prelude.{Bool, cond, List, ℕ, ◌+◌, ◌/◌, ◌%◌, eqb, get_or, Float}
 use Rattle.real.specs.Real.{zero_float}
 use Rattle.pins.specs.declared.Mcu.{Mcu}
 use Rattle.pins.specs.declared.ExtDrive.{ExtDrive}

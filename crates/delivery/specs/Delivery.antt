@@ -1,5 +1,5 @@
 -- What a delivery over the lent state and the lent book leaves.
-use Rattle.std.specs.Prelude.{◌≡◌, cond, List, ℕ, ◌<◌, ltb, leb}
+use Rattle.std.specs.Prelude.{◌≡◌, cond, ℕ, ◌<◌, ltb, leb}
 use Rattle.tim.specs.declared.Next.{Next}
 use Rattle.tim.specs.declared.Next.TheVariants.{Update, Compare}
 use Rattle.book.specs.Book.{Book, puts, Holds, Lent}

@@ -1,6 +1,6 @@
 -- A call as words of 32 bits: its number, then its arguments in the order of docs/CALLS.md. A 64-bit argument is two words, low then high;
 -- a float is its 64 bits.
-use Rattle.std.specs.Prelude.{Bool, cond, ◌||◌, List, ℕ, ◌+◌, ◌*◌, ◌-◌, eqb, leb, Float, get_or, length, take, drop}
+use Rattle.std.specs.Prelude.{Bool, cond, ◌||◌, List, ℕ, ◌+◌, ◌*◌, eqb, leb, Float, get_or, length, take, drop}
 use Rattle.std.specs.Float.Ieee as Ieee
 use Rattle.std.specs.Float.{binary64}
 use Rattle.clk.specs.declared.ClockTree.{ClockTree}

@@ -1,9 +1,8 @@
 -- Writes of CNT, ARR, CCMRx and CCRx, of a timer that stands where it is read. Assumes nothing.
-use Prim.Native.Nat.{ℕ, ◌+◌, ◌-◌, ◌/◌, ◌%◌, ◌≤◌, ◌<◌}
+use Prim.Native.Nat.{ℕ, ◌%◌, ◌≤◌}
 use mathlib.Core.Path.{◌≡◌, refl, sym, ap, ◌∙◌, subst}
 use mathlib.Core.Bool.{Bool, true, false, cond, not, ◌&&◌}
 use native.Mathlib.Nat.{sub_self, zero-div, zero-mod}
-use native.Mathlib.Omega.{arith}
 use lib.Dec.{eqb, ltb, leb}
 use lib.Bits.{bit_and}
 use lib.ListN.{get_or, set}
@@ -13,7 +12,7 @@ use Rattle.rm0440.specs.Output as Out
 use Rattle.rm0440.specs.Rules.{Rules, port_rules}
 use Rattle.rm0440.specs.State as M
 use Rattle.rm0440.specs.Clock.{matched}
-use Rattle.rm0440.specs.Write.{overrun, past, left_cnt, left_arr, left_ccr, write_cnt, write_arr, write_ccmr, write_ccr}
+use Rattle.rm0440.specs.Write.{left_cnt, left_arr, left_ccr, write_cnt, write_arr, write_ccmr, write_ccr}
 use Rattle.tim.specs.declared.Timer.{Timer}
 use Rattle.tim.specs.Timer.{down, max, with_count, ccmr_byte}
 use Rattle.tim.specs.Count.{blocked, counts, cnt_at, at_count}

@@ -1,6 +1,6 @@
 -- Of the port's timer after a turn: reference, step and course are those of the values just loaded. Assumes nothing.
-use Prim.Native.Nat.{ℕ, zero, suc, ◌+◌, ◌-◌, ◌*◌, ◌/◌, ◌%◌, ◌≤◌, ◌<◌}
-use mathlib.Core.Path.{◌≡◌, refl, sym, ap, ◌∙◌}
+use Prim.Native.Nat.{ℕ, zero, suc, ◌<◌}
+use mathlib.Core.Path.{◌≡◌, refl, ap, ◌∙◌}
 use mathlib.Core.Bool.{Bool, true, false, cond, not, ◌&&◌}
 use native.Mathlib.Nat.{le_refl}
 use native.Mathlib.Omega.{arith}
@@ -12,10 +12,8 @@ use Rattle.rm0440.specs.Counter.{restart}
 use Rattle.tim.specs.declared.Timer.{Timer}
 use Rattle.tim.specs.Timer as T
 use Rattle.tim.specs.Change as C
-use Rattle.rm0440.specs.Rules.{manual_mode, Taken}
+use Rattle.rm0440.specs.Rules.{Taken}
 use Rattle.rm0440.specs.State.{with_bit, CMS}
-use Rattle.rm0440.specs.Clock.{blocked}
-use Rattle.follows.specs.Seen.{raw}
 use Rattle.follows.proofs.Place.{Stands}
 use Rattle.follows.proofs.Dir.{dir-small}
 use Rattle.follows.proofs.Port.{centre, stuck, turned, pulse_ends, ended, updated, Runs}

@@ -1,10 +1,9 @@
 -- Between two events: at a cycle with nothing due before it the port's timer is the machine after as many kernel clocks. Assumes nothing.
-use Prim.Native.Nat.{ℕ, zero, suc, ◌+◌, ◌-◌, ◌*◌, ◌/◌, ◌%◌, ◌≤◌, ◌<◌, min}
+use Prim.Native.Nat.{ℕ, suc, ◌+◌, ◌-◌, ◌*◌, ◌/◌, ◌%◌, ◌<◌}
 use mathlib.Core.Path.{◌≡◌, refl, sym, ap, ◌∙◌}
-use mathlib.Core.Bool.{Bool, true, false, cond, not, ◌&&◌}
+use mathlib.Core.Bool.{Bool, true, false, cond}
 use native.Mathlib.Nat.{mod-eq_of_lt, zero-div, zero-mod, add-zero, sub_self, mul_comm, mul-div_cancel, div-div-eq-div-mul}
 use native.Mathlib.Omega.{arith}
-use lib.Dec.{eqb, leb, ltb, lit<}
 use borrow.Author.Tests.{le-leb, lt-leb}
 use Rattle.rm0440.specs.Bits.{DIR}
 use Rattle.tim.specs.declared.Timer.{Timer}
@@ -19,11 +18,11 @@ use Rattle.rm0440.specs.Clock.{stepped, clocks}
 use Rattle.rm0440.specs.Late.{passes}
 use Rattle.follows.proofs.Leap as Leap
 use Rattle.follows.specs.Seen.{raw, clocks_at, per}
-use Rattle.follows.proofs.Place.{period, down_at, on_way, count_at, place_of, Counter, at, Stands, step, iterate}
-use Rattle.follows.proofs.Periodic.{counter, turnable, has-place, place-stands, place-of-at}
-use Rattle.follows.proofs.Centre.{centre-channels, centre-rule, dir-is, cms-stays}
-use Rattle.follows.proofs.Dir.{dir-same, dir-twice}
-use Rattle.follows.proofs.First.{turn_steps, first, Best, best-first}
+use Rattle.follows.proofs.Place.{period, place_of, at, Stands}
+use Rattle.follows.proofs.Periodic.{counter, turnable, has-place}
+use Rattle.follows.proofs.Centre.{centre-channels, centre-rule}
+use Rattle.follows.proofs.Dir.{dir-same}
+use Rattle.follows.proofs.First.{turn_steps, Best, best-first}
 use Rattle.follows.proofs.Event.{next, before-event, at-event}
 use Rattle.follows.proofs.Late as Late
 use Rattle.follows.proofs.Port.{centre, place_after, cnt_at, cr1_at, with_way, update_steps, next_steps, seen, Runs}

@@ -1,13 +1,13 @@
 -- A delivery up to a cycle is that many kernel clocks of the machine, edge and centre modes alike. Assumes nothing.
-use Prim.Native.Nat.{ℕ, zero, suc, ◌+◌, ◌-◌, ◌*◌, ◌/◌, ◌%◌, ◌≤◌, ◌<◌}
+use Prim.Native.Nat.{ℕ, zero, suc, ◌+◌, ◌-◌, ◌*◌, ◌/◌, ◌≤◌, ◌<◌}
 use mathlib.Core.Path.{◌≡◌, refl, sym, ap, ◌∙◌, subst}
 use mathlib.Core.Bool.{Bool, true, false, cond, not, ◌&&◌, ◌||◌}
 use mathlib.Core.Logic.{◌⊎◌, inl, inr}
 use mathlib.Core.List.{List, [], ◌∷◌}
 use native.Mathlib.Nat.{add-zero, mul_assoc, mul-div_cancel, mul-mod_left, mul-add-div_right, div-eq_of_lt, div-mul-le_self, lt-div-mul-add, eq-or-lt_of_le, le_of_suc-le-suc, le-div_iff_mul-le, div-lt_iff_lt-mul, lt_of_mul-lt-mul_right}
 use native.Mathlib.Omega.{arith}
-use lib.Dec.{eqb, leb, lit<}
-use lib.ListN.{get_or, set, length, length-set}
+use lib.Dec.{leb, lit<}
+use lib.ListN.{get_or, set, length-set}
 use borrow.Author.Tests.{leb-true, leb-false}
 use Rattle.tim.specs.declared.Timer.{Timer}
 use Rattle.tim.specs.declared.Ahead.{Ahead}
@@ -24,7 +24,6 @@ use Rattle.follows.proofs.Leap as Leap
 use Rattle.follows.proofs.Leap.{Silent, matched-none}
 use Rattle.follows.proofs.Leap.{both, clocks-add}
 use Rattle.follows.specs.Seen.{raw, clocks_at, per, due_by}
-use Rattle.follows.proofs.First.{first}
 use Rattle.follows.proofs.Event.{next, not_yet, met-true, met-only, before-event}
 use Rattle.follows.proofs.Event as Event
 use Rattle.follows.proofs.Port.{stuck, moves, pulse_ends, updated, compared, applied, deliver, update_steps, next_steps, next_event, cnt_at, cr1_at, seen, Runs}

@@ -1,8 +1,7 @@
 -- tim's deliveries, late calls and outputs: the theorems over the period with the rules that the port takes, and stopped timers. Assumes nothing.
-use Prim.Native.Nat.{ℕ, zero, suc, ◌+◌, ◌-◌, ◌*◌, ◌/◌, ◌%◌, ◌≤◌, ◌<◌}
+use Prim.Native.Nat.{ℕ, zero, suc, ◌+◌, ◌-◌, ◌/◌, ◌%◌, ◌≤◌, ◌<◌}
 use mathlib.Core.Path.{◌≡◌, refl, sym, ap, ◌∙◌}
-use mathlib.Core.Bool.{Bool, true, false, cond, not, ◌&&◌}
-use native.Mathlib.Nat.{zero-div}
+use mathlib.Core.Bool.{Bool, true, false, cond}
 use native.Mathlib.Omega.{arith}
 use lib.Dec.{lit<}
 use lib.ListN.{get_or}
@@ -22,10 +21,10 @@ use Rattle.stepping.proofs.Synced.{cnt-stopped}
 use Rattle.follows.specs.Seen.{raw, clocks_at, per, seen, Timed, Within, due_by, deliver}
 use Rattle.follows.proofs.Leap as Leap
 use Rattle.follows.proofs.Leap.{Silent, matched-none}
-use Rattle.follows.proofs.Event.{next, not_yet}
+use Rattle.follows.proofs.Event.{not_yet}
 use Rattle.follows.proofs.Between.{late, next-same, best, seen_at}
 use Rattle.follows.proofs.Port as Port
-use Rattle.follows.proofs.Deliver.{delivers, none-due, from-there, still, deliver-stopped, seen-stopped, mute, event-stopped}
+use Rattle.follows.proofs.Deliver.{delivers, none-due, still, deliver-stopped, seen-stopped, mute}
 use Rattle.follows.proofs.Output as Output
 use Rattle.follows.proofs.Instances.{moves-is, seen-is, next-is, event-is, deliver-is, on-course, manual-left}
 

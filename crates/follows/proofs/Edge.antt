@@ -1,16 +1,16 @@
 -- Edge-aligned counting as the project has it, instances of the period's law. Assumes nothing.
-use Prim.Native.Nat.{ℕ, zero, suc, ◌+◌, ◌-◌, ◌*◌, ◌%◌, ◌≤◌, ◌<◌, min}
+use Prim.Native.Nat.{ℕ, zero, suc, ◌+◌, ◌-◌, ◌%◌, ◌≤◌, ◌<◌, min}
 use mathlib.Core.Path.{◌≡◌, refl, sym, ap, ◌∙◌}
-use mathlib.Core.Bool.{Bool, true, false, cond, not}
+use mathlib.Core.Bool.{Bool, true, false, cond}
 use native.Mathlib.Nat.{mod-eq_of_lt, mod-eq-sub-mod}
 use native.Mathlib.Numerals.{add-one}
 use native.Mathlib.Omega.{arith}
-use lib.Dec.{eqb, ltb, leb}
-use borrow.Author.Tests.{lt-ltb, le-ltb, leb-true, leb-false, le-leb, lt-leb, eq-eqb, ne_eqb}
+use lib.Dec.{ltb, leb}
+use borrow.Author.Tests.{lt-ltb, le-ltb, leb-true, leb-false, ne_eqb}
 use Rattle.rm0440.specs.Counter.{tick_up, tick_down, tick, after}
-use Rattle.tim.specs.Count.{up_from, down_from}
+use Rattle.tim.specs.Count.{up_from}
 use Rattle.stepping.proofs.Counting.{counted, down-after}
-use Rattle.follows.proofs.Place.{period, down_at, top, on_way, count_at, place_of, Counter, at, Stands, turns, step, iterate}
+use Rattle.follows.proofs.Place.{period, count_at, place_of, Counter, Stands, step, iterate}
 use Rattle.follows.proofs.Periodic.{counter, after-standing}
 
 -- rm0440's step is the step of edge-aligned counting

@@ -1,18 +1,18 @@
 -- The next event is the machine's first: up to it nothing wraps and nothing matches, and there it does. Edge-aligned and centre-aligned alike. Assumes nothing.
-use Prim.Native.Nat.{ℕ, zero, suc, ◌+◌, ◌-◌, ◌*◌, ◌/◌, ◌%◌, ◌≤◌, ◌<◌}
+use Prim.Native.Nat.{ℕ, suc, ◌+◌, ◌-◌, ◌*◌, ◌/◌, ◌%◌, ◌<◌}
 use mathlib.Core.Path.{◌≡◌, refl, sym, ap, ◌∙◌}
-use mathlib.Core.Bool.{Bool, true, false, cond, not, ◌&&◌, ◌||◌}
+use mathlib.Core.Bool.{Bool, true, false, cond, not, ◌&&◌}
 use native.Mathlib.Nat.{zero-add, add-zero, le_refl, mul-add-div_right, mul-add-mod_self_right, div-eq_of_lt, mod-eq_of_lt}
 use native.Mathlib.Omega.{arith}
-use lib.Dec.{eqb, ltb, leb, lit<}
+use lib.Dec.{eqb, leb, lit<}
 use lib.ListN.{get_or}
 use borrow.Author.Tests.{leb-true, le-leb, lt-leb, eqb-true, eq-eqb, ne_eqb, le-ltb}
 use Rattle.tim.specs.declared.Ahead.{Ahead}
 use Rattle.tim.specs.declared.Next.TheVariants.{Update, Compare}
 use Rattle.rm0440.specs.Rules.{Rules}
-use Rattle.rm0440.specs.State.{Timer, down, centre, is_output, ccr_of, with_count}
-use Rattle.rm0440.specs.Clock.{wraps, meets, matched, wrapped, counted, stepped, blocked, clock, clocks}
-use Rattle.follows.proofs.Leap.{Silent, at, onward, onward-suc, Quiet, leap, clocks-suc}
+use Rattle.rm0440.specs.State.{Timer, down, centre, is_output, ccr_of}
+use Rattle.rm0440.specs.Clock.{wraps, meets, stepped, blocked, clock, clocks}
+use Rattle.follows.proofs.Leap.{at, onward, Quiet, leap, clocks-suc}
 use Rattle.follows.proofs.Leap.{both}
 use Rattle.follows.proofs.Place.{turns}
 use Rattle.follows.proofs.Centre.{wraps-is}

@@ -1,11 +1,11 @@
 -- Clocks of the machine keep its reload, written and in use, within the timer's width. Assumes nothing.
 use Prim.Native.Nat.{ℕ, zero, suc, ◌≤◌}
-use mathlib.Core.Bool.{Bool, true, false, cond, ◌&&◌}
+use mathlib.Core.Bool.{Bool, true}
 use lib.Dec.{ltb}
 use Rattle.rm0440.specs.Bits.{UDIS, OPM}
 use Rattle.rm0440.specs.Rules.{Rules}
 use Rattle.rm0440.specs.State.{Timer, reg, centre, with_count, with_sr, cc_flags, flag}
-use Rattle.rm0440.specs.Clock.{wraps, restarted, loaded, pulse_ended, update_event, passes_over, wrapped, counted, blocked, matched, stepped, clock, clocks}
+use Rattle.rm0440.specs.Clock.{wraps, restarted, loaded, pulse_ended, update_event, passes_over, wrapped, blocked, matched, stepped, clock, clocks}
 use Rattle.tim.proofs.Fit.{either}
 use Rattle.follows.specs.Follows.{FitsStay}
 

@@ -9,12 +9,11 @@ use lib.ListN.{get_or, set}
 use Rattle.rm0440.specs.Bits.{is_set, UDIS, URS}
 use Rattle.rm0440.specs.Output as Out
 use Rattle.rm0440.specs.Rules.{port_rules}
-use Rattle.rm0440.specs.State as M
 use Rattle.rm0440.specs.Clock.{matched}
 use Rattle.rm0440.specs.Write.{generated, generated_cc, write_egr}
 use Rattle.tim.specs.declared.Timer.{Timer}
 use Rattle.tim.specs.Timer.{down, is_output, oc_mode, with_chan}
-use Rattle.tim.specs.Count.{cnt_at, synced}
+use Rattle.tim.specs.Count.{cnt_at}
 use Rattle.tim.specs.Change as T
 use Rattle.regs.specs.Regs as R
 use Rattle.follows.specs.Seen.{raw, seen, Within}

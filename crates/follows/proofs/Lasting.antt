@@ -1,15 +1,14 @@
 -- Events, a reset and another divider leave a timer with its step that of prescaler and divider. Assumes nothing.
 use Prim.Native.Nat.{ℕ, ◌+◌, ◌*◌, ◌≤◌, ◌<◌}
-use mathlib.Core.Path.{◌≡◌, refl, sym, ap, ◌∙◌}
+use mathlib.Core.Path.{◌≡◌, refl, ◌∙◌}
 use mathlib.Core.Bool.{Bool, true, false, cond, ◌&&◌}
 use native.Mathlib.Nat.{le_refl}
 use native.Mathlib.Omega.{arith}
 use lib.ListN.{length-set}
-use Rattle.rm0440.specs.Bits.{CEN, UDIS, OPM}
+use Rattle.rm0440.specs.Bits.{CEN, UDIS}
 use Rattle.tim.specs.declared.Timer.{Timer}
 use Rattle.tim.specs.declared.Inst.{Inst}
 use Rattle.tim.specs.Timer.{down}
-use Rattle.tim.specs.Count.{synced}
 use Rattle.tim.specs.Change as T
 use Rattle.stepping.proofs.Agrees.{sync-base}
 use Rattle.follows.specs.Seen.{Timed, Within, Left}

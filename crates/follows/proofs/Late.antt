@@ -1,7 +1,7 @@
 -- Clocks of which only the counters move, edge-aligned and centre-aligned: the whole state, DIR included, is that of a place. Assumes nothing.
-use Prim.Native.Nat.{ℕ, zero, suc, ◌+◌, ◌-◌, ◌*◌, ◌/◌, ◌%◌, ◌≤◌, ◌<◌}
+use Prim.Native.Nat.{ℕ, zero, suc, ◌+◌, ◌-◌, ◌/◌, ◌%◌, ◌≤◌, ◌<◌}
 use mathlib.Core.Path.{◌≡◌, refl, sym, ap, ◌∙◌}
-use mathlib.Core.Bool.{Bool, true, false, cond, not, ◌&&◌, ◌||◌}
+use mathlib.Core.Bool.{Bool, true, false, cond, not, ◌&&◌}
 use native.Mathlib.Nat.{mod-lt, zero-mod, zero-div, add-zero, add-suc, mod-eq_of_lt, suc-mod}
 use native.Mathlib.Numerals.{add-one}
 use native.Mathlib.Omega.{arith}
@@ -9,12 +9,12 @@ use lib.Dec.{eqb, ltb, leb}
 use borrow.Author.Tests.{ltb-true, ltb-false, lt-ltb, le-ltb}
 use Rattle.rm0440.specs.Bits.{DIR}
 use Rattle.rm0440.specs.Rules.{Rules}
-use Rattle.rm0440.specs.State.{Timer, down, CMS, centre, with_bit, with_cr1, with_count}
+use Rattle.rm0440.specs.State.{Timer, down, centre, with_bit, with_cr1, with_count}
 use Rattle.rm0440.specs.Clock.{wraps, counted, restarted, blocked}
 use Rattle.rm0440.specs.Late as Late
 use Rattle.rm0440.specs.Late.{moved, passed}
 use Rattle.follows.proofs.Leap.{inside-mod, inside-div, end-mod, end-div}
-use Rattle.follows.proofs.Place.{period, down_at, count_at, place_of, Counter, at, Stands, turns, step}
+use Rattle.follows.proofs.Place.{period, Counter, at, turns, step}
 use Rattle.follows.proofs.Periodic.{counter, round, Turnable}
 use Rattle.follows.proofs.Centre.{wraps-is, centre-channels, centre-rule, dir-is, cms-stays}
 use Rattle.follows.proofs.Dir.{dir-twice}

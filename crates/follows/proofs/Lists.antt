@@ -1,5 +1,5 @@
 -- The call lists of docs/differences, of the cases that the machine has: the state before the call that shows the difference meets the case. Computed.
-use mathlib.Core.Bool.{Bool, true, false, cond, ◌&&◌}
+use mathlib.Core.Bool.{Bool, true, false, ◌&&◌}
 use mathlib.Core.List.{List, [], ◌∷◌}
 use mathlib.Core.Path.{◌≡◌, refl}
 use Prim.Native.Nat.{ℕ}

@@ -1,16 +1,13 @@
 -- A match delivered: the port's compare in either mode, and the machine's match that it is a part of. Assumes nothing.
-use Prim.Native.Nat.{ℕ, zero, suc, ◌+◌, ◌-◌, ◌*◌, ◌/◌, ◌%◌, ◌≤◌, ◌<◌}
-use mathlib.Core.Path.{◌≡◌, refl, sym, ap, ◌∙◌}
+use Prim.Native.Nat.{ℕ, zero, suc, ◌+◌, ◌<◌}
+use mathlib.Core.Path.{◌≡◌, refl, ap, ◌∙◌}
 use mathlib.Core.Bool.{Bool, true, false, cond, not, ◌&&◌, ◌||◌}
 use native.Mathlib.Omega.{arith}
-use lib.Dec.{eqb, leb, lit<}
-use lib.Bits.{bit_or}
+use lib.Dec.{lit<}
 use lib.ListN.{get_or, set, length}
 use lib.Seq.{get_or-set_same, get_or-set_other}
-use Rattle.rm0440.specs.Bits.{is_set}
 use Rattle.rm0440.specs.Output as Out
 use Rattle.tim.specs.declared.Timer.{Timer}
-use Rattle.tim.specs.Timer as T
 use Rattle.tim.specs.Change as C
 use Rattle.rm0440.specs.Rules.{Rules, manual_mode, Taken}
 use Rattle.rm0440.specs.State as M

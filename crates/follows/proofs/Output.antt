@@ -1,7 +1,7 @@
 -- Between events the output stays, edge and centre modes alike: what the port drove last is the machine's level at every cycle. Assumes nothing.
-use Prim.Native.Nat.{ℕ, zero, suc, ◌+◌, ◌-◌, ◌*◌, ◌/◌, ◌%◌, ◌≤◌, ◌<◌}
+use Prim.Native.Nat.{ℕ, zero, suc, ◌+◌, ◌-◌, ◌/◌, ◌%◌, ◌≤◌, ◌<◌}
 use mathlib.Core.Path.{◌≡◌, refl, sym, ap, ◌∙◌}
-use mathlib.Core.Bool.{Bool, true, false, cond, not, ◌&&◌, ◌||◌}
+use mathlib.Core.Bool.{Bool, true, false, cond, not, ◌&&◌}
 use mathlib.Core.Logic.{◌⊎◌, inl, inr}
 use native.Mathlib.Nat.{eq-or-lt_of_le, le_of_suc-le-suc}
 use native.Mathlib.Omega.{arith}
@@ -21,7 +21,7 @@ use Rattle.follows.proofs.Leap as Leap
 use Rattle.follows.specs.Seen.{raw, clocks_at, per}
 use Rattle.follows.proofs.Event.{next, not_yet, meets-is}
 use Rattle.follows.proofs.First.{turn_steps}
-use Rattle.follows.proofs.Port.{centre, update_steps, next_steps, seen, Runs}
+use Rattle.follows.proofs.Port.{centre, next_steps, seen, Runs}
 use Rattle.follows.proofs.Between.{seen_at, next-same, best}
 
 -- ---- the level changes at a match or a turn only

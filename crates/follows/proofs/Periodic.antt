@@ -1,14 +1,14 @@
 -- What edge and centre modes share, a single time with the period as a parameter. Assumes nothing.
 use Prim.Native.Nat.{ℕ, zero, suc, ◌+◌, ◌-◌, ◌*◌, ◌%◌, ◌≤◌, ◌<◌}
 use mathlib.Core.Path.{◌≡◌, refl, sym, ap, ◌∙◌}
-use mathlib.Core.Bool.{Bool, true, false, cond, not}
+use mathlib.Core.Bool.{Bool, true, false}
 use mathlib.Core.Logic.{◌⊎◌, inl, inr}
 use native.Mathlib.Nat.{mod-lt, suc-mod, mod-eq_of_lt, mod_self, add-zero, add-suc, add_assoc, mod-add-mod, eq-or-lt_of_le}
 use native.Mathlib.Numerals.{add-one}
 use native.Mathlib.Omega.{arith}
-use lib.Dec.{eqb, ltb, leb}
+use lib.Dec.{leb}
 use borrow.Author.Tests.{leb-true, leb-false, le-leb, lt-leb, eq-eqb, ne_eqb}
-use Rattle.follows.proofs.Place.{period, down_at, top, on_way, count_at, place_of, Counter, at, Stands, turns, step, iterate}
+use Rattle.follows.proofs.Place.{period, down_at, on_way, count_at, place_of, Counter, at, Stands, step, iterate}
 
 differ : true ≡ false → ⊥
 differ e = let z : ◌≡◌ {A = ℕ} 0 1 = cc in omega arith

@@ -1,6 +1,6 @@
 -- The port's timer over the period, edge-aligned and centre-aligned alike. m: the rules that manual mode takes from the manual. With what the port
 -- takes now these are tim's own (Instances), and with F-8 tim's cnt_at, next_event and updated are to read so: the theorems of deliveries then stand as they are.
-use Prim.Native.Nat.{ℕ, zero, suc, ◌+◌, ◌-◌, ◌*◌, ◌/◌, ◌%◌, ◌≤◌, ◌<◌}
+use Prim.Native.Nat.{ℕ, zero, suc, ◌+◌, ◌-◌, ◌*◌, ◌%◌, ◌<◌}
 use mathlib.Core.Path.{◌≡◌}
 use mathlib.Core.Bool.{Bool, true, false, cond, not, ◌&&◌, ◌||◌}
 use lib.Dec.{eqb}

@@ -1,5 +1,5 @@
 -- What the port's writes leave, of the timer synchronized at the write; and that each leaves such a timer again. Assumes nothing.
-use Prim.Native.Nat.{ℕ, zero, suc, ◌+◌, ◌-◌, ◌*◌, ◌/◌, ◌≤◌, ◌<◌}
+use Prim.Native.Nat.{ℕ, ◌-◌, ◌/◌, ◌≤◌}
 use mathlib.Core.Path.{◌≡◌, refl, sym, ap, ◌∙◌, subst}
 use mathlib.Core.Bool.{Bool, true, false, cond}
 use native.Mathlib.Nat.{le_refl}
@@ -10,7 +10,6 @@ use lib.ListN.{length, length-set}
 use Rattle.rm0440.specs.Bits.{field, is_set, CEN, ARPE}
 use Rattle.rm0440.specs.Counter.{step_cycles}
 use Rattle.rm0440.specs.Output as Out
-use Rattle.rm0440.specs.Registers.{kept_mask}
 use Rattle.tim.specs.declared.Timer.{Timer}
 use Rattle.tim.specs.declared.Count.{Count}
 use Rattle.tim.specs.Timer.{max, with_regs, with_count, ccmr_byte, with_cr1}

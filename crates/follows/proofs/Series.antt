@@ -1,6 +1,6 @@
 -- Deliveries one after the other, and of a timer with events due at its reference. Assumes nothing.
-use Prim.Native.Nat.{ℕ, zero, suc, ◌+◌, ◌-◌, ◌*◌, ◌≤◌, ◌<◌}
-use mathlib.Core.Path.{◌≡◌, refl, sym, ap, ◌∙◌, subst}
+use Prim.Native.Nat.{ℕ, zero, suc, ◌+◌, ◌-◌, ◌≤◌}
+use mathlib.Core.Path.{◌≡◌, refl, sym, ap, ◌∙◌}
 use mathlib.Core.Bool.{Bool, true, false, cond}
 use native.Mathlib.Nat.{zero-add, le_trans}
 use native.Mathlib.Omega.{arith}
@@ -17,13 +17,13 @@ use Rattle.tim.specs.Count.{counts}
 use Rattle.tim.specs.Next.{next_event}
 use Rattle.stepping.proofs.Agrees.{event-overflown}
 use Rattle.stepping.proofs.Synced.{runs_of}
-use Rattle.follows.specs.Seen.{raw, clocks_at, seen, rules_of, Timed, Within, due_by, applied, deliver}
-use Rattle.follows.specs.Follows.{Delivered, DeliveriesDue, Splits, WithinDown, Upward}
+use Rattle.follows.specs.Seen.{raw, clocks_at, seen, rules_of, Within, due_by, applied, deliver}
+use Rattle.follows.specs.Follows.{Delivered, DeliveriesDue, Splits, Upward}
 use Rattle.follows.proofs.Leap as Leap
 use Rattle.follows.proofs.Leap.{matched-none}
 use Rattle.follows.proofs.Port as Port
 use Rattle.follows.proofs.Deliver.{from-there, still, deliver-stopped, seen-stopped, mute}
-use Rattle.follows.proofs.Instances.{seen-is, on-course}
+use Rattle.follows.proofs.Instances.{on-course}
 use Rattle.follows.proofs.Standing.{seen-new}
 use Rattle.follows.proofs.Delivered.{left_is, seen-left}
 

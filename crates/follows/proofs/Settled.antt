@@ -1,12 +1,12 @@
 -- What a write makes due at once, delivered at its cycle; the machine's reset, and another divider. Assumes nothing.
-use Prim.Native.Nat.{ℕ, zero, suc, ◌+◌, ◌-◌, ◌*◌, ◌/◌, ◌%◌, ◌≤◌, ◌<◌}
+use Prim.Native.Nat.{ℕ, zero, suc, ◌*◌, ◌/◌, ◌%◌, ◌≤◌, ◌<◌}
 use mathlib.Core.Path.{◌≡◌, refl, sym, ap, ◌∙◌, subst}
-use mathlib.Core.Bool.{Bool, true, false, cond, not, ◌&&◌}
+use mathlib.Core.Bool.{Bool, true, false, cond, ◌&&◌}
 use mathlib.Core.Logic.{◌⊎◌, inl, inr}
 use native.Mathlib.Nat.{zero-mul, mod-eq_of_lt, lt-div-mul-add}
 use native.Mathlib.Numerals.{add-one}
 use native.Mathlib.Omega.{arith}
-use lib.Dec.{eqb, ltb}
+use lib.Dec.{eqb}
 use borrow.Author.Tests.{lt-ltb}
 use Rattle.rm0440.specs.Counter.{step_cycles}
 use Rattle.rm0440.specs.Rules.{port_takes, port_rules}
@@ -23,7 +23,6 @@ use Rattle.stepping.proofs.Synced.{runs_of, not-counts}
 use Rattle.follows.specs.Seen.{raw, clocks_at, per, seen, Timed, Within, due_by, deliver}
 use Rattle.follows.proofs.Leap as Leap
 use Rattle.follows.proofs.Leap.{clocks-suc}
-use Rattle.follows.proofs.Port as Port
 use Rattle.follows.proofs.Between.{ticks-are, seen_at, update-later}
 use Rattle.follows.proofs.Deliver.{from-there}
 use Rattle.follows.proofs.Instances.{seen-is, on-course}

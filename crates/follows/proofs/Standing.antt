@@ -1,6 +1,6 @@
 -- The port's reference moved to a call's cycle: nothing that is seen changes, and the timer stands where it is read. Assumes nothing.
 use Prim.Native.Nat.{ℕ, zero, suc, ◌+◌, ◌-◌, ◌*◌, ◌/◌, ◌%◌, ◌≤◌, ◌<◌, min}
-use mathlib.Core.Path.{◌≡◌, refl, sym, ap, ◌∙◌, subst}
+use mathlib.Core.Path.{◌≡◌, refl, sym, ap, ◌∙◌}
 use mathlib.Core.Bool.{Bool, true, false, cond, not, ◌&&◌, false≢true}
 use native.Mathlib.Nat.{mul-add-div_right, mul-add-mod_self_right, mul_assoc, div-mul-le_self, div-eq_of_lt, lt-div-mul-add, le_refl, min-eq_left, min-le_right, sub_self, zero-div, zero-mod}
 use native.Mathlib.Omega.{arith}

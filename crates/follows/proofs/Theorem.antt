@@ -14,12 +14,12 @@ use Rattle.rm0440.proofs.SameClock.{clock-same, clocks-same}
 use Rattle.rm0440.proofs.SameEgr.{write_same}
 use Rattle.tim.specs.declared.Timer.{Timer}
 use Rattle.tim.specs.declared.Inst.{Inst}
-use Rattle.tim.specs.Count.{ticks_at, cnt_at}
+use Rattle.tim.specs.Count.{ticks_at}
 use Rattle.tim.specs.Change as T
 use Rattle.regs.specs.Regs as R
 use Rattle.regs.proofs.Fixed.{inst-written}
 use Rattle.follows.specs.Seen.{seen, rules_of, Left, written, deliver}
-use Rattle.follows.specs.Follows.{between, Deliveries, Writes, Late, Reads, Outputs, Stays, TimerResets, Retimes, Goes, AboveReload, ClampDown, ClocksAgree, WritesAgree, Undisputed, acts, LateWrites, Follows}
+use Rattle.follows.specs.Follows.{between, Deliveries, Writes, Late, Reads, Outputs, Stays, Goes, AboveReload, ClampDown, acts, LateWrites, Follows}
 use Rattle.follows.proofs.Delivered as D
 use Rattle.follows.proofs.Standing.{Near}
 use Rattle.follows.proofs.Ports as P

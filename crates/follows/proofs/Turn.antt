@@ -1,9 +1,8 @@
 -- A turn delivered: the port's update in either mode, and the machine's clock that it is. Assumes nothing.
-use Prim.Native.Nat.{ℕ, zero, suc, ◌+◌, ◌-◌, ◌*◌, ◌/◌, ◌%◌, ◌≤◌, ◌<◌}
+use Prim.Native.Nat.{ℕ, suc, ◌*◌}
 use mathlib.Core.Path.{◌≡◌, refl, sym, ap, ◌∙◌}
 use mathlib.Core.Bool.{Bool, true, false, cond, not, ◌&&◌}
-use native.Mathlib.Omega.{arith}
-use lib.Dec.{eqb, leb}
+use lib.Dec.{eqb}
 use Rattle.rm0440.specs.Bits.{DIR, UDIS, OPM}
 use Rattle.rm0440.specs.Counter.{restart}
 use Rattle.tim.specs.declared.Timer.{Timer}
@@ -14,13 +13,13 @@ use Rattle.tim.specs.Change as C
 use Rattle.rm0440.specs.Rules.{Rules, manual_mode, Taken}
 use Rattle.rm0440.specs.State as M
 use Rattle.rm0440.specs.State.{with_bit}
-use Rattle.rm0440.specs.Clock.{wraps, counted, loaded, restarted, all_ahead, pulse_ended, update_event, wrapped, matched, stepped, clocks}
+use Rattle.rm0440.specs.Clock.{counted, loaded, restarted, all_ahead, pulse_ended, update_event, wrapped, matched, stepped, clocks}
 use Rattle.follows.proofs.Leap as Leap
 use Rattle.follows.specs.Seen.{raw, per}
 use Rattle.follows.proofs.Centre.{centre-channels, dir-is}
 use Rattle.follows.proofs.Event.{next, turn-first, match-first}
-use Rattle.follows.proofs.Port.{centre, with_way, turned, ended, updated, update_steps, next_steps, seen, Runs}
-use Rattle.follows.proofs.Between.{to-event, next-same, best}
+use Rattle.follows.proofs.Port.{centre, with_way, turned, ended, updated, next_steps, seen, Runs}
+use Rattle.follows.proofs.Between.{to-event, next-same}
 
 -- ---- the machine's overflow or underflow is that update
 

@@ -7,7 +7,6 @@ use lib.Dec.{eqb}
 use lib.Bits.{bit_and}
 use Rattle.rm0440.specs.Bits.{ARPE}
 use Rattle.rm0440.specs.Output as Out
-use Rattle.rm0440.specs.Registers.{kept_mask}
 use Rattle.rm0440.specs.Rules.{port_rules}
 use Rattle.rm0440.specs.State as M
 use Rattle.rm0440.specs.Clock.{matched}

@@ -1,5 +1,5 @@
 -- The port's timer at a cycle, as a state of RM0440's machine; and the port's delivery, of its timer alone.
-use Rattle.std.specs.Prelude.{ℕ, zero, suc, ◌+◌, ◌*◌, ◌/◌, ◌%◌, ◌≤◌, ◌<◌, ◌≡◌, true, false, cond, [], ◌∷◌, length}
+use Rattle.std.specs.Prelude.{ℕ, zero, suc, ◌+◌, ◌%◌, ◌≤◌, ◌<◌, ◌≡◌, true, false, cond, [], ◌∷◌, length}
 use Rattle.rm0440.specs.Bits.{CEN}
 use Rattle.rm0440.specs.Counter.{step_cycles, steps_between}
 use Rattle.rm0440.specs.Rules.{Rules, port_rules}

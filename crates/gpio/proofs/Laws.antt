@@ -1,5 +1,5 @@
 -- What a refreshed pin is. Assumes nothing.
-use mathlib.Core.Path.{◌≡◌, refl, ap, sym, ◌∙◌}
+use mathlib.Core.Path.{◌≡◌, refl, sym}
 use mathlib.Core.Bool.{Bool, true, false, not, ◌&&◌}
 use Prim.Native.Nat.{ℕ, ◌+◌, ◌-◌, ◌*◌, ◌/◌, ◌%◌, ◌<◌}
 use native.Mathlib.Omega.{arith}
@@ -8,9 +8,7 @@ use lib.Ieee.{Float}
 use borrow.Author.Tests.{eqb-true, ne_eqb}
 use Rattle.pins.specs.Pins.{resolved}
 use Rattle.gpio.specs.declared.Gpio.{Gpio}
-use Rattle.gpio.specs.declared.PinCfg.{PinCfg}
 use Rattle.gpio.specs.declared.Change.TheVariants.{Level}
-use Rattle.gpio.specs.declared.Moved.{Moved}
 use Rattle.gpio.specs.Gpio.{signal_of, drives, side_of, changed, updated, refreshed, is_push_pull, push_pull, change_of}
 
 -- the change is that of the level

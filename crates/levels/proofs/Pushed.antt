@@ -1,6 +1,6 @@
 -- A few words and a real of a pin stored: the pin driven at a level. Assumes nothing.
 use mathlib.Core.Path.{◌≡◌, refl, ap, sym, ◌∙◌}
-use mathlib.Core.Bool.{Bool, true, false, cond}
+use mathlib.Core.Bool.{Bool, true, false}
 use mathlib.Core.List.{List, [], ◌∷◌}
 use Prim.Native.Nat.{ℕ, ◌+◌, ◌*◌, ◌/◌, ◌%◌, ◌<◌, ◌≤◌}
 use native.Mathlib.Nat.{zero-add, add-zero, add_assoc}
@@ -11,7 +11,7 @@ use lib.ListN.{length, get_or, set, drop, length-set}
 use lib.Seq.{get_or-set_same, get_or-set_other, set-get_or, set-set, get_or-drop}
 use lib.Ieee.{Float, nan}
 use Rattle.gpio.specs.declared.Gpio.{Gpio}
-use Rattle.codec.specs.Pin.{decode_gpio, ext_of}
+use Rattle.codec.specs.Pin.{decode_gpio}
 use Rattle.pins.specs.Pins.{supply_at}
 use Rattle.gpio.specs.Gpio.{bit, push_pull}
 use Rattle.machine.specs.Board.{no_gpio}

@@ -3,7 +3,6 @@
 use mathlib.Core.Path.{◌≡◌, refl, sym, ap, ◌∙◌, subst, fun_ext}
 use mathlib.Core.Bool.{Bool, true, false, cond, not, ◌&&◌, ◌||◌, false≢true}
 use mathlib.Core.List.{List, [], ◌∷◌, ◌++◌, map}
-use mathlib.Core.Logic.{◌⊎◌, inl, inr}
 use Prim.Native.Nat.{ℕ, zero, suc, ◌+◌, ◌-◌, ◌*◌, ◌≤◌, ◌<◌}
 use native.Mathlib.Nat.{not-suc-le-zero}
 use native.Mathlib.Omega.{arith}
@@ -29,13 +28,13 @@ use Rattle.nvic.specs.Nvic.{Line, Nvic, idle, some, line_set, line_cleared, has_
 use Rattle.nvic.specs.Nvic as N
 use Rattle.nvic.proofs.Laws.{same, other, no_line}
 use Rattle.machine.specs.Board.{Board, no_timer, timer_at, with_timer, with_nvic, with_pads, with_clocks, with_last, filled, fresh_board, first_board, one}
-use Rattle.machine.specs.Deliver.{divider_of, wants_line, line_settled, rebooked, delivered, after_delivery, most_events}
+use Rattle.machine.specs.Deliver.{divider_of, wants_line, line_settled, rebooked, delivered, after_delivery}
 use Rattle.machine.specs.Sys as Sys
 use Rattle.machine.specs.Refusals.{refusals, applies}
 use Rattle.machine.specs.Sound.{Sound}
 use Rattle.machine.specs.Call.{Setup, pin_setting, outside_drive, pin_reset, writing, resetting, delivery, Call, set_up, clock_tree, enable, clear_pending, ask, lend, Outcome, served, is_set_up, is_refusal}
 use Rattle.machine.specs.Step.{register, written, within_limits, insts_good, entries_below, clock_on, followed, timer_reset, delivered_to, timer_retimed, all_retimed, tree_set, step, board_after}
-use Rattle.machine.specs.Lines.{asks, wish, any_of, Lines, RustLine, rust_idle, rust_set, rust_cleared, bare, rust_settled, rust_served, rust_after, rust_lines, OneEach, OneEachAlong, TwoTimers}
+use Rattle.machine.specs.Lines.{asks, any_of, Lines, RustLine, rust_set, rust_cleared, bare, rust_settled, rust_served, rust_after, rust_lines, OneEach, OneEachAlong, TwoTimers}
 use Rattle.machine.proofs.NumberLaws.{both, Verdict, refuses, passes, answered, step_given, performed, performed-served, here, set-up-within}
 use Rattle.machine.proofs.Routing.{either, by-test}
 use Rattle.machine.proofs.Reach.{inst-reset, inst-retimed, inst-written, delivered-inst, sound-step, sound-first, sound-after}

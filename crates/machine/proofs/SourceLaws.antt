@@ -1,16 +1,14 @@
 -- Each entry's source is the one that resolving gave, and none is 4: the statements of specs/Sources.antt, proved. Assumes nothing.
-use mathlib.Core.Path.{◌≡◌, refl, ap, sym, ◌∙◌}
+use mathlib.Core.Path.{◌≡◌, refl, ◌∙◌}
 use mathlib.Core.Bool.{Bool, true, false, cond}
-use mathlib.Core.List.{List, [], ◌∷◌, ◌++◌}
 use Prim.Native.Nat.{ℕ, zero, suc, ◌+◌, ◌-◌, ◌≤◌}
-use lib.Dec.{eqb, ltb, leb, lit≤}
+use lib.Dec.{eqb, ltb, lit≤}
 use lib.Ieee as Ieee
 use lib.Ieee.{Float}
 use lib.ListN.{length}
 use native.Mathlib.Omega.{arith}
 use borrow.Author.Tests.{eqb-false}
 use Rattle.tim.specs.declared.Timer.{Timer}
-use Rattle.tim.specs.declared.Next.{Next}
 use Rattle.tim.specs.declared.Due.{Due}
 use Rattle.tim.specs.declared.Due.TheVariants.{At, Stopped}
 use Rattle.tim.specs.Next.{next_event}
@@ -24,14 +22,14 @@ use Rattle.pins.specs.Pins.{effective_dir, vil, vih, clamped, sensed_from, resol
 use Rattle.gpio.specs.declared.Gpio.{Gpio}
 use Rattle.gpio.specs.declared.Change.{Change}
 use Rattle.gpio.specs.declared.Change.TheVariants.{Same, Level}
-use Rattle.gpio.specs.Gpio.{signal_of, side_of, with_mcu, bit, changed, updated, refreshed}
+use Rattle.gpio.specs.Gpio.{signal_of, side_of, with_mcu, bit, updated, refreshed}
 use Rattle.book.specs.Book.{Entry, Changes, entry_of, entries_of}
 use Rattle.machine.specs.Board.{Board, Pads, timer_at, gpio_at, level_of, route_of, with_sig_level, no_pin}
 use Rattle.machine.specs.Sys as Sys
 use Rattle.machine.specs.Sys.{Move, update_pin, refresh_pin, sig_out, drive_channel, drive_outputs, driver}
-use Rattle.machine.specs.Deliver.{Run, turn, turn_of, handled, stop, after_turn, due_by, delivered, most_events, divider_of}
+use Rattle.machine.specs.Deliver.{Run, turn, turn_of, handled, due_by, delivered, most_events, divider_of}
 use Rattle.machine.specs.Call.{Call, set_up, clock_tree, enable, clear_pending, ask, lend, pin_setting, outside_drive, pin_reset, writing, resetting, delivery, Outcome}
-use Rattle.machine.specs.Step.{step, changes_of, followed, timer_reset, delivered_to, written, clock_on, cfg_of}
+use Rattle.machine.specs.Step.{step, changes_of, followed, timer_reset, delivered_to, written, clock_on}
 use Rattle.machine.specs.Refusals.{refusals}
 use Rattle.machine.specs.Demand1.{Every}
 use Rattle.machine.specs.Sources.{Resolves, NeverHeld, Sources}

@@ -16,7 +16,7 @@ use Rattle.regs.specs.Regs as R
 use Rattle.real.specs.Real.{positive}
 use Rattle.clk.specs.declared.ClockTree.{ClockTree}
 use Rattle.clk.specs.Clk.{in_range, timer_div, good}
-use Rattle.machine.specs.Board.{Board, route_of, function_of, no_pin}
+use Rattle.machine.specs.Board.{Board, function_of}
 use Rattle.machine.specs.Sys as Sys
 use Rattle.machine.specs.Call.{Setup}
 use Rattle.machine.specs.Step.{fresh, insts_good, entries_below, within_limits, cfg_of}

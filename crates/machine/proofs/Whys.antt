@@ -4,15 +4,15 @@ use mathlib.Core.Bool.{Bool, true, false, cond, not, ◌&&◌}
 use mathlib.Core.List.{List, [], ◌∷◌}
 use Prim.Native.Nat.{ℕ, zero, suc, ◌+◌, ◌≤◌, ◌<◌}
 use native.Mathlib.Omega.{arith}
-use lib.Dec.{eqb, leb}
+use lib.Dec.{eqb}
 use lib.ListN.{get_or, length}
 use borrow.Author.Tests.{eq-eqb, eqb-true, eqb-false}
 use Rattle.gpio.specs.declared.Gpio.{Gpio}
 use Rattle.gpio.specs.Gpio.{signal_of, alternate_mode}
-use Rattle.machine.specs.Board.{Board, timer_at, gpio_at, route_of, level_of, first_board}
+use Rattle.machine.specs.Board.{Board, timer_at, gpio_at, route_of, first_board}
 use Rattle.machine.specs.Call.{Call, Outcome, query_why}
 use Rattle.machine.specs.Step.{step, refuse_if, absent, cycle_astray, board_after}
-use Rattle.machine.specs.Why.{feeds, feeder_from, feeder, is_behind, reasons, first_true, is_reason, why_low}
+use Rattle.machine.specs.Why.{feeds, feeder_from, is_behind, reasons, first_true, is_reason, why_low}
 use Rattle.machine.specs.Explains.{Given, Found, Explains}
 use Rattle.machine.proofs.NumberLaws.{no_both}
 use Rattle.machine.proofs.Reach.{one-socket}

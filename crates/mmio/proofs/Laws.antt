@@ -1,11 +1,11 @@
 -- The calls over any board: the callees' equations in, step's answer out. Assumes nothing.
 use mathlib.Core.Path.{◌≡◌, refl, ap, sym, subst, ◌∙◌}
-use mathlib.Core.Bool.{Bool, true, false, cond, not, ◌&&◌, ◌||◌, false≢true}
+use mathlib.Core.Bool.{Bool, true, false, cond, not, ◌&&◌}
 use mathlib.Core.List.{List, [], ◌∷◌}
-use Prim.Native.Nat.{ℕ, ◌≤◌, ◌<◌, ◌*◌, ◌/◌}
+use Prim.Native.Nat.{ℕ, ◌<◌}
 use native.Mathlib.Omega.{arith}
-use lib.Dec.{eqb, ltb}
-use borrow.Author.Tests.{ltb-false, not-true, not-false}
+use lib.Dec.{eqb}
+use borrow.Author.Tests.{not-true, not-false}
 use lib.Ieee.{Float}
 use lib.ListN.{length}
 use lib.Seq.{set-set, set-get_or}
@@ -19,15 +19,13 @@ use Rattle.tim.proofs.Fit.{either}
 use Rattle.regs.specs.Regs as R
 use Rattle.tim.specs.Change.{max_of, reset_state}
 use Rattle.periph.specs.Lane.{lane_read}
-use Rattle.clk.specs.declared.ClockTree.{ClockTree}
-use Rattle.clk.specs.Clk.{good}
-use Rattle.book.specs.Book.{Book, book, puts, entries_of, places, Holds, Room, Lent}
+use Rattle.book.specs.Book.{Book, book, puts, Holds, Room, Lent}
 use Rattle.book.proofs.Laws.{holds}
 use Rattle.machine.specs.Board.{Board, no_timer, timer_at, with_timer, with_pads, with_last}
 use Rattle.machine.specs.Sys.{drive_outputs}
 use Rattle.machine.specs.Deliver.{divider_of, line_settled, rebooked, delivered}
-use Rattle.machine.specs.Call.{Outcome, read, peek, reset_timer, deliver, clock_tree, served}
-use Rattle.machine.specs.Step.{step, cycle_astray, clock_on, register, followed, timer_reset, delivered_to, tree_set}
+use Rattle.machine.specs.Call.{Outcome, read, peek, reset_timer, deliver}
+use Rattle.machine.specs.Step.{step, clock_on, register, followed, timer_reset, delivered_to}
 use Rattle.machine.specs.Refusals.{refusals, first, no_such_index, bad_size, clock_astray, book_full}
 use Rattle.machine.proofs.NumberLaws.{performed}
 use Rattle.state.specs.View.{view}
@@ -38,7 +36,7 @@ use Rattle.delivery.specs.declared.Delivered.{Delivered}
 use Rattle.delivery.specs.Delivery.{Delivers}
 use Rattle.answer.specs.declared.Answer.{Answer}
 use Rattle.answer.specs.Promise.{answer, Answers}
-use Rattle.answer.proofs.Given.{Passed, passed, timer-passed, away, gives, turns-away, turns-away-book, serves, serves-book}
+use Rattle.answer.proofs.Given.{Passed, passed, timer-passed, turns-away, turns-away-book, serves, serves-book}
 use Rattle.mmio.specs.Leaves.{Leaves, DrivenIf, after}
 
 -- the numbers that `book_refusal` looks at

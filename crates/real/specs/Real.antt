@@ -1,5 +1,5 @@
 -- Floats as document 01 speaks of them, in IEEE 754's binary64. A float is `nan`, an infinity, or `fin s m e`: m × 2^e, negative where s is true.
-use Rattle.std.specs.Prelude.{ℕ, Bool, true, false, cond, pos, Float}
+use Rattle.std.specs.Prelude.{ℕ, Bool, false, cond, pos, Float}
 use Rattle.std.specs.Float.Ieee as Ieee
 use Rattle.std.specs.Float.{binary64, nan, inf, fin}
 

@@ -5,8 +5,8 @@ use Prim.Native.Nat.{ℕ, zero, suc}
 use native.Mathlib.Omega.{arith}
 use lib.Ieee.{Float}
 use lib.ListN.{length, get_or, drop}
-use Rattle.book.specs.Book.{Entry, Lent, slices, places, Holds}
-use Rattle.machine.specs.Board.{Board, gpio_at, first_board}
+use Rattle.book.specs.Book.{Entry, Lent, slices, Holds}
+use Rattle.machine.specs.Board.{Board, gpio_at}
 use Rattle.machine.specs.Call.{Call, write, lent}
 use Rattle.machine.specs.Step.{step, run, board_after}
 use Rattle.machine.proofs.Numbers.{entries_fit}
@@ -14,9 +14,9 @@ use Rattle.state.specs.View.{view}
 use Rattle.answer.specs.declared.Answer.{Answer}
 use Rattle.answer.specs.Promise.{Answers}
 use Rattle.book.specs.Level.{entries_from, level_at, highs}
-use Rattle.accuracy.specs.Claim.{Pilot, Steady, Window, WithinBound, board₀, board₁, joined, period_of, high_of}
+use Rattle.accuracy.specs.Claim.{Pilot, WithinBound, board₁, joined, period_of, high_of}
 use Rattle.accuracy.proofs.Accurate.{accurate}
-use Rattle.recorded.specs.Recorded.{Made, found, leaves, Kept, Chain, entries_left, calls_made, MadeOf, level_left, BookClaim}
+use Rattle.recorded.specs.Recorded.{Made, found, leaves, Kept, Chain, entries_left, calls_made, MadeOf, BookClaim}
 
 -- ---- what a book holds is what was put into it
 

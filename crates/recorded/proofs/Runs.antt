@@ -1,6 +1,6 @@
 -- `run_calls` keeps board and book as a chain of runs asks. Assumes nothing.
 use mathlib.Core.Path.{◌≡◌, sym, ap, subst, ◌∙◌}
-use mathlib.Core.List.{List, ◌++◌}
+use mathlib.Core.List.{List}
 use Prim.Native.Nat.{ℕ, ◌*◌, ◌≤◌}
 use lib.Ieee.{Float}
 use lib.ListN.{length, take, drop}
@@ -13,7 +13,7 @@ use Rattle.calls.specs.declared.Ran.{Ran}
 use Rattle.calls.specs.Taken as T
 use Rattle.calls.proofs.TakenLaws.{taken-first, lent_all, taken-all}
 use Rattle.accuracy.specs.Claim.{joined}
-use Rattle.recorded.specs.Recorded.{Made, Kept}
+use Rattle.recorded.specs.Recorded.{Kept}
 
 -- `run_calls`, by its promise: the calls that it performed are the first of its words', as many as it returned
 pub by-run-calls : (ns w w₁ : List ℕ) (x x₁ : List Float) (a a₁ : List ℕ) (u u₁ : Lent) (r : Ran) → T.Performs ns w w₁ x x₁ a a₁ u u₁ r

@@ -7,7 +7,7 @@ use native.Mathlib.Omega.{arith}
 use lib.Dec.{eqb, leb, ltb}
 use lib.ListN.{length}
 use borrow.Author.Tests.{eq-eqb, eqb-true, le-ltb, leb-true}
-use Rattle.rm0440.specs.Bits.{CEN, DIR}
+use Rattle.rm0440.specs.Bits.{CEN}
 use Rattle.tim.specs.declared.Timer.{Timer}
 use Rattle.tim.specs.Timer.{down, with_cr1}
 use Rattle.tim.specs.Count.{blocked, up_from, cnt_at, synced}

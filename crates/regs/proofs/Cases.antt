@@ -1,11 +1,9 @@
 -- Registers: which case of a definition a write or a read takes. Assumes nothing.
 use mathlib.Core.Path.{◌≡◌, refl, ◌∙◌, ap}
-use mathlib.Core.Bool.{Bool, true, false, cond}
-use mathlib.Core.Logic.{◌⊎◌}
+use mathlib.Core.Bool.{true, false}
 use Prim.Native.Nat.{ℕ, ◌%◌, ◌≤◌, ◌<◌}
-use lib.Dec.{eqb}
 use native.Mathlib.Nat.{div-one}
-use borrow.Author.Tests.{eq-eqb, ne_eqb, le-leb, lt-leb}
+use borrow.Author.Tests.{ne_eqb, le-leb, lt-leb}
 use Rattle.rm0440.specs.Bits.{is_set}
 use Rattle.tim.specs.declared.Timer.{Timer}
 use Rattle.tim.specs.Count.{synced}

@@ -1,5 +1,4 @@
 -- Each register write keeps the timer's bounds. Assumes nothing.
-use mathlib.Core.Bool.{Bool, true, false, cond}
 use Prim.Native.Nat.{ℕ, ◌+◌, ◌/◌, ◌≤◌, ◌<◌}
 use lib.Bits.{bit_and, and_le_r}
 use lib.Dec.{lit<, eqb}

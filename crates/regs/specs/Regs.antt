@@ -1,14 +1,13 @@
 -- Reading and writing registers (document 01, "Register and lane"; the Rust's read_reg and write_reg).
-use Rattle.std.specs.Prelude.{Bool, true, false, cond, not, ◌&&◌, ◌||◌, List, [], ◌∷◌, ℕ, ◌+◌, ◌-◌, ◌*◌, ◌/◌, ◌<◌, ltb, eqb, get_or, set}
+use Rattle.std.specs.Prelude.{Bool, true, false, cond, not, ◌&&◌, ℕ, ◌+◌, ◌-◌, ◌/◌, ltb, eqb, get_or, set}
 use Rattle.std.specs.Int.Bits.{bit_and, bit_or}
 use Rattle.rm0440.specs.Bits.{field, is_set, CEN, ARPE}
 use Rattle.rm0440.specs.Output as Out
 use Rattle.rm0440.specs.Registers.{kept_mask}
 pub use Rattle.rm0440.specs.Registers.{kept, is_ccr, ccr_channel}
 use Rattle.tim.specs.declared.Timer.{Timer}
-use Rattle.tim.specs.declared.Regs.{Regs}
 use Rattle.regs.specs.declared.Written.{Written}
-use Rattle.tim.specs.Timer.{with_count, with_chan, with_regs, with_cr1, down, max, is_output, oc_mode, ccmr_byte}
+use Rattle.tim.specs.Timer.{with_count, with_chan, with_regs, with_cr1, down, max, is_output, ccmr_byte}
 use Rattle.tim.specs.Count.{counts, cnt_at, synced, at_count}
 use Rattle.tim.specs.Change.{behind, with_done, recomputed, started, stopped, matched}
 use Rattle.tim.specs.Change as C

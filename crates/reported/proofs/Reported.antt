@@ -1,21 +1,21 @@
 -- The claims of Planned.antt. Assumes nothing.
 use mathlib.Core.Path.{◌≡◌, refl, sym, ap, subst, ◌∙◌}
-use mathlib.Core.Bool.{Bool, true, false, cond}
+use mathlib.Core.Bool.{false, cond}
 use mathlib.Core.List.{List, [], ◌∷◌, ◌++◌, append_assoc}
 use Prim.Native.Nat.{ℕ, ◌-◌, ◌*◌, ◌≤◌, ◌<◌}
 use native.Mathlib.Omega.{arith}
-use lib.Dec.{eqb, ltb}
+use lib.Dec.{eqb}
 use lib.ListN.{get_or}
 use borrow.Author.Tests.{le-ltb}
 use Rattle.book.specs.Book.{Entry}
 use Rattle.book.specs.Level.{level_at, highs}
-use Rattle.machine.specs.Board.{timer_at, gpio_at}
+use Rattle.machine.specs.Board.{timer_at}
 use Rattle.machine.specs.Step.{board_after}
 use Rattle.accuracy.specs.Claim.{Pilot, Steady, WithinBound, board₁, recorded, period_of, high_of}
 use Rattle.accuracy.proofs.Aim.{due}
 use Rattle.accuracy.proofs.Levels.{Upward}
 use Rattle.accuracy.proofs.Accurate.{accurate, in_order_lem, pin-is}
-use Rattle.shift.specs.Shift.{Shift, level_before, high_in, cycle_before, misplaced, out_of_order, number_of, Figures, figures, figures_at, Reports}
+use Rattle.shift.specs.Shift.{Shift, high_in, cycle_before, misplaced, out_of_order, number_of, Figures, figures, figures_at}
 use Rattle.shift.proofs.Sources.{number-bare, report-bare}
 use Rattle.reported.specs.Planned.{entries_after, Planned, ReportClaim, OrderClaim, OnlyOf, ServedClaim}
 

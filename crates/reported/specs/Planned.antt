@@ -1,6 +1,6 @@
 -- Demand 3 of the duty report: for a steady pilot (crates/accuracy/specs/Claim.antt) and a shift inside its span, the high cycles that the report
 -- gives for its pin satisfy demand 3's bound; and the record is in order for that pin.
-use Rattle.std.specs.Prelude.{◌≡◌, Bool, true, false, List, [], ◌∷◌, ◌++◌, map, ℕ, ◌+◌, ◌-◌, ◌*◌, ◌≤◌, get_or}
+use Rattle.std.specs.Prelude.{◌≡◌, false, List, [], ◌∷◌, ◌++◌, map, ℕ, ◌-◌, ◌*◌, ◌≤◌, get_or}
 use Rattle.book.specs.Book.{Entry}
 use Rattle.machine.specs.Board.{gpio_at}
 use Rattle.machine.specs.Step.{run}

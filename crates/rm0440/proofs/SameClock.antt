@@ -1,17 +1,17 @@
 -- Outside the named cases a clock by rules r is a clock by the manual. Assumes nothing.
 use Prim.Native.Nat.{ℕ, zero, suc, ◌+◌, ◌-◌, ◌*◌, ◌/◌, ◌%◌, ◌≤◌, ◌<◌}
-use mathlib.Core.Path.{◌≡◌, refl, sym, ap, ◌∙◌}
+use mathlib.Core.Path.{◌≡◌, refl, ap, ◌∙◌}
 use mathlib.Core.Bool.{Bool, true, false, cond, not, ◌&&◌, ◌||◌}
 use mathlib.Core.Logic.{◌⊎◌, inl, inr}
 use native.Mathlib.Nat.{eq-or-lt_of_le, div-div-eq-div-mul, mul-div-mul_right, div-add-mod'}
 use native.Mathlib.Omega.{arith}
 use lib.Dec.{eqb, ltb, leb, lit<}
 use lib.ListN.{get_or}
-use borrow.Author.Tests.{ltb-true, ltb-false, eqb-true, eqb-false, ne_eqb, eq-eqb, le-leb, lt-leb}
+use borrow.Author.Tests.{ltb-false, ne_eqb, eq-eqb, le-leb, lt-leb}
 use Rattle.rm0440.specs.Bits.{CEN, UDIS, OPM}
 use Rattle.rm0440.specs.Rules.{Rules, manual, all_taken, manual_mode, port_rules}
-use Rattle.rm0440.specs.State.{Timer, ccr_of, is_output, down, centre, CMS, with_count, with_sr, cc_flags, flag}
-use Rattle.rm0440.specs.Clock.{going, wraps, restarted, loaded, pulse_ended, update_event, passes_over, wrapped, counted, equal, flags, meets, matched, stepped, blocked, clock, clocks}
+use Rattle.rm0440.specs.State.{Timer, is_output, down, centre, CMS, with_count, with_sr, cc_flags, flag}
+use Rattle.rm0440.specs.Clock.{going, wraps, restarted, loaded, pulse_ended, update_event, passes_over, wrapped, counted, equal, meets, matched, stepped, blocked, clock, clocks}
 use Rattle.rm0440.specs.Cases as C
 use Rattle.rm0440.specs.Cases.{Outside, settled, some, above, missed}
 

@@ -1,17 +1,17 @@
 -- Outside the named cases a write by rules r is the manual's: EGR, and any register. Assumes nothing.
-use Prim.Native.Nat.{ℕ, zero, suc, ◌+◌, ◌-◌, ◌≤◌, ◌<◌, ◌/◌}
+use Prim.Native.Nat.{ℕ, ◌+◌, ◌<◌, ◌/◌}
 use mathlib.Core.Path.{◌≡◌, refl, sym, ap, ◌∙◌}
 use mathlib.Core.Bool.{Bool, true, false, cond, not, ◌&&◌, ◌||◌}
 use mathlib.Core.List.{List, [], ◌∷◌}
 use native.Mathlib.Omega.{arith}
-use lib.Dec.{eqb, ltb, leb}
+use lib.Dec.{eqb, ltb}
 use lib.ListN.{get_or, set}
 use lib.Seq.{set-get_or}
-use borrow.Author.Tests.{eqb-true, ne_eqb, ltb-true, ltb-false, lt-ltb}
+use borrow.Author.Tests.{eqb-true, ne_eqb, lt-ltb}
 use Rattle.rm0440.specs.Bits.{is_set, UDIS, URS, OPM}
 use Rattle.rm0440.specs.Output as Out
 use Rattle.rm0440.specs.Rules.{Rules, manual}
-use Rattle.rm0440.specs.State.{Timer, reg, in_turn, mode, is_output, down, centre, with_shadows, with_count, with_matches, with_sr, with_bit, cc_flags, flag}
+use Rattle.rm0440.specs.State.{Timer, reg, mode, is_output, down, centre, with_shadows, with_count, with_matches, with_sr, with_bit, cc_flags, flag}
 use Rattle.rm0440.specs.Clock.{loaded, pulse_ended, all_ahead, latched, matched}
 use Rattle.rm0440.specs.Write.{turned, generated, generated_cc, write_egr, is_ccr, ccr_channel, write_channel, write, kept}
 use Rattle.rm0440.specs.Cases as C

@@ -1,26 +1,25 @@
 -- Outside the named cases a write by rules r is a write by the manual: what every write shares, and CNT. Assumes nothing.
-use Prim.Native.Nat.{ℕ, zero, suc, ◌+◌, ◌-◌, ◌≤◌, ◌<◌}
+use Prim.Native.Nat.{ℕ}
 use mathlib.Core.Path.{◌≡◌, refl, sym, ap, ◌∙◌}
 use mathlib.Core.Bool.{Bool, true, false, cond, not, ◌&&◌, ◌||◌}
 use mathlib.Core.List.{List}
 use native.Mathlib.Omega.{arith}
-use lib.Dec.{eqb, ltb, leb}
-use lib.Bits.{bit_and}
+use lib.Dec.{eqb, ltb}
 use lib.ListN.{get_or, set}
 use lib.Seq.{set-get_or}
 use Rattle.rm0440.specs.Output as Out
 use borrow.Author.Tests.{eqb-true}
 use Rattle.rm0440.specs.Bits.{is_set, CEN, ARPE}
 use Rattle.rm0440.specs.Rules.{Rules, manual}
-use Rattle.rm0440.specs.State.{Timer, in_turn, ccr_of, byte, mode, is_output, down, centre, with_regs, with_channel_regs, with_shadows, with_count, with_matches, with_cr1, with_bit, reg, CMS}
-use Rattle.rm0440.specs.Clock.{going, equal, flags, wrapped}
+use Rattle.rm0440.specs.State.{Timer, in_turn, ccr_of, byte, mode, is_output, down, centre, with_shadows, with_matches, with_cr1, with_bit, reg, CMS}
+use Rattle.rm0440.specs.Clock.{going, equal}
 use Rattle.rm0440.specs.Level.{ocref}
 use Rattle.rm0440.specs.Write.{overrun, comes, answered, resettled, turned, kept_cr1, new_cr1, shaped, unbuffered, enables, kept_part, starts_or_turns, left_cr1, write_cr1, left_cnt, write_cnt, stored_arr, left_arr, write_arr, stored_ccmr, held, unloaded, left_ccmr, write_ccmr, stored_ccr, left_ccr, write_ccr}
 use Rattle.rm0440.specs.Cases.{settled, some}
 use Rattle.rm0440.specs.Cases as C
 use Rattle.rm0440.specs.WriteCases as W
 use Rattle.rm0440.specs.WriteCases.{unlike, differ, OutsideMatch, OutsideCr1, OutsideCnt, OutsideArr, OutsideCcmr}
-use Rattle.rm0440.proofs.SameClock.{no, or_same, centre-same, Parts, parts}
+use Rattle.rm0440.proofs.SameClock.{no, or_same, centre-same, parts}
 
 module _ (r : Rules) (old t : Timer) (o : OutsideMatch r old t) where
   no-overrun : overrun r t ≡ false

@@ -1,5 +1,5 @@
 -- The output stage of a channel (RM0440, "Output compare mode", "Forced output mode", "PWM mode", TIMx_CCMRx and TIMx_CCER).
-use Rattle.std.specs.Prelude.{Bool, true, false, cond, not, ℕ, ◌+◌, ◌*◌, ◌/◌, ◌%◌, eqb, ltb, leb}
+use Rattle.std.specs.Prelude.{Bool, true, false, cond, not, ℕ, ◌+◌, ◌*◌, ◌%◌, eqb, ltb, leb}
 use Rattle.rm0440.specs.Bits.{field, is_set}
 
 -- OCxM, its three low bits (docs/DIFFERENCES.md, mode-fourth-bit)

@@ -1,6 +1,6 @@
 -- The general-purpose timer's state, as RM0440's block diagram and "Time-base unit" have it. Here and in Clock, Write and Read sentences in
 -- quotation marks give the manual's text from memory, or as documents 01 and 02 have it; F-n is a request of document 02.
-use Rattle.std.specs.Prelude.{Bool, true, false, cond, not, ◌&&◌, List, [], ◌∷◌, ℕ, ◌+◌, ◌-◌, ◌/◌, ◌^◌, eqb, ltb, get_or, set}
+use Rattle.std.specs.Prelude.{Bool, true, false, cond, not, ◌&&◌, List, [], ◌∷◌, ℕ, ◌+◌, ◌-◌, ◌/◌, ◌^◌, eqb, ltb, get_or}
 use Rattle.std.specs.Int.Bits.{bit_and, bit_or}
 use Rattle.rm0440.specs.Bits.{field, DIR}
 use Rattle.rm0440.specs.Output as Out

@@ -5,11 +5,11 @@ use mathlib.Core.List.{List, [], ◌∷◌, ◌++◌}
 use Prim.Native.Nat.{ℕ, ◌+◌, ◌-◌, ◌*◌, ◌/◌, ◌%◌, ◌<◌, ◌≤◌}
 use native.Mathlib.Omega.{arith}
 use lib.Dec.{eqb, ltb, leb}
-use lib.ListN.{length, get_or, take, drop}
-use borrow.Author.Tests.{ltb-true, ltb-false, leb-true, eqb-true, eqb-false, lt-ltb, le-ltb, eq-eqb, ne_eqb, not-true, not-false}
+use lib.ListN.{length, get_or, take}
+use borrow.Author.Tests.{ltb-false, leb-true, eqb-true, eqb-false, lt-ltb, le-ltb, eq-eqb, ne_eqb, not-false}
 use Rattle.machine.specs.Refusals.{first}
 use Rattle.tim.specs.declared.Inst.{Inst}
-use Rattle.settings.specs.Record.{one, four, byte_at, two_at, four_at, length_of, kind_of, encode, decode, cut_short, strange_kind, wrong_length, wrong_added, wrong_settings, good, read_number, settings_of, served, turned_away, read}
+use Rattle.settings.specs.Record.{four, byte_at, length_of, kind_of, encode, decode, cut_short, strange_kind, wrong_length, wrong_added, wrong_settings, good, read_number, served, turned_away, read}
 use Rattle.settings.specs.Kept.{Kept}
 use Rattle.settings.proofs.Tests.{and_left, and_right, or_left, or_right, or-false, places, take_places, four-back, four_bytes, byte-back}
 

@@ -3,15 +3,14 @@ use mathlib.Core.Path.{◌≡◌, refl, sym, ◌∙◌}
 use mathlib.Core.Bool.{Bool, true, false, cond, not, ◌||◌}
 use mathlib.Core.List.{List, [], ◌∷◌, ◌++◌}
 use Prim.Native.Nat.{ℕ, ◌+◌, ◌-◌, ◌%◌, ◌<◌, ◌≤◌}
-use native.Mathlib.Omega.{arith}
-use lib.Dec.{eqb, ltb}
+use lib.Dec.{eqb}
 use lib.ListN.{length, take, drop}
-use borrow.Author.Tests.{lt-ltb, le-ltb, eq-eqb, ne_eqb}
+use borrow.Author.Tests.{lt-ltb, le-ltb, ne_eqb}
 use Rattle.machine.specs.Refusals.{first}
 use Rattle.tim.specs.declared.Inst.{Inst}
 use Rattle.settings.specs.declared.Settings.{Settings}
 use Rattle.settings.specs.declared.Read.{Read}
-use Rattle.settings.specs.Record.{four, byte_at, four_at, length_of, kind_of, encode, decode, wrong_added, wrong_settings, good, read_number, write_number, settings_of, turned_away, read, given, Writes}
+use Rattle.settings.specs.Record.{four, length_of, encode, decode, wrong_added, wrong_settings, good, read_number, write_number, settings_of, turned_away, read, given, Writes}
 
 -- ---- the reader
 

@@ -2,7 +2,7 @@
 use Rattle.std.specs.Prelude.{◌≡◌, Bool, cond, not, ◌&&◌, ◌||◌, List, [], ◌∷◌, ◌++◌, ℕ, ◌+◌, ◌-◌, ◌*◌, ◌/◌, ◌%◌, eqb, ltb, leb, length, get_or, drop}
 use Rattle.tim.specs.declared.Inst.{Inst}
 use Rattle.machine.specs.Step.{inst_good}
-use Rattle.machine.specs.Refusals.{Refusal, ◌when◌, first}
+use Rattle.machine.specs.Refusals.{◌when◌, first}
 use Rattle.settings.specs.declared.Settings.{Settings}
 use Rattle.settings.specs.declared.Stored.{Stored}
 use Rattle.settings.specs.declared.Read.{Read}

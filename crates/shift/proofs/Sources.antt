@@ -1,8 +1,8 @@
 -- "The shift report takes no sources": a book's entries without them make the same report. Assumes nothing.
-use Rattle.std.proofs.Common.{◌≡◌, ℕ, zero, suc, ◌+◌, ◌-◌, ◌<◌, Bool, cond, ◌||◌, eqb, ltb, List, [], ◌∷◌, ◌++◌, map, sym, refl, ap, ◌∙◌}
+use Rattle.std.proofs.Common.{◌≡◌, ℕ, zero, suc, ◌+◌, ◌-◌, Bool, cond, ◌||◌, eqb, ltb, List, [], ◌∷◌, ◌++◌, map, sym, refl, ap, ◌∙◌}
 use Rattle.book.specs.Book.{Entry}
 use Rattle.book.specs.Level.{level_at, highs}
-use Rattle.shift.specs.Shift.{Shift, unsourced, level_before, level_in, high_in, is_edge, edges, Figures, figures, figures_at, last_cycle, high_pins, cycle_before, misplaced, out_of_order, number_of, Reports}
+use Rattle.shift.specs.Shift.{Shift, unsourced, level_before, level_in, high_in, is_edge, edges, figures, last_cycle, high_pins, cycle_before, misplaced, out_of_order, number_of, Reports}
 
 abbrev bare : List Entry → List Entry
 bare es = map unsourced es

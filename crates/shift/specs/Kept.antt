@@ -1,7 +1,6 @@
 -- What is kept between the pieces of a report, in 515 lent words: four for each of 128 pins, then from, to and the number.
-use Rattle.std.specs.Prelude.{◌≡◌, ℕ, zero, suc, ◌+◌, ◌-◌, ◌*◌, ◌%◌, ◌<◌, ◌≤◌, max, Bool, true, false, cond, not, ◌&&◌, ◌||◌, List, [], ◌∷◌, ◌++◌, length, ◌==◌, ◌≢◌, nat_le, nat_lt, slice_index, slice_set}
+use Rattle.std.specs.Prelude.{◌≡◌, ℕ, zero, suc, ◌+◌, ◌-◌, ◌*◌, ◌%◌, ◌<◌, ◌≤◌, max, Bool, cond, ◌||◌, List, [], ◌∷◌, length, ◌==◌, ◌≢◌, nat_le, nat_lt, slice_index, slice_set}
 use Rattle.book.specs.Book.{Entry}
-use Rattle.book.specs.Level.{level_at}
 use Rattle.shift.specs.declared.Track.{Track}
 use Rattle.shift.specs.declared.Summary.{Summary}
 use Rattle.shift.specs.Shift.{Shift, level_bit, level_before, level_in, high_in, edges, last_cycle, cycle_before, number_of, Figures, figures_at}

@@ -11,8 +11,7 @@ use Rattle.codec.specs.Codec.{decode_timer}
 use Rattle.gpio.specs.Gpio.{GpioFit}
 use Rattle.codec.proofs.Bounds.{timer-fit}
 use Rattle.codec.proofs.Bounds.{gpio-fit}
-use Rattle.machine.specs.Board.{Board, no_timer, no_gpio, timer_at}
-use Rattle.state.specs.Board.{Divided, pin_at, route_at, sig_level_at, enr_at}
+use Rattle.machine.specs.Board.{no_timer, no_gpio}
 use Rattle.state.specs.Parts.{parts, blocks}
 use Rattle.state.proofs.Cut.{map-all, length_part, length-blocks}
 use Rattle.state.specs.View.{sizes, real_sizes, view, gpios_of, held_signal, held_pin, held_level, held_enable}

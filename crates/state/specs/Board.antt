@@ -1,5 +1,5 @@
 -- What stands at an index of the board, and the board with one thing another: what the accessors read and set, over machine's.
-use Rattle.std.specs.Prelude.{List, [], ℕ, ◌+◌, ◌*◌, ◌≤◌, get_or, set}
+use Rattle.std.specs.Prelude.{List, ℕ, ◌+◌, ◌*◌, ◌≤◌, get_or, set}
 use Rattle.std.specs.Float.Ieee as Ieee
 use Rattle.tim.specs.declared.Timer.{Timer}
 use Rattle.tim.specs.declared.Inst.{Inst}

@@ -2,7 +2,7 @@
 -- step. Document 01's order; every premise is written out. Assumes nothing.
 use Prim.Native.Nat.{ℕ, ◌+◌, ◌-◌, ◌*◌, ◌%◌, ◌≤◌, ◌<◌, min}
 use mathlib.Core.Path.{◌≡◌, refl, sym, ◌∙◌}
-use mathlib.Core.Bool.{Bool, true, false, cond, false≢true}
+use mathlib.Core.Bool.{true, false, false≢true}
 use native.Mathlib.Nat.{le_refl, min-eq_left, min-eq_right, sub_self, zero-mod, zero-mul, add-zero, div-mul-le_self}
 use native.Mathlib.Omega.{arith}
 use Rattle.rm0440.specs.Counter.{tick_up, tick_down, after}

@@ -1,5 +1,5 @@
 -- What is true of the event that next_steps picks. Assumes nothing.
-use Prim.Native.Nat.{ℕ, suc, ◌+◌, ◌-◌, ◌*◌, ◌≤◌, ◌<◌}
+use Prim.Native.Nat.{ℕ, suc, ◌+◌, ◌*◌, ◌≤◌, ◌<◌}
 use mathlib.Core.Path.{◌≡◌, refl, sym, ap, ◌∙◌}
 use mathlib.Core.Bool.{Bool, true, false, cond}
 use mathlib.Core.Logic.{◌⊎◌, inl, inr}
@@ -12,7 +12,6 @@ use Rattle.tim.specs.declared.Ahead.{Ahead}
 use Rattle.tim.specs.declared.Next.{Next}
 use Rattle.tim.specs.declared.Next.TheVariants.{Update, Compare}
 use Rattle.tim.specs.declared.Due.TheVariants.{At, Stopped}
-use Rattle.tim.specs.Timer.{down}
 use Rattle.tim.specs.Count.{counts}
 use Rattle.tim.specs.Next.{update_steps, compares, compare_steps, consider, next_steps, next_event}
 use Rattle.stepping.specs.Reading.{Best}

@@ -1,11 +1,11 @@
 -- What F-11 changes, "only with both bits set in manual mode": with UDIS or one-pulse clear, or the mode off, an update is as before. Assumes nothing.
-use mathlib.Core.Path.{◌≡◌, refl, sym, ap, ◌∙◌}
+use mathlib.Core.Path.{◌≡◌, refl, sym, ap}
 use mathlib.Core.Bool.{Bool, true, false, cond, not, ◌&&◌, false≢true}
 use Prim.Native.Nat.{ℕ}
 use Rattle.rm0440.specs.Bits.{UDIS, OPM}
 use Rattle.tim.specs.declared.Timer.{Timer}
 use Rattle.tim.specs.Timer.{with_cr1}
-use Rattle.tim.specs.Change.{reloaded, loaded, with_flag, UIF, restarted, recomputed_after_update, with_running, without_cen, pulse_ends, ended, updated}
+use Rattle.tim.specs.Change.{reloaded, restarted, recomputed_after_update, with_running, without_cen, ended, updated}
 use Rattle.tim.proofs.Fit.{either}
 
 -- both bits set, in manual mode

@@ -1,5 +1,5 @@
 -- What changes a timer: update, compare, start, stop, generated update, clock change, reset.
-use Rattle.std.specs.Prelude.{Bool, true, false, cond, not, ◌&&◌, List, [], ◌∷◌, ℕ, ◌+◌, ◌-◌, ◌*◌, ◌%◌, ltb, leb, eqb, get_or, set}
+use Rattle.std.specs.Prelude.{Bool, true, false, cond, not, ◌&&◌, List, [], ◌∷◌, ℕ, ◌-◌, ◌%◌, ltb, leb, eqb, get_or, set}
 use Rattle.std.specs.Int.Bits.{bit_or}
 use Rattle.rm0440.specs.Bits.{UDIS, URS, OPM}
 use Rattle.rm0440.specs.Counter.{step_cycles, restart}
@@ -7,10 +7,7 @@ use Rattle.rm0440.specs.Update.{shadow}
 use Rattle.rm0440.specs.Output as Out
 use Rattle.tim.specs.declared.Timer.{Timer}
 use Rattle.tim.specs.declared.Inst.{Inst}
-use Rattle.tim.specs.declared.Regs.{Regs}
-use Rattle.tim.specs.declared.Chan.{Chan}
-use Rattle.tim.specs.declared.Count.{Count}
-use Rattle.tim.specs.Timer.{with_count, with_chan, with_regs, with_cr1, down, max, is_output, oc_mode, ccr_in_use}
+use Rattle.tim.specs.Timer.{with_count, with_chan, with_regs, with_cr1, down, is_output, oc_mode, ccr_in_use}
 use Rattle.tim.specs.Count.{synced}
 
 -- ---- which compares are done

@@ -1,5 +1,5 @@
 -- The counter without stepping (document 01, "Counter, without stepping"; the Rust's cnt_at and sync).
-use Rattle.std.specs.Prelude.{Bool, cond, not, ◌&&◌, ℕ, ◌+◌, ◌-◌, ◌*◌, ◌/◌, ◌%◌, min, eqb, leb}
+use Rattle.std.specs.Prelude.{Bool, cond, not, ◌&&◌, ℕ, ◌+◌, ◌-◌, ◌*◌, ◌%◌, min, eqb, leb}
 use Rattle.rm0440.specs.Counter.{steps_between}
 use Rattle.tim.specs.declared.Timer.{Timer}
 use Rattle.tim.specs.declared.Count.{Count}

@@ -1,9 +1,8 @@
 -- A timer's parts, and names for what is read of them.
-use Rattle.std.specs.Prelude.{Bool, true, false, cond, ◌&&◌, List, [], ◌∷◌, ℕ, ◌+◌, ◌*◌, ◌/◌, ◌%◌, ◌≤◌, ◌<◌, ◌^◌, eqb, ltb, get_or}
+use Rattle.std.specs.Prelude.{Bool, false, cond, ℕ, ◌/◌, ◌≤◌, ◌<◌, eqb, ltb, get_or}
 use Rattle.rm0440.specs.Bits.{DIR}
 use Rattle.rm0440.specs.Output as Out
 use Rattle.tim.specs.declared.Timer.{Timer}
-use Rattle.tim.specs.declared.Inst.{Inst}
 use Rattle.tim.specs.declared.Regs.{Regs}
 use Rattle.tim.specs.declared.Chan.{Chan}
 use Rattle.tim.specs.declared.Count.{Count}

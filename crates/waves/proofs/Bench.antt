@@ -1,18 +1,16 @@
 -- The bench pilot of document 01 meets the premises of specs/Waves.antt: its timer after the start at cycle 100. By computation from the first board on.
 use Prim.Native.Nat.{ℕ, ◌≤◌}
-use mathlib.Core.Path.{◌≡◌, refl, sym, ap, ◌∙◌}
-use mathlib.Core.Bool.{Bool, true, false}
+use mathlib.Core.Path.{◌≡◌, refl, sym, ap}
+use mathlib.Core.Bool.{true, false}
 use mathlib.Core.List.{List, [], ◌∷◌, ◌++◌}
 use native.Mathlib.Omega.{arith}
-use lib.Dec.{ltb, leb}
 use borrow.Author.Tests.{ltb-true, leb-true}
 use Rattle.rm0440.specs.Clock.{clocks}
 use Rattle.rm0440.specs.Level.{level}
 use Rattle.tim.specs.declared.Timer.{Timer}
-use Rattle.tim.specs.Change as T
 use Rattle.gpio.specs.Gpio.{bit}
 use Rattle.book.specs.Level.{level_at}
-use Rattle.machine.specs.Board.{Board, Pads, timer_at}
+use Rattle.machine.specs.Board.{Board, timer_at}
 use Rattle.machine.specs.Call as C
 use Rattle.machine.specs.Deliver.{handled}
 use Rattle.machine.specs.Demand1.{reached}
@@ -20,7 +18,7 @@ use Rattle.machine.proofs.Reach.{sound-after}
 use Rattle.accuracy.proofs.Computed.{computed}
 use Rattle.accuracy.proofs.Bench.{usual}
 use Rattle.follows.specs.Seen.{seen, rules_of}
-use Rattle.follows.specs.Follows.{Call, Delivered, between}
+use Rattle.follows.specs.Follows.{Call, between}
 use Rattle.follows.proofs.Theorem.{follows}
 use Rattle.boards.specs.Boards.{div_of}
 use Rattle.boards.proofs.Kept.{kept-after}

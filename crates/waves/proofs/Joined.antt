@@ -1,11 +1,11 @@
 -- The record of deliveries one after the other, of `step`, is the machine's waveform. Assumes nothing.
-use Prim.Native.Nat.{ℕ, zero, suc, ◌+◌, ◌-◌, ◌*◌, ◌≤◌, ◌<◌}
+use Prim.Native.Nat.{ℕ, zero, suc, ◌-◌, ◌≤◌, ◌<◌}
 use mathlib.Core.Path.{◌≡◌, refl, sym, ap, ◌∙◌, subst}
 use mathlib.Core.Bool.{Bool, true, false, cond}
 use mathlib.Core.List.{List, [], ◌∷◌, ◌++◌, append_assoc, append-nil}
-use native.Mathlib.Nat.{le_refl, le_trans}
+use native.Mathlib.Nat.{le_trans}
 use native.Mathlib.Omega.{arith}
-use lib.Dec.{ltb, leb}
+use lib.Dec.{ltb}
 use lib.ListN.{length}
 use borrow.Author.Tests.{leb-true}
 use Rattle.tim.specs.declared.Timer.{Timer}
@@ -20,8 +20,7 @@ use Rattle.clk.specs.Clk.{timer_div}
 use Rattle.book.specs.Book.{Entry}
 use Rattle.book.specs.Level.{level_at}
 use Rattle.machine.specs.Board.{Board, Pads, timer_at}
-use Rattle.machine.specs.Deliver.{turn, turn_of, Run, handled as run, stop, due_by, most_events, divider_of, line_settled, rebooked, delivered, after_delivery}
-use Rattle.machine.specs.Deliver as D
+use Rattle.machine.specs.Deliver.{turn, Run, handled as run, stop, due_by, most_events, line_settled, rebooked, delivered, after_delivery}
 use Rattle.machine.specs.Call as C
 use Rattle.machine.specs.Call.{Outcome}
 use Rattle.machine.specs.Step.{delivered_to, step, board_after}
@@ -31,12 +30,11 @@ use Rattle.machine.specs.Demand1.{reached}
 use Rattle.machine.proofs.Routing.{by-test}
 use Rattle.machine.proofs.Reach.{sound-step, sound-after}
 use Rattle.accuracy.specs.Claim.{joined}
-use Rattle.follows.specs.Seen as S
 use Rattle.follows.specs.Follows.{Call, Delivered}
-use Rattle.boards.specs.Boards.{div_of, Delivery, deliveries, last}
+use Rattle.boards.specs.Boards.{div_of, Delivery, deliveries}
 use Rattle.boards.proofs.Stepped.{delivered-timer}
 use Rattle.boards.proofs.More.{by_call, delivered-keeps, inst-delivered}
-use Rattle.waves.specs.Waves.{shown, DrivenPin, entries_made, StepWaves}
+use Rattle.waves.specs.Waves.{shown, StepWaves}
 use Rattle.waves.proofs.Waved.{due, Told, all_told, s, q, fs, told, applied-same, nothing_left, rest, wave, begins}
 
 module _ (t₀ : Timer) (div a ch pin : ℕ) (call : Call t₀ div a) (quiet : Delivered t₀ a) (four : ch < 4) (l₀ : ℕ) where

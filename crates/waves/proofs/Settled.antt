@@ -1,29 +1,25 @@
 -- After an event the level stays up to the next one, from the count at which the outputs were driven. Assumes nothing.
-use Prim.Native.Nat.{ℕ, zero, suc, ◌+◌, ◌-◌, ◌*◌, ◌/◌, ◌≤◌, ◌<◌}
+use Prim.Native.Nat.{ℕ, zero, suc, ◌+◌, ◌-◌, ◌≤◌, ◌<◌}
 use mathlib.Core.Path.{◌≡◌, refl, sym, ap, ◌∙◌, subst}
 use mathlib.Core.Bool.{Bool, true, false, cond, not, ◌&&◌}
 use mathlib.Core.List.{List, [], ◌∷◌}
-use native.Mathlib.Nat.{le_refl, sub_self, zero-div}
 use native.Mathlib.Omega.{arith}
 use lib.Dec.{eqb, ltb, leb}
 use lib.ListN.{get_or, set}
-use lib.Seq.{get_or-set_same, get_or-set_other}
+use lib.Seq.{get_or-set_other}
 use borrow.Author.Tests.{ltb-true, leb-true, eqb-true, eqb-false}
-use Rattle.rm0440.specs.Bits.{UDIS}
-use Rattle.rm0440.specs.Level.{level}
 use Rattle.tim.specs.declared.Timer.{Timer}
 use Rattle.tim.specs.declared.Next.{Next}
 use Rattle.tim.specs.declared.Next.TheVariants.{Update, Compare}
 use Rattle.tim.specs.Timer.{down, is_output, ccr_in_use}
-use Rattle.tim.specs.Count.{counts, ticks_at}
-use Rattle.tim.specs.Next.{update_steps, waiting, ahead, compares, compare_steps, next_steps, next_event}
+use Rattle.tim.specs.Count.{counts}
+use Rattle.tim.specs.Next.{update_steps, waiting, ahead, compares, next_steps}
 use Rattle.tim.specs.Change as T
 use Rattle.tim.proofs.Laws.{ends-not}
-use Rattle.stepping.proofs.Nearest.{best-next, event-runs}
+use Rattle.stepping.proofs.Nearest.{best-next}
 use Rattle.stepping.proofs.Synced.{runs_of}
-use Rattle.follows.specs.Seen.{clocks_at, per, seen, Timed, Within, Left, due_by}
+use Rattle.follows.specs.Seen.{Within}
 use Rattle.follows.proofs.Leap.{both}
-use Rattle.follows.proofs.Delivered.{steady, drives}
 use Rattle.waves.specs.Waves.{onward, Settled}
 
 -- ---- a compare

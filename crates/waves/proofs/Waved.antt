@@ -5,9 +5,9 @@ use mathlib.Core.Bool.{Bool, true, false, cond}
 use mathlib.Core.List.{List, [], ◌++◌, append_assoc, append-nil}
 use native.Mathlib.Nat.{le_refl, le_trans, add-zero, zero-add, mul_assoc, mul-le-mul_right, div-mul-le_self, le-div_iff_mul-le, div-lt_iff_lt-mul}
 use native.Mathlib.Omega.{arith}
-use lib.Dec.{ltb, leb}
+use lib.Dec.{ltb}
 use lib.ListN.{length}
-use borrow.Author.Tests.{ltb-true, ltb-false, leb-true, leb-false, le-leb, lt-leb}
+use borrow.Author.Tests.{ltb-true, ltb-false, leb-false, le-leb, lt-leb}
 use Rattle.rm0440.specs.State as M
 use Rattle.rm0440.specs.Clock.{clocks}
 use Rattle.rm0440.specs.Level.{level}
@@ -16,10 +16,10 @@ use Rattle.tim.specs.declared.Inst.{Inst}
 use Rattle.tim.specs.declared.Next.{Next}
 use Rattle.tim.specs.declared.Next.TheVariants.{Update, Compare}
 use Rattle.tim.specs.declared.Due.{Due}
-use Rattle.tim.specs.declared.Due.TheVariants.{At, Stopped}
+use Rattle.tim.specs.declared.Due.TheVariants.{At}
 use Rattle.tim.specs.Timer.{down, ccr_in_use}
-use Rattle.tim.specs.Count.{counts, ticks_at, cnt_at}
-use Rattle.tim.specs.Next.{update_steps, next_steps, next_event}
+use Rattle.tim.specs.Count.{counts}
+use Rattle.tim.specs.Next.{next_steps, next_event}
 use Rattle.tim.specs.Change as T
 use Rattle.stepping.proofs.Nearest.{best-next, event-runs, event-stopped}
 use Rattle.stepping.proofs.Synced.{cnt-stopped}

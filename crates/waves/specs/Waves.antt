@@ -1,6 +1,6 @@
 -- The waveform on record: the level of a channel's pin at every cycle of a delivery, and of deliveries one after the other of `step`, is the
 -- machine's, whatever the mode, the direction and the polarity (`DrivenPin` has the premises). The proof: proofs/Waved.antt and proofs/Joined.antt; an instance: proofs/Bench.antt.
-use Rattle.std.specs.Prelude.{ℕ, suc, ◌+◌, ◌-◌, ◌/◌, ◌≤◌, ◌<◌, ◌≡◌, true, false, cond, List, ◌++◌, get_or}
+use Rattle.std.specs.Prelude.{ℕ, ◌+◌, ◌-◌, ◌/◌, ◌≤◌, ◌<◌, ◌≡◌, true, false, cond, List, ◌++◌, get_or}
 use Rattle.rm0440.specs.Clock.{clocks}
 use Rattle.rm0440.specs.Level.{level}
 use Rattle.tim.specs.declared.Timer.{Timer}

@@ -6,7 +6,6 @@ use Rattle.book.specs.Book.{places, slices}
 use Rattle.machine.specs.Refusals.{no_such_index, bad_size, clock_astray, book_full, in_order}
 use Rattle.state.specs.View.{view}
 use Rattle.answer.proofs.Given.{first-front, first_rest, book-full, book-fits}
-use borrow.Author.Rules.{rules}
 use Rattle.answer.proofs.book_refusal.Goals as goal
 
 pub returns-then-no-ne0 : goal.returns-then-no-ne0

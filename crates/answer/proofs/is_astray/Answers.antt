@@ -1,8 +1,4 @@
 use borrow.Author.Tests.{lt-ltb, le-ltb}
-use borrow.Author.Rules.{rules}
-use Rattle.answer.proofs.is_astray.Reads as reads
-use Rattle.answer.proofs.is_astray.Lts as lts
-use Rattle.state.proofs.last_cycle.Reads as last-cycle-reads
 use Rattle.answer.proofs.is_astray.Goals as goal
 
 -- src/lib.rt:59:9

@@ -1,6 +1,4 @@
 use borrow.Author.Tests.{eq-eqb, ne_eqb}
-use Rattle.answer.proofs.odd_size.Reads as reads
-use Rattle.answer.proofs.odd_size.Lts as lts
 use Rattle.answer.proofs.odd_size.Goals as goal
 
 -- src/lib.rt:46:9

@@ -1,11 +1,6 @@
 use mathlib.Core.Path.{sym, ◌∙◌}
 use Rattle.machine.specs.Refusals.{first}
 use borrow.Author.Tests.{le-leb, lt-leb, lt-ltb, le-ltb}
-use borrow.Author.Rules.{rules}
-use Rattle.answer.proofs.refusal.Reads as reads
-use Rattle.answer.proofs.refusal.Lts as lts
-use Rattle.answer.proofs.is_astray.Reads as is-astray-reads
-use Rattle.answer.proofs.odd_size.Reads as odd-size-reads
 use Rattle.answer.proofs.refusal.Goals as goal
 
 -- src/lib.rt:79:9

@@ -2,7 +2,6 @@
 use mathlib.Core.Path.{sym, ◌∙◌, ap}
 use Rattle.machine.specs.Refusals.{first}
 use Rattle.answer.proofs.Given.{missing, present}
-use borrow.Author.Rules.{rules}
 use mathlib.Core.Bool.{not}
 use Rattle.answer.proofs.timer_refusal.Goals as goal
 

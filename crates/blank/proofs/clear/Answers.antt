@@ -2,7 +2,6 @@
 use Rattle.blank.proofs.First.{first}
 use Rattle.blank.proofs.Blank.{flat-divided, fresh}
 use mathlib.Core.Path.{◌∙◌}
-use borrow.Author.Rules.{rules}
 use Rattle.blank.proofs.clear.Goals as goal
 
 pub set_tree-requires : goal.set_tree-requires

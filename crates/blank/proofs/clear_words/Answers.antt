@@ -1,6 +1,5 @@
 -- Zeros, and the three parts that are not zero.
 use Rattle.blank.proofs.Blank.{blank-words}
-use borrow.Author.Rules.{rules}
 use Rattle.blank.proofs.clear_words.Goals as goal
 
 pub returns : goal.returns

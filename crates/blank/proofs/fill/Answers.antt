@@ -1,9 +1,6 @@
-use Prim.Native.Nat.{◌-◌, ◌≤◌}
 use Rattle.blank.proofs.Blank.{fill_done, fill_step}
 use Rattle.state.specs.Parts.{repeated}
-use borrow.Author.Rules.{rules}
-use lib.Seq.{paste, paste-zero}
-use mathlib.Core.Path.{◌≡◌}
+use lib.Seq.{paste-zero}
 use native.Mathlib.Omega.{arith}
 use Rattle.blank.proofs.fill.Goals as goal
 

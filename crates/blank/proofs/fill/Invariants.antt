@@ -1,11 +1,8 @@
 -- The loop has filled the first j words.
 use Prim.Native.Nat.{◌-◌, ◌≤◌}
-use Rattle.blank.proofs.Blank.{fill_done, fill_step}
 use Rattle.state.specs.Parts.{repeated}
-use borrow.Author.Rules.{rules}
-use lib.Seq.{paste, paste-zero}
+use lib.Seq.{paste}
 use mathlib.Core.Path.{◌≡◌}
-use native.Mathlib.Omega.{arith}
 use Rattle.blank.proofs.fill.Given as goal
 
 abbrev pub invariant-loop-j : goal.invariant-loop-j

@@ -1,10 +1,7 @@
-use Prim.Native.Nat.{◌-◌, ◌≤◌}
 use Rattle.sig.specs.Signal.{idle_level}
 use Rattle.blank.proofs.Blank.{fill_done, fill_step}
 use Rattle.state.specs.Parts.{listed}
-use borrow.Author.Rules.{rules}
-use lib.Seq.{paste, paste-zero}
-use mathlib.Core.Path.{◌≡◌}
+use lib.Seq.{paste-zero}
 use native.Mathlib.Omega.{arith}
 use Rattle.blank.proofs.idle_levels.Goals as goal
 

@@ -1,12 +1,9 @@
 -- The loop has set the first s levels.
 use Prim.Native.Nat.{◌-◌, ◌≤◌}
 use Rattle.sig.specs.Signal.{idle_level}
-use Rattle.blank.proofs.Blank.{fill_done, fill_step}
 use Rattle.state.specs.Parts.{listed}
-use borrow.Author.Rules.{rules}
-use lib.Seq.{paste, paste-zero}
+use lib.Seq.{paste}
 use mathlib.Core.Path.{◌≡◌}
-use native.Mathlib.Omega.{arith}
 use Rattle.blank.proofs.idle_levels.Given as goal
 
 abbrev pub invariant-loop-s : goal.invariant-loop-s

@@ -1,6 +1,5 @@
 -- A real stored for the supply.
 use Rattle.state.proofs.Stores.{vcc-set}
-use borrow.Author.Rules.{rules}
 use Rattle.blank.proofs.set_vcc.Goals as goal
 
 pub returns : goal.returns

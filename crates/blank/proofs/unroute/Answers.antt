@@ -1,6 +1,5 @@
 -- The routes, then the levels.
 use Rattle.blank.proofs.Unrouted.{unrouted-view}
-use borrow.Author.Rules.{rules}
 use Rattle.blank.proofs.unroute.Goals as goal
 
 pub returns : goal.returns

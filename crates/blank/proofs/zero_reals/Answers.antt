@@ -1,11 +1,8 @@
-use Prim.Native.Nat.{◌-◌, ◌≤◌}
 use Rattle.real.specs.Real.{zero_float}
 use Rattle.blank.proofs.Blank.{fill_done, fill_start}
 use Rattle.state.specs.Parts.{repeated}
-use borrow.Author.Rules.{rules}
 use lib.Ieee.{nan}
-use lib.Seq.{paste, paste-zero}
-use mathlib.Core.Path.{◌≡◌}
+use lib.Seq.{paste-zero}
 use native.Mathlib.Omega.{arith}
 use Rattle.blank.proofs.zero_reals.Goals as goal
 

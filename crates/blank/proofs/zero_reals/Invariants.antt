@@ -1,13 +1,9 @@
 -- The loop has set the first j reals.
 use Prim.Native.Nat.{◌-◌, ◌≤◌}
 use Rattle.real.specs.Real.{zero_float}
-use Rattle.blank.proofs.Blank.{fill_done, fill_start}
 use Rattle.state.specs.Parts.{repeated}
-use borrow.Author.Rules.{rules}
-use lib.Ieee.{nan}
-use lib.Seq.{paste, paste-zero}
+use lib.Seq.{paste}
 use mathlib.Core.Path.{◌≡◌}
-use native.Mathlib.Omega.{arith}
 use Rattle.blank.proofs.zero_reals.Given as goal
 
 abbrev pub invariant-loop-j : goal.invariant-loop-j

@@ -1,6 +1,5 @@
 -- One entry, or none.
 use Rattle.book.specs.Book.{entry_of, puts}
-use borrow.Author.Rules.{rules}
 use native.Mathlib.Omega.{arith}
 use Rattle.book.proofs.append.Goals as goal
 

@@ -1,5 +1,4 @@
 -- By the first word.
-use borrow.Author.Rules.{rules}
 use Rattle.calls.proofs.Laws.{books-as, book-is, book-else}
 use Rattle.calls.proofs.book_call.Goals as goal
 

@@ -1,5 +1,4 @@
 -- By the first word.
-use borrow.Author.Rules.{rules}
 use Rattle.calls.proofs.Laws.{answers-as, change-is, change-else, set-up-fits}
 use Rattle.calls.proofs.change.Goals as goal
 

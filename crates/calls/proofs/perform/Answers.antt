@@ -1,6 +1,4 @@
 -- By the first word; without a book the slices stay.
-use Rattle.book.specs.Book.{slices}
-use borrow.Author.Rules.{rules}
 use Rattle.calls.proofs.Laws.{books-as, bookless, size_fits, with-book, with-change, with-question, lent-change, lent-question}
 use Rattle.calls.proofs.perform.Goals as goal
 

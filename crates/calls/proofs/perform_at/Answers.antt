@@ -1,5 +1,4 @@
 -- The parts are put behind the entries so far.
-use borrow.Author.Rules.{rules}
 use native.Mathlib.Omega.{arith}
 use Rattle.calls.proofs.Listed.{whole_length, part-does}
 use Rattle.calls.proofs.perform_at.Goals as goal

@@ -1,5 +1,4 @@
 -- The call, then its answer.
-use borrow.Author.Rules.{rules}
 use Rattle.calls.proofs.Listed.{call-does}
 use Rattle.calls.proofs.perform_call.Goals as goal
 

@@ -1,5 +1,4 @@
 -- By the first word.
-use borrow.Author.Rules.{rules}
 use Rattle.calls.proofs.Laws.{answers-as, question-is, booked-is, level-is, volts-is, line-is, next-is}
 use Rattle.calls.proofs.question.Goals as goal
 

@@ -1,5 +1,4 @@
 -- The words are the arguments.
-use borrow.Author.Rules.{rules}
 use Rattle.calls.proofs.Laws.{books-as, reset-is}
 use Rattle.calls.proofs.reset.Goals as goal
 

@@ -1,11 +1,6 @@
-use borrow.Author.Rules.{rules}
-use Prim.Native.Nat.{◌-◌}
-use Rattle.book.specs.Book.{book, slices}
-use Rattle.state.specs.View.{view}
-use lib.ListN.{length}
-use mathlib.Core.Path.{◌≡◌, refl, sym}
+use mathlib.Core.Path.{refl}
 use native.Mathlib.Omega.{arith}
-use Rattle.calls.proofs.Listed.{Going, begins, next-free, next-size, next-within, next_fits, goes_on, stopped, room-ends}
+use Rattle.calls.proofs.Listed.{begins, next-free, next-size, next-within, next_fits, goes_on, stopped, room-ends}
 use Rattle.calls.proofs.run_calls.Goals as goal
 
 pub loop-rest-init : goal.loop-rest-init

@@ -1,12 +1,10 @@
 -- What is left to do leads to the same end.
-use borrow.Author.Rules.{rules}
 use Prim.Native.Nat.{◌-◌}
 use Rattle.book.specs.Book.{book, slices}
 use Rattle.state.specs.View.{view}
 use lib.ListN.{length}
-use mathlib.Core.Path.{◌≡◌, refl, sym}
-use native.Mathlib.Omega.{arith}
-use Rattle.calls.proofs.Listed.{Going, begins, next-free, next-size, next-within, next_fits, goes_on, stopped, room-ends}
+use mathlib.Core.Path.{◌≡◌}
+use Rattle.calls.proofs.Listed.{Going}
 use Rattle.calls.proofs.run_calls.Given as goal
 
 abbrev pub invariant-loop-rest : goal.invariant-loop-rest

@@ -1,5 +1,4 @@
 -- The words are the arguments.
-use borrow.Author.Rules.{rules}
 use Rattle.calls.proofs.Laws.{books-as, set-pin-is}
 use Rattle.calls.proofs.set_pin.Goals as goal
 

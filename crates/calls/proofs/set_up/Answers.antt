@@ -1,5 +1,4 @@
 -- Two parts of the words.
-use borrow.Author.Rules.{rules}
 use native.Mathlib.Omega.{arith}
 use Rattle.calls.proofs.Laws.{answers-as, set-up-is}
 use Rattle.calls.proofs.set_up.Goals as goal

@@ -1,5 +1,4 @@
 -- The words are the arguments.
-use borrow.Author.Rules.{rules}
 use Rattle.calls.proofs.Laws.{answers-as, time-is}
 use Rattle.calls.proofs.time.Goals as goal
 

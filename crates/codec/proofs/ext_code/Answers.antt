@@ -1,6 +1,5 @@
 -- By the variant.
 use Rattle.codec.specs.Pin.{ext_code}
-use borrow.Author.Rules.{rules}
 use mathlib.Core.Path.{ap, sym}
 use Rattle.codec.proofs.ext_code.Goals as goal
 

@@ -2,7 +2,6 @@
 use Prim.Native.Nat.{◌%◌}
 use Rattle.codec.proofs.PinLaws.{drive, level-back, source-back}
 use Rattle.codec.specs.Pin.{decode_gpio}
-use borrow.Author.Rules.{rules}
 use mathlib.Core.Path.{◌≡◌}
 use native.Mathlib.Omega.{arith}
 use Rattle.codec.proofs.pack_gpio.Goals as goal

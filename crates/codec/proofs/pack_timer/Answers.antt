@@ -1,6 +1,5 @@
 -- Part by part.
 use Rattle.codec.specs.Codec.{decode_timer}
-use borrow.Author.Rules.{rules}
 use Rattle.codec.proofs.pack_timer.Goals as goal
 
 pub pack_regs-regs-requires : goal.pack_regs-regs-requires

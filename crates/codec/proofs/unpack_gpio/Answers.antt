@@ -1,6 +1,5 @@
 -- Part by part.
 use Rattle.codec.specs.Pin.{decode_gpio}
-use borrow.Author.Rules.{rules}
 use Rattle.codec.proofs.unpack_gpio.Goals as goal
 
 pub returns : goal.returns

@@ -1,6 +1,5 @@
 -- By the variant.
 use Rattle.codec.specs.Pin.{ext_volts}
-use borrow.Author.Rules.{rules}
 use mathlib.Core.Path.{ap, sym}
 use Rattle.codec.proofs.volts_of.Goals as goal
 

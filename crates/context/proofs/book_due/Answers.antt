@@ -1,5 +1,4 @@
 -- The event's cycle, and its booking.
-use borrow.Author.Rules.{rules}
 use mathlib.Core.Path.{◌∙◌}
 use Rattle.context.proofs.book_due.Goals as goal
 

@@ -2,7 +2,6 @@
 use Rattle.machine.specs.Deliver.{booking_of}
 use Rattle.context.proofs.Laws.{at-booking}
 use Rattle.tim.specs.declared.Due.{Due}
-use borrow.Author.Rules.{rules}
 use mathlib.Core.Path.{◌∙◌, ap, sym}
 use Rattle.context.proofs.booking_of.Goals as goal
 

@@ -6,7 +6,6 @@ use native.Mathlib.Omega.{arith}
 use Rattle.tim.specs.declared.Inst.{Inst}
 use Rattle.state.specs.View.{view}
 use Rattle.context.proofs.Small.{enabled, no-bit, no_word}
-use borrow.Author.Rules.{rules}
 use Rattle.context.proofs.clock_on.Goals as goal
 
 pub returns-then-reg-ge9 : goal.returns-then-reg-ge9

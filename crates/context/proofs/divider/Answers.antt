@@ -1,7 +1,6 @@
 -- The tree loaded, and its divider.
 use Rattle.context.proofs.Small.{timer-divider}
 use Rattle.state.proofs.InRange.{bounded}
-use borrow.Author.Rules.{rules}
 use Rattle.context.proofs.divider.Goals as goal
 
 pub returns : goal.returns

@@ -1,7 +1,6 @@
 -- The timer loaded, and its next event booked.
 use Rattle.context.proofs.Laws.{booked-anew}
 use Rattle.context.proofs.Small.{loaded-fit}
-use borrow.Author.Rules.{rules}
 use mathlib.Core.List.{[]}
 use Rattle.context.proofs.rebook.Goals as goal
 

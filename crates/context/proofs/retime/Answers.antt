@@ -1,7 +1,6 @@
 -- The timer loaded, retimed, stored, and booked if it runs.
 use Rattle.context.proofs.Laws.{retimed-running, retimed-stopped}
 use Rattle.context.proofs.Small.{loaded-fit, of-eight, retimed-fit}
-use borrow.Author.Rules.{rules}
 use Rattle.context.proofs.retime.Goals as goal
 
 pub on_clock_change-s-requires : goal.on_clock_change-s-requires

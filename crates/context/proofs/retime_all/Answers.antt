@@ -1,10 +1,9 @@
-use Prim.Native.Nat.{◌-◌, ◌≤◌, ℕ}
+use Prim.Native.Nat.{ℕ}
 use Rattle.machine.specs.Step.{all_retimed}
 use Rattle.context.proofs.Laws.{all_done, all_start, all-step}
 use Rattle.state.proofs.InRange.{bounded}
 use Rattle.state.specs.View.{view}
-use borrow.Author.Rules.{rules}
-use mathlib.Core.Path.{◌∙◌, ◌≡◌, ap}
+use mathlib.Core.Path.{◌∙◌, ap}
 use native.Mathlib.Omega.{arith}
 use Rattle.context.proofs.retime_all.Goals as goal
 

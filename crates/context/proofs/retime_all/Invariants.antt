@@ -1,12 +1,8 @@
 -- What is still to be done to the board leads to what the contract says.
-use Prim.Native.Nat.{◌-◌, ◌≤◌, ℕ}
+use Prim.Native.Nat.{◌-◌, ◌≤◌}
 use Rattle.machine.specs.Step.{all_retimed}
-use Rattle.context.proofs.Laws.{all_done, all_start, all-step}
-use Rattle.state.proofs.InRange.{bounded}
 use Rattle.state.specs.View.{view}
-use borrow.Author.Rules.{rules}
-use mathlib.Core.Path.{◌∙◌, ◌≡◌, ap}
-use native.Mathlib.Omega.{arith}
+use mathlib.Core.Path.{◌≡◌}
 use Rattle.context.proofs.retime_all.Given as goal
 
 abbrev pub invariant-loop-i : goal.invariant-loop-i

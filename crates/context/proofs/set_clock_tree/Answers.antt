@@ -1,7 +1,6 @@
 -- Tree and clock set, and the timers told if it differs.
 use Rattle.context.proofs.Laws.{tree-kept, tree-told}
 use Rattle.context.proofs.Small.{good-divided}
-use borrow.Author.Rules.{rules}
 use mathlib.Core.Path.{◌∙◌, sym}
 use Rattle.context.proofs.set_clock_tree.Goals as goal
 

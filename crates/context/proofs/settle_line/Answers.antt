@@ -1,6 +1,5 @@
 -- The line driven by the flags that are enabled.
 use Rattle.machine.specs.Deliver.{line_settled}
-use borrow.Author.Rules.{rules}
 use Rattle.context.proofs.settle_line.Goals as goal
 
 pub returns : goal.returns

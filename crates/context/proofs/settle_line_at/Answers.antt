@@ -3,7 +3,6 @@ use mathlib.Core.Path.{ap, ◌∙◌}
 use Rattle.tim.specs.declared.Timer.{Timer}
 use Rattle.machine.specs.Deliver.{line_settled}
 use Rattle.state.specs.View.{view}
-use borrow.Author.Rules.{rules}
 use Rattle.context.proofs.settle_line_at.Goals as goal
 
 pub returns : goal.returns

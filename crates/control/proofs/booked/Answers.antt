@@ -1,7 +1,6 @@
 -- By the number of timers.
 use Rattle.control.proofs.Laws.{no-timer, booked-told}
 use Rattle.state.proofs.InRange.{bounded}
-use borrow.Author.Rules.{rules}
 use native.Mathlib.Omega.{arith}
 use Rattle.control.proofs.booked.Goals as goal
 

@@ -1,6 +1,5 @@
 -- The line cleared.
 use Rattle.control.proofs.Laws.{pending-cleared}
-use borrow.Author.Rules.{rules}
 use Rattle.control.proofs.clear_pending.Goals as goal
 
 pub returns : goal.returns

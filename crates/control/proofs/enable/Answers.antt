@@ -1,6 +1,5 @@
 -- By the word.
 use Rattle.control.proofs.Laws.{no_word, word_set}
-use borrow.Author.Rules.{rules}
 use Rattle.control.proofs.enable.Goals as goal
 
 pub returns-then-w-ge9 : goal.returns-then-w-ge9

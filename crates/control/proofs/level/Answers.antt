@@ -1,7 +1,6 @@
 -- By the number of pins.
 use Rattle.control.proofs.Laws.{no-level, level-told}
 use Rattle.state.proofs.InRange.{bounded}
-use borrow.Author.Rules.{rules}
 use native.Mathlib.Omega.{arith}
 use Rattle.control.proofs.level.Goals as goal
 

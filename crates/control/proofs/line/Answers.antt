@@ -1,6 +1,5 @@
 -- The line's state.
 use Rattle.control.proofs.Laws.{line-told}
-use borrow.Author.Rules.{rules}
 use Rattle.control.proofs.line.Goals as goal
 
 pub returns : goal.returns

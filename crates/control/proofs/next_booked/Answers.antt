@@ -1,6 +1,5 @@
 -- The least of the bookings.
 use Rattle.control.proofs.Laws.{next-told}
-use borrow.Author.Rules.{rules}
 use Rattle.control.proofs.next_booked.Goals as goal
 
 pub returns : goal.returns

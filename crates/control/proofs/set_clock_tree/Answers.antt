@@ -1,15 +1,6 @@
 -- Refused, or set.
 use Rattle.state.specs.View.{view}
 use Rattle.control.proofs.Tree.{tree-bad, tree-astray, tree-gives, tree-good, tree-cycle}
-use borrow.Author.Rules.{rules}
-use Rattle.control.proofs.set_clock_tree.Reads as reads
-use Rattle.control.proofs.set_clock_tree.Lts as lts
-use Rattle.answer.proofs.is_astray.Reads as is-astray-reads
-use Rattle.answer.proofs.refused.Reads as refused-reads
-use Rattle.answer.proofs.served.Reads as served-reads
-use Rattle.clk.proofs.ClockTree.is_good.Reads as is-good-reads
-use Rattle.context.proofs.set_clock_tree.Reads as set-clock-tree-reads
-use Rattle.state.proofs.set_last.Reads as set-last-reads
 use mathlib.Core.Path.{ap}
 use mathlib.Core.Bool.{not}
 use Rattle.control.proofs.set_clock_tree.Goals as goal

@@ -1,6 +1,5 @@
 -- By the cycle.
 use Rattle.control.proofs.Laws.{time-astray, time-told}
-use borrow.Author.Rules.{rules}
 use Rattle.control.proofs.time.Goals as goal
 
 pub returns-then-is_astray : goal.returns-then-is_astray

@@ -1,6 +1,5 @@
 -- By the event; a compare is of one of four channels.
 use Rattle.delivery.specs.Delivery.{OfFour}
-use borrow.Author.Rules.{rules}
 use mathlib.Core.Path.{subst}
 use Rattle.delivery.proofs.apply.Goals as goal
 

@@ -2,7 +2,6 @@
 use Rattle.tim.specs.Change.{compared}
 use mathlib.Core.Path.{ap, sym, ◌∙◌}
 use native.Mathlib.Omega.{arith}
-use borrow.Author.Rules.{rules}
 use Rattle.delivery.proofs.compare.Goals as goal
 
 pub returns-then-ch-eq0 : goal.returns-then-ch-eq0

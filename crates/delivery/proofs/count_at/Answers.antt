@@ -1,7 +1,6 @@
 -- By the event; a compare is of one of four channels.
 use Rattle.delivery.specs.Delivery.{OfFour}
 use mathlib.Core.Path.{subst}
-use borrow.Author.Rules.{rules}
 use Rattle.delivery.proofs.count_at.Goals as goal
 
 pub compare_value-requires : goal.compare_value-requires

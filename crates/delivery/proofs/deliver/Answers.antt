@@ -1,6 +1,5 @@
 -- The timer loaded, its events run, stored, its line settled and what is due next booked.
 use Rattle.delivery.proofs.Laws.{loaded-fit, due-booked, delivers}
-use borrow.Author.Rules.{rules}
 use Rattle.delivery.proofs.deliver.Goals as goal
 
 pub run-r-requires : goal.run-r-requires

@@ -1,11 +1,6 @@
 use Rattle.delivery.proofs.Laws.{driven}
 use Rattle.outputs.proofs.Laws.{above-four, below_two, none-driven}
 use native.Mathlib.Omega.{arith}
-use borrow.Author.Rules.{rules}
-use Rattle.delivery.proofs.drive.Reads as reads
-use Rattle.delivery.proofs.drive.Lts as lts
-use Rattle.delivery.proofs.count_at.Reads as count-at-reads
-use Rattle.delivery.proofs.drive_four.Reads as drive-four-reads
 use Rattle.delivery.proofs.drive.Goals as goal
 
 pub returns-then-t-lt2 : goal.returns-then-t-lt2

@@ -1,7 +1,6 @@
 -- The four levels, by pairs.
 use native.Mathlib.Omega.{arith}
 use Rattle.outputs.proofs.Laws.{four-driven}
-use borrow.Author.Rules.{rules}
 use Rattle.delivery.proofs.drive_four.Goals as goal
 
 pub drive_two-m-requires : goal.drive_two-m-requires

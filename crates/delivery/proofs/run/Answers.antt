@@ -1,11 +1,5 @@
-use Prim.Native.Nat.{◌-◌}
-use Rattle.book.specs.Book.{book, slices}
-use Rattle.delivery.proofs.Laws.{Going, begins, of_four, goes, going_on, ends-none, ends-stop, room-ends}
-use Rattle.machine.specs.Deliver.{handled, most_events}
-use Rattle.state.specs.View.{view}
-use borrow.Author.Rules.{rules}
-use lib.ListN.{length}
-use mathlib.Core.Path.{◌≡◌, refl, sym, ◌∙◌}
+use Rattle.delivery.proofs.Laws.{begins, of_four, goes, going_on, ends-none, ends-stop, room-ends}
+use mathlib.Core.Path.{refl, sym, ◌∙◌}
 use native.Mathlib.Omega.{arith}
 use Rattle.delivery.proofs.run.Goals as goal
 

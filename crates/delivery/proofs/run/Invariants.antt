@@ -1,13 +1,11 @@
 -- What is still due leads to the same end.
 use Prim.Native.Nat.{◌-◌}
 use Rattle.book.specs.Book.{book, slices}
-use Rattle.delivery.proofs.Laws.{Going, begins, of_four, goes, going_on, ends-none, ends-stop, room-ends}
+use Rattle.delivery.proofs.Laws.{Going}
 use Rattle.machine.specs.Deliver.{handled, most_events}
 use Rattle.state.specs.View.{view}
-use borrow.Author.Rules.{rules}
 use lib.ListN.{length}
-use mathlib.Core.Path.{◌≡◌, refl, sym, ◌∙◌}
-use native.Mathlib.Omega.{arith}
+use mathlib.Core.Path.{◌≡◌}
 use Rattle.delivery.proofs.run.Given as goal
 
 abbrev pub invariant-loop-at : goal.invariant-loop-at

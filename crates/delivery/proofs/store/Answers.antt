@@ -1,5 +1,4 @@
 -- By the number of events.
-use borrow.Author.Rules.{rules}
 use borrow.Author.Tests.{eq-eqb, ne_eqb}
 use Rattle.delivery.proofs.store.Goals as goal
 

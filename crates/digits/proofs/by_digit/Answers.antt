@@ -1,5 +1,4 @@
 -- The number is split twice: its lowest digit, the next one, and what is left, at most 1.
-use borrow.Author.Rules.{rules}
 use Prim.Native.Nat.{◌/◌}
 use native.Mathlib.Omega.{arith}
 use Rattle.digits.proofs.Laws.{digits}

@@ -1,5 +1,4 @@
 -- The second number is split once.
-use borrow.Author.Rules.{rules}
 use native.Mathlib.Omega.{arith}
 use Rattle.digits.proofs.Laws.{digits}
 use Rattle.digits.proofs.times.Goals as goal

@@ -1,6 +1,5 @@
 -- A number, or not-a-number.
 use Rattle.encoding.proofs.Laws.{number-exponent, number_digits, not-a-number}
-use borrow.Author.Rules.{rules}
 use Rattle.encoding.proofs.float.Goals as goal
 
 pub float_from_bits-result : goal.float_from_bits-result

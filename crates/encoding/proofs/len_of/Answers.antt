@@ -1,5 +1,4 @@
 -- Within the words, or none.
-use borrow.Author.Rules.{rules}
 use mathlib.Core.Path.{sym}
 use borrow.Author.Tests.{le-leb, lt-leb}
 use Rattle.encoding.specs.Encoding as E

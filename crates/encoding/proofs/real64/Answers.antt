@@ -2,7 +2,6 @@
 use mathlib.Core.Path.{◌∙◌, ap}
 use lib.Ieee as Ieee
 use Rattle.encoding.specs.Encoding as E
-use borrow.Author.Rules.{rules}
 use Rattle.encoding.proofs.real64.Goals as goal
 
 pub returns : goal.returns

@@ -1,6 +1,4 @@
 -- The sum of its parts.
-use borrow.Author.Rules.{rules}
-use Rattle.encoding.specs.Encoding as E
 use Rattle.encoding.proofs.set_up_size.Goals as goal
 
 pub returns : goal.returns

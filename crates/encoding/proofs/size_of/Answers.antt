@@ -1,5 +1,4 @@
 -- By the first word.
-use borrow.Author.Rules.{rules}
 use mathlib.Core.Path.{sym, ◌∙◌}
 use borrow.Author.Tests.{ne_eqb}
 use Rattle.encoding.specs.Encoding as E

@@ -1,6 +1,4 @@
 -- The words are the fields.
-use borrow.Author.Rules.{rules}
-use Rattle.encoding.specs.Encoding as E
 use Rattle.encoding.proofs.tree_of.Goals as goal
 
 pub returns : goal.returns

@@ -1,6 +1,5 @@
 -- Low and high.
 use Rattle.encoding.specs.Encoding as E
-use borrow.Author.Rules.{rules}
 use Rattle.encoding.proofs.word64.Goals as goal
 
 pub returns : goal.returns

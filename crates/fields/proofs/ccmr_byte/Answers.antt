@@ -3,7 +3,6 @@ use mathlib.Core.Path.{ap, sym}
 use Prim.Native.Nat.{ℕ, ◌/◌, ◌%◌, ◌*◌, ◌^◌}
 use native.Mathlib.Omega.{arith}
 use Rattle.fields.proofs.Stored.{ccmr-read}
-use borrow.Author.Rules.{rules}
 use Rattle.fields.proofs.ccmr_byte.Goals as goal
 
 pub returns : goal.returns

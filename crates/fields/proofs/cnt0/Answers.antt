@@ -1,9 +1,6 @@
 -- The counter's word.
 use Rattle.fields.proofs.Stored.{cnt-read}
 use mathlib.Core.Path.{sym}
-use borrow.Author.Rules.{rules}
-use Rattle.fields.proofs.cnt0.Reads as reads
-use Rattle.fields.proofs.cnt0.Lts as lts
 use Rattle.fields.proofs.cnt0.Goals as goal
 
 pub returns : goal.returns

@@ -2,7 +2,6 @@
 use Rattle.fields.proofs.Stored.{inst-read}
 use Rattle.tim.specs.declared.Inst.{Inst}
 use mathlib.Core.Path.{ap}
-use borrow.Author.Rules.{rules}
 use Rattle.fields.proofs.en_reg.Goals as goal
 
 pub returns : goal.returns

@@ -1,6 +1,5 @@
 -- Its eight words.
 use Rattle.fields.proofs.Stored.{inst-read}
-use borrow.Author.Rules.{rules}
 use Rattle.fields.proofs.inst.Goals as goal
 
 pub returns : goal.returns

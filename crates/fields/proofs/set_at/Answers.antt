@@ -1,7 +1,6 @@
 -- Two words of the counter stored.
 use Rattle.fields.proofs.Stored.{at_set}
 use native.Mathlib.Omega.{arith}
-use borrow.Author.Rules.{rules}
 use Rattle.fields.proofs.set_at.Goals as goal
 
 pub returns : goal.returns

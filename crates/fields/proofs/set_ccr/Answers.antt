@@ -1,7 +1,6 @@
 -- A compare's word stored.
 use Rattle.fields.proofs.Stored.{ccr-set}
 use native.Mathlib.Omega.{arith}
-use borrow.Author.Rules.{rules}
 use Rattle.fields.proofs.set_ccr.Goals as goal
 
 pub returns : goal.returns

@@ -1,6 +1,5 @@
 -- A channel's word stored.
 use Rattle.fields.proofs.Stored.{done-set}
-use borrow.Author.Rules.{rules}
 use Rattle.fields.proofs.set_done.Goals as goal
 
 pub returns : goal.returns

@@ -1,7 +1,6 @@
 -- A register's word stored.
 use Rattle.fields.proofs.Stored.{reg-set}
 use native.Mathlib.Omega.{arith}
-use borrow.Author.Rules.{rules}
 use Rattle.fields.proofs.set_reg.Goals as goal
 
 pub returns : goal.returns

@@ -1,7 +1,6 @@
 -- By the number.
 use borrow.Author.Tests.{eq-eqb, ne_eqb}
 use Rattle.gpio.specs.Gpio.{change_of}
-use borrow.Author.Rules.{rules}
 use Rattle.gpio.proofs.change_of.Goals as goal
 
 pub returns-then-code-eq0 : goal.returns-then-code-eq0

@@ -3,7 +3,6 @@ use mathlib.Core.Path.{◌∙◌, sym}
 use native.Mathlib.Omega.{arith}
 use Rattle.gpio.specs.Gpio.{change_of}
 use Rattle.gpio.proofs.Laws.{change-back}
-use borrow.Author.Rules.{rules}
 use Rattle.gpio.proofs.code_of.Goals as goal
 
 pub returns-in-Same : goal.returns-in-Same

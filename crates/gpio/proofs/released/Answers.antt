@@ -1,5 +1,4 @@
 -- By open drain.
-use borrow.Author.Rules.{rules}
 use Rattle.gpio.proofs.released.Goals as goal
 
 pub returns-then-c : goal.returns-then-c

@@ -2,7 +2,6 @@
 use Prim.Native.Nat.{◌<◌}
 use Rattle.gpio.specs.Gpio.{drives, side_of, signal_of}
 use Rattle.gpio.specs.declared.Gpio.{Gpio}
-use borrow.Author.Rules.{rules}
 use borrow.Author.Tests.{eq-eqb, ne_eqb}
 use lib.Dec.{eqb}
 use mathlib.Core.Bool.{Bool, cond, false, true}

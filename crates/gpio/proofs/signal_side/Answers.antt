@@ -1,5 +1,4 @@
 -- Field by field.
-use borrow.Author.Rules.{rules}
 use Rattle.gpio.proofs.signal_side.Goals as goal
 
 pub returns : goal.returns

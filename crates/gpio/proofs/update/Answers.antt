@@ -1,6 +1,5 @@
 -- Resolved, with the change.
 use Rattle.gpio.specs.Gpio.{updated}
-use borrow.Author.Rules.{rules}
 use Rattle.gpio.proofs.update.Goals as goal
 
 pub returns : goal.returns

@@ -1,6 +1,5 @@
 -- The words and the real of the pin that change.
 use Rattle.levels.proofs.Pushed.{stored, driven-set}
-use borrow.Author.Rules.{rules}
 use Rattle.levels.proofs.drive_level.Goals as goal
 
 pub returns : goal.returns

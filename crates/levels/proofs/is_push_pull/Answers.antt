@@ -1,7 +1,6 @@
 -- By the mode and the kind of output.
 use Rattle.state.proofs.Places.{push-pull, not-push-pull}
 use mathlib.Core.Path.{sym}
-use borrow.Author.Rules.{rules}
 use Rattle.levels.proofs.is_push_pull.Goals as goal
 
 pub returns-then-words-p-eq2 : goal.returns-then-words-p-eq2

@@ -1,7 +1,6 @@
 -- The word of the level.
 use Rattle.state.proofs.Places.{pin_level_lem}
 use mathlib.Core.Path.{sym}
-use borrow.Author.Rules.{rules}
 use Rattle.levels.proofs.level.Goals as goal
 
 pub returns : goal.returns

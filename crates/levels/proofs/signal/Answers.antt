@@ -2,7 +2,6 @@
 use Rattle.state.proofs.Places.{pin-signal}
 use mathlib.Core.Path.{sym}
 use native.Mathlib.Omega.{arith}
-use borrow.Author.Rules.{rules}
 use Rattle.levels.proofs.signal.Goals as goal
 
 pub returns : goal.returns

@@ -1,7 +1,6 @@
 -- The bits above the level.
 use Rattle.state.proofs.Places.{pin-source}
 use mathlib.Core.Path.{sym}
-use borrow.Author.Rules.{rules}
 use Rattle.levels.proofs.source.Goals as goal
 
 pub returns : goal.returns

@@ -1,7 +1,6 @@
 -- By the level.
 use Rattle.state.proofs.Places.{vcc-read}
 use borrow.Author.Tests.{eq-eqb, ne_eqb}
-use borrow.Author.Rules.{rules}
 use Rattle.levels.proofs.volts.Goals as goal
 
 pub returns-then-level-eq0 : goal.returns-then-level-eq0

@@ -1,7 +1,5 @@
 -- Place by place.
 use Prim.Native.Nat.{◌-◌}
-use borrow.Author.Rules.{rules}
-use native.Mathlib.Omega.{arith}
 use Rattle.line.proofs.clear.Given as goal
 
 abbrev pub invariant-loop-i : goal.invariant-loop-i

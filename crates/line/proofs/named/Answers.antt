@@ -1,5 +1,4 @@
 -- A part that fits is as long as it says.
-use borrow.Author.Rules.{rules}
 use lib.Seq.{length-take-le}
 use mathlib.Core.Path.{sym}
 use Rattle.line.proofs.named.Goals as goal

@@ -5,7 +5,6 @@ use mathlib.Core.List.{[]}
 use native.Mathlib.Omega.{arith}
 use Rattle.tim.specs.declared.Timer.{Timer}
 use Rattle.tim.specs.Count.{cnt_at}
-use borrow.Author.Rules.{rules}
 use Rattle.mmio.proofs.count_of.Goals as goal
 
 pub returns-then-t-eq0 : goal.returns-then-t-eq0

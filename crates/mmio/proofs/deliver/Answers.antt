@@ -2,7 +2,6 @@
 use native.Mathlib.Omega.{arith}
 use Rattle.book.specs.Book.{places, slices}
 use Rattle.mmio.proofs.Laws.{admitted, deliver-away, deliver-away-book, deliver-gives}
-use borrow.Author.Rules.{rules}
 use Rattle.mmio.proofs.deliver.Goals as goal
 
 pub returns-then-no-ne0 : goal.returns-then-no-ne0

@@ -1,7 +1,6 @@
 -- Driven and appended, or nothing.
 use Rattle.mmio.proofs.Laws.{drives-on, drives-off}
 use native.Mathlib.Omega.{arith}
-use borrow.Author.Rules.{rules}
 use Rattle.mmio.proofs.drive.Goals as goal
 
 pub returns-then-on : goal.returns-then-on

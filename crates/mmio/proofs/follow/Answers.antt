@@ -1,6 +1,5 @@
 -- The steps, one after the other.
 use Rattle.mmio.proofs.Laws.{follows}
-use borrow.Author.Rules.{rules}
 use Rattle.mmio.proofs.follow.Goals as goal
 
 pub returns : goal.returns

@@ -3,7 +3,6 @@ use mathlib.Core.Path.{ap, ◌∙◌}
 use Prim.Native.Nat.{ℕ}
 use Rattle.periph.specs.Lane.{lane_read}
 use native.Mathlib.Omega.{arith}
-use borrow.Author.Rules.{rules}
 use Rattle.mmio.proofs.lane_of.Goals as goal
 
 pub value_of-reg-requires : goal.value_of-reg-requires

@@ -2,7 +2,6 @@
 use Rattle.mmio.proofs.Laws.{peek-away, peek-gives, read-admitted}
 use mathlib.Core.List.{[]}
 use native.Mathlib.Omega.{arith}
-use borrow.Author.Rules.{rules}
 use Rattle.mmio.proofs.peek.Goals as goal
 
 pub returns-then-n-ne0 : goal.returns-then-n-ne0

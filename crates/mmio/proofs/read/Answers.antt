@@ -1,5 +1,4 @@
 -- The whole register, or a part.
-use borrow.Author.Rules.{rules}
 use Rattle.mmio.proofs.read.Goals as goal
 
 pub returns-then-size-eq4 : goal.returns-then-size-eq4

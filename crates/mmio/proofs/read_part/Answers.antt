@@ -2,7 +2,6 @@
 use Rattle.mmio.proofs.Laws.{read-away, read-on, read_off, read-admitted}
 use mathlib.Core.List.{[]}
 use native.Mathlib.Omega.{arith}
-use borrow.Author.Rules.{rules}
 use mathlib.Core.Path.{ap}
 use mathlib.Core.Bool.{not}
 use Rattle.mmio.proofs.read_part.Goals as goal

@@ -3,7 +3,6 @@ use native.Mathlib.Omega.{arith}
 use Rattle.book.specs.Book.{places, slices}
 use Rattle.book.proofs.Laws.{roomy}
 use Rattle.mmio.proofs.Laws.{admitted, reset-away, reset-away-book, reset-gives}
-use borrow.Author.Rules.{rules}
 use Rattle.mmio.proofs.reset.Goals as goal
 
 pub returns-then-no-ne0 : goal.returns-then-no-ne0

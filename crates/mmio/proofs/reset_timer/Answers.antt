@@ -2,7 +2,6 @@
 use Rattle.mmio.proofs.Laws.{of-eight, resets}
 use Rattle.tim.proofs.Fit.{fit-reset}
 use native.Mathlib.Omega.{arith}
-use borrow.Author.Rules.{rules}
 use Rattle.mmio.proofs.reset_timer.Goals as goal
 
 pub store_timer-requires : goal.store_timer-requires

@@ -1,5 +1,4 @@
 -- By the flag.
-use borrow.Author.Rules.{rules}
 use Rattle.mmio.proofs.settle_line_if.Goals as goal
 
 pub returns-then-on : goal.returns-then-on

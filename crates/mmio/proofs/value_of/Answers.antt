@@ -3,11 +3,6 @@ use mathlib.Core.Path.{ap, ◌∙◌}
 use mathlib.Core.List.{[]}
 use Rattle.tim.specs.declared.Timer.{Timer}
 use Rattle.regs.specs.Regs.{reg_read}
-use borrow.Author.Rules.{rules}
-use Rattle.mmio.proofs.value_of.Reads as reads
-use Rattle.mmio.proofs.value_of.Lts as lts
-use Rattle.regs.proofs.read_reg.Reads as read-reg-reads
-use Rattle.state.proofs.load_timer.Reads as load-timer-reads
 use Rattle.mmio.proofs.value_of.Goals as goal
 
 pub read_reg-requires : goal.read_reg-requires

@@ -1,6 +1,5 @@
 -- The counter, or another register.
 use Rattle.mmio.proofs.Laws.{counter-read}
-use borrow.Author.Rules.{rules}
 use Rattle.mmio.proofs.whole_of.Goals as goal
 
 pub returns-in-36 : goal.returns-in-36

@@ -1,7 +1,6 @@
 -- The wish, then the level that follows.
 use mathlib.Core.Path.{ap, ◌∙◌}
 use Rattle.nvic.specs.Nvic.{Line, line_with}
-use borrow.Author.Rules.{rules}
 use Rattle.nvic.proofs.driven.Goals as goal
 
 pub returns : goal.returns

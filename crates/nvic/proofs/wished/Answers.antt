@@ -1,6 +1,5 @@
 -- The wish's bit set or cleared.
 use Rattle.nvic.proofs.Laws.{wish-word, unwish-word}
-use borrow.Author.Rules.{rules}
 use Rattle.nvic.proofs.wished.Goals as goal
 
 pub returns-then-level : goal.returns-then-level

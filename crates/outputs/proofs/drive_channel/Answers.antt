@@ -1,11 +1,5 @@
 use Rattle.outputs.proofs.Laws.{bit-small, channel-drives, channel-same, channel-still}
 use mathlib.Core.Path.{◌∙◌, sym}
-use borrow.Author.Rules.{rules}
-use Rattle.outputs.proofs.drive_channel.Reads as reads
-use Rattle.outputs.proofs.drive_channel.Lts as lts
-use Rattle.state.proofs.sig_level.Reads as sig-level-reads
-use Rattle.sys.proofs.move_signal.Reads as move-signal-reads
-use Rattle.outputs.proofs.bit.Reads as bit-reads
 use Rattle.outputs.proofs.drive_channel.Goals as goal
 
 pub returns-then-ch-channels : goal.returns-then-ch-channels

@@ -1,12 +1,5 @@
 use Rattle.outputs.proofs.Laws.{above-four, at-timer, below_two, four-driven, none-driven}
 use native.Mathlib.Omega.{arith}
-use borrow.Author.Rules.{rules}
-use Rattle.outputs.proofs.drive_outputs.Reads as reads
-use Rattle.outputs.proofs.drive_outputs.Lts as lts
-use Rattle.outputs.proofs.drive_two.Reads as drive-two-reads
-use Rattle.sig.proofs.tim.Reads as tim-reads
-use Rattle.state.proofs.load_timer.Reads as load-timer-reads
-use Rattle.tim.proofs.Timer.output.Reads as output-reads
 use Rattle.outputs.proofs.drive_outputs.Goals as goal
 
 pub returns-then-t-lt2 : goal.returns-then-t-lt2

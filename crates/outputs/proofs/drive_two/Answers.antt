@@ -1,11 +1,5 @@
 use Rattle.outputs.proofs.Laws.{one-driven, two-driven}
 use native.Mathlib.Omega.{arith}
-use borrow.Author.Rules.{rules}
-use Rattle.outputs.proofs.drive_two.Reads as reads
-use Rattle.outputs.proofs.drive_two.Lts as lts
-use Rattle.book.proofs.append.Reads as append-reads
-use Rattle.gpio.proofs.change_of.Reads as change-of-reads
-use Rattle.outputs.proofs.drive_channel.Reads as drive-channel-reads
 use Rattle.outputs.proofs.drive_two.Goals as goal
 
 pub append-requires : goal.append-requires

@@ -1,5 +1,4 @@
 -- The cycle kept, then the change written.
-use borrow.Author.Rules.{rules}
 use mathlib.Core.Path.{refl}
 use native.Mathlib.Omega.{arith}
 use Rattle.pads.proofs.changed.Goals as goal

@@ -4,7 +4,6 @@ use Rattle.machine.specs.Refusals.{refusals}
 use Rattle.pads.proofs.Laws.{refuses, pin-there, pin-driven}
 use Rattle.state.proofs.InRange.{bounded}
 use Rattle.state.specs.View.{view}
-use borrow.Author.Rules.{rules}
 use native.Mathlib.Omega.{arith}
 use Rattle.pads.proofs.drive_pin.Goals as goal
 

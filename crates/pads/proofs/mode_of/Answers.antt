@@ -1,5 +1,4 @@
 -- By the mode.
-use borrow.Author.Rules.{rules}
 use borrow.Author.Tests.{le-leb, lt-leb}
 use Rattle.pads.proofs.mode_of.Goals as goal
 

@@ -1,7 +1,6 @@
 -- Size 4 is not odd.
 use Rattle.pads.proofs.Laws.{pin-number}
 use Rattle.state.specs.View.{view}
-use borrow.Author.Rules.{rules}
 use Rattle.pads.proofs.refusal.Goals as goal
 
 pub returns : goal.returns

@@ -3,7 +3,6 @@ use Rattle.book.specs.Book.{places, slices}
 use Rattle.pads.proofs.Laws.{refuses, reset-number, reset-room, pins-reset}
 use Rattle.state.proofs.InRange.{bounded}
 use Rattle.state.specs.View.{view}
-use borrow.Author.Rules.{rules}
 use mathlib.Core.Path.{refl}
 use native.Mathlib.Omega.{arith}
 use Rattle.pads.proofs.reset_pins.Goals as goal

@@ -4,7 +4,6 @@ use Rattle.machine.specs.Step.{yes}
 use Rattle.pads.proofs.Laws.{setting-refused, setting-there, pin-set, bit_le}
 use Rattle.state.proofs.InRange.{bounded}
 use Rattle.state.specs.View.{view}
-use borrow.Author.Rules.{rules}
 use native.Mathlib.Omega.{arith}
 use Rattle.pads.proofs.set_pin.Goals as goal
 

@@ -7,7 +7,6 @@ use Rattle.machine.specs.Sys as S
 use Rattle.pads.proofs.Laws.{no_pin_lem, astray, taken, full, none}
 use Rattle.state.proofs.InRange.{bounded}
 use Rattle.state.specs.View.{view}
-use borrow.Author.Rules.{rules}
 use Rattle.pads.proofs.setting_refusal.Goals as goal
 
 pub returns-then-count-pin : goal.returns-then-count-pin

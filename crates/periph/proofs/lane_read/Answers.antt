@@ -1,7 +1,6 @@
 -- `lane_read` gives `lane_read`: one equation of the size for each return.
 use borrow.Author.Tests.{eq-eqb, ne_eqb}
 use Rattle.periph.specs.Lane.{lane_read}
-use borrow.Author.Rules.{rules}
 use Rattle.periph.proofs.lane_read.Goals as goal
 
 pub returns-then-size-eq4 : goal.returns-then-size-eq4

@@ -1,7 +1,6 @@
 -- `lane_write` gives `lane_write`: one equation of the size for each return, and `merge`.
 use borrow.Author.Tests.{eq-eqb, ne_eqb}
 use Rattle.periph.specs.Lane.{lane_write}
-use borrow.Author.Rules.{rules}
 use Rattle.periph.proofs.lane_write.Goals as goal
 
 pub returns-then-size-eq4 : goal.returns-then-size-eq4

@@ -2,7 +2,6 @@
 use native.Mathlib.Omega.{arith}
 use Rattle.periph.specs.Lane.{merged}
 use Rattle.periph.proofs.Laws.{cut, cut-le, below, up, up_lt}
-use borrow.Author.Rules.{rules}
 use Rattle.periph.proofs.merge.Goals as goal
 
 pub overflow_sub-below : goal.overflow_sub-below

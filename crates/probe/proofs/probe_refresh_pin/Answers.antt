@@ -1,11 +1,6 @@
 -- The pin refreshed, and whether a level changed.
 use mathlib.Core.Path.{ap, ◌∙◌}
 use Rattle.probe.specs.Probe.{moves}
-use borrow.Author.Rules.{rules}
-use Rattle.probe.proofs.probe_refresh_pin.Reads as reads
-use Rattle.probe.proofs.probe_refresh_pin.Lts as lts
-use Rattle.probe.proofs.has_moved.Reads as has-moved-reads
-use Rattle.sys.proofs.refresh_pin.Reads as refresh-pin-reads
 use Rattle.probe.proofs.probe_refresh_pin.Goals as goal
 
 pub returns : goal.returns

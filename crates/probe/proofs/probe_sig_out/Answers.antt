@@ -1,11 +1,6 @@
 -- The signal driven, and whether a level changed.
 use mathlib.Core.Path.{ap, ◌∙◌}
 use Rattle.probe.specs.Probe.{moves}
-use borrow.Author.Rules.{rules}
-use Rattle.probe.proofs.probe_sig_out.Reads as reads
-use Rattle.probe.proofs.probe_sig_out.Lts as lts
-use Rattle.probe.proofs.has_moved.Reads as has-moved-reads
-use Rattle.sys.proofs.sig_out.Reads as sig-out-reads
 use Rattle.probe.proofs.probe_sig_out.Goals as goal
 
 pub returns : goal.returns

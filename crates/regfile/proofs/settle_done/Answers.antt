@@ -1,7 +1,6 @@
 -- The loaded timer says whether the compare lies behind.
 use Rattle.state.specs.View.{view}
 use Rattle.regfile.proofs.Written.{done-set}
-use borrow.Author.Rules.{rules}
 use Rattle.regfile.proofs.settle_done.Goals as goal
 
 pub returns : goal.returns

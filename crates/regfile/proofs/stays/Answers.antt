@@ -1,6 +1,4 @@
 use borrow.Author.Tests.{eq-eqb, ne_eqb}
-use Rattle.regfile.proofs.stays.Reads as reads
-use Rattle.regfile.proofs.stays.Lts as lts
 use Rattle.regfile.proofs.stays.Goals as goal
 
 -- src/lib.rt:108:9

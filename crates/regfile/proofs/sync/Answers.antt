@@ -3,7 +3,6 @@ use Rattle.state.specs.View.{view}
 use mathlib.Core.List.{[]}
 use Rattle.tim.proofs.Fit.{fit-synced}
 use Rattle.regfile.proofs.Written.{loaded-fit, sync-running, sync-stopped}
-use borrow.Author.Rules.{rules}
 use Rattle.regfile.proofs.sync.Goals as goal
 
 pub sync-s-requires : goal.sync-s-requires

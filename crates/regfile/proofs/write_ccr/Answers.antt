@@ -1,6 +1,5 @@
 -- By OCxPE: the stores one after the other.
 use Rattle.regfile.proofs.Written.{waits-drive, acts-drive, ccr-waits, ccr-acts}
-use borrow.Author.Rules.{rules}
 use Rattle.regfile.proofs.write_ccr.Goals as goal
 
 pub returns-then-mode-eq1 : goal.returns-then-mode-eq1

@@ -2,7 +2,6 @@
 use mathlib.Core.Path.{◌∙◌, refl, sym}
 use Rattle.state.specs.View.{view}
 use Rattle.regfile.proofs.Unmoved.{steady-fine, steady-stored, not-served}
-use borrow.Author.Rules.{rules}
 use Rattle.regfile.proofs.write_cr1.Goals as goal
 
 pub returns-then-stays : goal.returns-then-stays

@@ -2,11 +2,6 @@ use Rattle.state.specs.View.{view}
 use Rattle.state.proofs.InRange.{bounded}
 use Rattle.regfile.proofs.Unmoved.{moved}
 use native.Mathlib.Omega.{arith}
-use borrow.Author.Rules.{rules}
-use Rattle.regfile.proofs.write_steady.Reads as reads
-use Rattle.regfile.proofs.write_steady.Lts as lts
-use Rattle.fields.proofs.set_reg.Reads as set-reg-reads
-use Rattle.regfile.proofs.sync.Reads as sync-reads
 use Rattle.regfile.proofs.write_steady.Goals as goal
 
 pub returns : goal.returns

@@ -1,7 +1,6 @@
 -- By the bit and the channel.
 use Prim.Native.Nat.{◌%◌, ◌+◌, ◌/◌, ◌^◌}
 use Rattle.tim.proofs.Laws.{odd}
-use borrow.Author.Rules.{rules}
 use borrow.Author.Tests.{ne_eqb}
 use mathlib.Core.Path.{◌∙◌, sym}
 use native.Mathlib.Omega.{arith}

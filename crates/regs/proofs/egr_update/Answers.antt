@@ -2,7 +2,6 @@
 use Rattle.regs.proofs.Cases.{bit0-clear, bit0-set}
 use Rattle.tim.proofs.Fit.{fit-synced}
 use Rattle.regs.specs.Regs.{egr_update}
-use borrow.Author.Rules.{rules}
 use mathlib.Core.Path.{refl}
 use Rattle.regs.proofs.egr_update.Goals as goal
 

@@ -1,5 +1,4 @@
 -- Driven at the present count.
-use borrow.Author.Rules.{rules}
 use Rattle.regs.proofs.generated.Goals as goal
 
 pub returns : goal.returns

@@ -1,7 +1,5 @@
 -- By the three tests.
 use Rattle.regs.specs.Regs.{astray}
-use borrow.Author.Rules.{rules}
-use borrow.Author.Tests.{not-false, not-true}
 use mathlib.Core.Path.{◌∙◌, sym}
 use Rattle.regs.proofs.is_astray.Goals as goal
 

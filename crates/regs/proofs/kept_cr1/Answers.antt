@@ -1,5 +1,4 @@
 -- By the channel count.
-use borrow.Author.Rules.{rules}
 use borrow.Author.Tests.{eq-eqb, ne_eqb}
 use Rattle.regs.proofs.kept_cr1.Goals as goal
 

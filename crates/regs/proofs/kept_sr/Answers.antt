@@ -1,5 +1,4 @@
 -- The table's flags, the others left.
-use borrow.Author.Rules.{rules}
 use Rattle.regs.proofs.kept_sr.Goals as goal
 
 pub returns : goal.returns

@@ -1,7 +1,6 @@
 -- One case for each register of the channels.
 use Rattle.regs.proofs.Cases.{ccr-high, ccr-in, ccr-low}
 use Rattle.regs.specs.Regs.{channel_read}
-use borrow.Author.Rules.{rules}
 use borrow.Author.Tests.{eq-eqb, ne_eqb}
 use native.Mathlib.Omega.{arith}
 use Rattle.regs.proofs.read_channel.Goals as goal

@@ -1,6 +1,5 @@
 -- One case for each register.
 use Rattle.regs.specs.Regs.{reg_read}
-use borrow.Author.Rules.{rules}
 use borrow.Author.Tests.{ne_eqb}
 use Rattle.regs.proofs.read_reg.Goals as goal
 

@@ -3,7 +3,6 @@ use Rattle.tim.specs.Change.{with_done}
 use lib.ListN.{set}
 use mathlib.Core.Bool.{Bool}
 use mathlib.Core.Path.{◌∙◌, ap}
-use borrow.Author.Rules.{rules}
 use Rattle.regs.proofs.settle.Goals as goal
 
 pub returns : goal.returns

@@ -1,6 +1,5 @@
 -- By the direction before and after.
 use Rattle.regs.specs.Regs.{turned}
-use borrow.Author.Rules.{rules}
 use borrow.Author.Tests.{eq-eqb, ne_eqb}
 use Rattle.regs.proofs.turn.Goals as goal
 

@@ -6,7 +6,6 @@ use Rattle.tim.specs.Change.{recomputed}
 use Rattle.tim.specs.Count.{synced}
 use lib.Bits.{bit_and}
 use mathlib.Core.Path.{◌∙◌, ap}
-use borrow.Author.Rules.{rules}
 use borrow.Author.Tests.{eq-eqb, ne_eqb}
 use Rattle.regs.proofs.write_arr.Goals as goal
 

@@ -5,7 +5,6 @@ use Prim.Native.Nat.{ℕ}
 use Rattle.tim.specs.Count.{cnt_at}
 use mathlib.Core.Bool.{false}
 use mathlib.Core.Path.{◌∙◌, ap}
-use borrow.Author.Rules.{rules}
 use Rattle.regs.proofs.write_ccer.Goals as goal
 
 pub cnt_at-cnt-requires : goal.cnt_at-cnt-requires

@@ -6,7 +6,6 @@ use Rattle.tim.specs.Count.{cnt_at}
 use mathlib.Core.Bool.{true}
 use mathlib.Core.Path.{◌∙◌, ap}
 use Rattle.tim.proofs.Fit.{fit-synced}
-use borrow.Author.Rules.{rules}
 use Rattle.regs.proofs.write_ccmr.Goals as goal
 
 pub cnt_at-cnt-requires : goal.cnt_at-cnt-requires

@@ -2,7 +2,6 @@
 use Prim.Native.Nat.{◌%◌, ◌/◌, ℕ}
 use Rattle.tim.proofs.Fit.{fit-synced}
 use Rattle.regs.specs.Regs.{ccr_written}
-use borrow.Author.Rules.{rules}
 use borrow.Author.Tests.{eq-eqb, ne_eqb}
 use lib.Dec.{eqb}
 use mathlib.Core.Path.{◌∙◌, ap, sym}

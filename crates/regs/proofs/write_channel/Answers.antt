@@ -4,7 +4,6 @@ use Rattle.regs.proofs.Cases.{ccr-high, ccr-in, ccr-low}
 use Rattle.regs.specs.Regs.{ccer_written, ccmr_written, ccr_written, ccr_channel, channel_written}
 use lib.Bits.{bit_and}
 use mathlib.Core.Path.{◌∙◌, ap}
-use borrow.Author.Rules.{rules}
 use borrow.Author.Tests.{eq-eqb, ne_eqb}
 use mathlib.Core.Logic.{⊎_elim}
 use native.Mathlib.Omega.{arith}

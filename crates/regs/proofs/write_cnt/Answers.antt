@@ -7,7 +7,6 @@ use Rattle.tim.specs.Change.{recomputed}
 use Rattle.tim.specs.Count.{at_count, synced}
 use lib.Bits.{bit_and}
 use mathlib.Core.Path.{◌∙◌, ap}
-use borrow.Author.Rules.{rules}
 use Rattle.regs.proofs.write_cnt.Goals as goal
 
 pub returns : goal.returns

@@ -1,7 +1,6 @@
 -- By CEN before and after.
 use Rattle.regs.proofs.Cases.{cr1-starts, cr1-stays-off, cr1-stays-on, cr1-stops}
 use Rattle.tim.proofs.Fit.{fit-synced}
-use borrow.Author.Rules.{rules}
 use Rattle.regs.proofs.write_cr1.Goals as goal
 
 pub returns-then-old-eq1 : goal.returns-then-old-eq1

@@ -1,6 +1,5 @@
 -- The update, then the four channels.
 use Rattle.regs.specs.Regs.{egr_match, egr_written}
-use borrow.Author.Rules.{rules}
 use mathlib.Core.Path.{◌∙◌, ap}
 use Rattle.regs.proofs.write_egr.Goals as goal
 

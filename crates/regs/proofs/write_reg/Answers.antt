@@ -5,7 +5,6 @@ use Prim.Native.Nat.{ℕ}
 use lib.Bits.{bit_and}
 use mathlib.Core.Path.{◌∙◌, ap}
 use Rattle.regs.proofs.Fit.{fit-egr}
-use borrow.Author.Rules.{rules}
 use borrow.Author.Tests.{ne_eqb}
 use Rattle.regs.proofs.write_reg.Goals as goal
 

@@ -1,7 +1,6 @@
 -- A booking at NEVER is none.
 use mathlib.Core.Path.{◌∙◌, ap, sym}
 use Prim.Native.Nat.{ℕ}
-use borrow.Author.Rules.{rules}
 use Rattle.scheduler.specs.Booking.{rebook}
 use Rattle.scheduler.proofs.book.Goals as goal
 

@@ -1,6 +1,5 @@
 -- A byte that is there, or the default.
 use mathlib.Core.Path.{sym}
-use borrow.Author.Rules.{rules}
 use lib.ListN.{get_or-eq_default}
 use native.Mathlib.Omega.{arith}
 use Rattle.settings.proofs.byte_at.Goals as goal

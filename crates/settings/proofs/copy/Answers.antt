@@ -1,9 +1,6 @@
-use Prim.Native.Nat.{◌-◌, ◌≤◌}
 use Rattle.settings.proofs.Tests.{copy_step, copy_done}
-use borrow.Author.Rules.{rules}
-use lib.ListN.{length, length-set, take, drop}
-use mathlib.Core.List.{◌++◌}
-use mathlib.Core.Path.{◌≡◌, refl}
+use lib.ListN.{length-set}
+use mathlib.Core.Path.{refl}
 use native.Mathlib.Omega.{arith}
 use Rattle.settings.proofs.copy.Goals as goal
 

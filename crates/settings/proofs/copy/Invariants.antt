@@ -1,11 +1,8 @@
 -- The bytes so far are copied.
 use Prim.Native.Nat.{◌-◌, ◌≤◌}
-use Rattle.settings.proofs.Tests.{copy_step, copy_done}
-use borrow.Author.Rules.{rules}
-use lib.ListN.{length, length-set, take, drop}
+use lib.ListN.{length, take, drop}
 use mathlib.Core.List.{◌++◌}
-use mathlib.Core.Path.{◌≡◌, refl}
-use native.Mathlib.Omega.{arith}
+use mathlib.Core.Path.{◌≡◌}
 use Rattle.settings.proofs.copy.Given as goal
 
 abbrev pub invariant-loop-i : goal.invariant-loop-i

@@ -1,5 +1,4 @@
 -- The test, of the length that was read.
-use borrow.Author.Rules.{rules}
 use Rattle.settings.specs.Record.{cut_short}
 use Rattle.settings.proofs.cut_short.Goals as goal
 

@@ -1,6 +1,5 @@
 -- By the kind.
-use mathlib.Core.Path.{◌∙◌, sym}
-use borrow.Author.Rules.{rules}
+use mathlib.Core.Path.{sym}
 use borrow.Author.Tests.{eq-eqb, ne_eqb}
 use Rattle.settings.proofs.mode_of.Goals as goal
 

@@ -1,6 +1,5 @@
 -- Check by check, in the table's order.
 use mathlib.Core.Path.{◌∙◌, sym}
-use borrow.Author.Rules.{rules}
 use Rattle.machine.specs.Refusals.{first}
 use Rattle.settings.specs.Record.{read_number}
 use Rattle.settings.proofs.number_of.Goals as goal

@@ -1,5 +1,4 @@
 -- Refused with the number, or the settings as they stand.
-use borrow.Author.Rules.{rules}
 use Rattle.settings.proofs.Meets.{read-refused, read-served}
 use Rattle.settings.proofs.read_up_to.Goals as goal
 

@@ -1,7 +1,5 @@
 -- Too few places, settings that no record can hold, or the record.
 use Rattle.settings.proofs.Meets.{write-cut, write-bad, write-served}
-use borrow.Author.Rules.{rules}
-use borrow.Author.Tests.{not-true, not-false}
 use Rattle.settings.proofs.record_write.Goals as goal
 
 pub returns-then-out-count : goal.returns-then-out-count

@@ -1,5 +1,4 @@
 -- Byte by byte.
-use borrow.Author.Rules.{rules}
 use Rattle.settings.specs.Record.{decode}
 use Rattle.settings.proofs.settings_in.Goals as goal
 

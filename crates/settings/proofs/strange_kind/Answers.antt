@@ -1,5 +1,4 @@
 -- The test, of the kind that was read.
-use borrow.Author.Rules.{rules}
 use Rattle.settings.specs.Record.{strange_kind}
 use Rattle.settings.proofs.strange_kind.Goals as goal
 

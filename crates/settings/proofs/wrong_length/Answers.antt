@@ -1,5 +1,4 @@
 -- The test, of the bytes that were read.
-use borrow.Author.Rules.{rules}
 use Rattle.settings.specs.Record.{wrong_length}
 use Rattle.settings.proofs.wrong_length.Goals as goal
 

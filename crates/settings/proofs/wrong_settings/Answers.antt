@@ -1,5 +1,4 @@
 -- The limits are asked of the settings that were read, the mode aside.
-use borrow.Author.Rules.{rules}
 use Rattle.settings.proofs.Meets.{settings-wrong}
 use Rattle.settings.proofs.wrong_settings.Goals as goal
 

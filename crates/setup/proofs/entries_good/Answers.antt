@@ -1,9 +1,5 @@
-use Prim.Native.Nat.{◌-◌, ◌≤◌}
-use Rattle.machine.specs.Step.{entries_below}
 use Rattle.setup.proofs.Limits.{entry-large, entry_next, entry-end}
-use borrow.Author.Rules.{rules}
-use lib.ListN.{length, drop}
-use mathlib.Core.Path.{◌≡◌, refl}
+use mathlib.Core.Path.{refl}
 use native.Mathlib.Omega.{arith}
 use Rattle.setup.proofs.entries_good.Goals as goal
 

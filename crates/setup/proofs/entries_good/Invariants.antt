@@ -1,11 +1,8 @@
 -- The entries that are left decide as all do.
 use Prim.Native.Nat.{◌-◌, ◌≤◌}
 use Rattle.machine.specs.Step.{entries_below}
-use Rattle.setup.proofs.Limits.{entry-large, entry_next, entry-end}
-use borrow.Author.Rules.{rules}
 use lib.ListN.{length, drop}
-use mathlib.Core.Path.{◌≡◌, refl}
-use native.Mathlib.Omega.{arith}
+use mathlib.Core.Path.{◌≡◌}
 use Rattle.setup.proofs.entries_good.Given as goal
 
 abbrev pub invariant-loop-k : goal.invariant-loop-k

@@ -1,7 +1,6 @@
 -- The cleared board, its timers, its table, its sizes.
 use Rattle.setup.proofs.Laws.{filled-up}
 use Rattle.setup.proofs.Limits.{within}
-use borrow.Author.Rules.{rules}
 use native.Mathlib.Omega.{arith}
 use Rattle.setup.proofs.fill.Goals as goal
 

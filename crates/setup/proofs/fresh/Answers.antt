@@ -1,9 +1,5 @@
-use Prim.Native.Nat.{◌-◌, ◌≤◌}
-use Rattle.machine.specs.Step as S
 use Rattle.setup.proofs.Limits.{fresh-taken, fresh-next, fresh-end}
-use Rattle.setup.specs.Setup.{insts_from}
-use borrow.Author.Rules.{rules}
-use mathlib.Core.Path.{◌≡◌, refl}
+use mathlib.Core.Path.{refl}
 use native.Mathlib.Omega.{arith}
 use Rattle.setup.proofs.fresh.Goals as goal
 

@@ -1,11 +1,8 @@
 -- The timers that are left decide as all do.
 use Prim.Native.Nat.{◌-◌, ◌≤◌}
 use Rattle.machine.specs.Step as S
-use Rattle.setup.proofs.Limits.{fresh-taken, fresh-next, fresh-end}
 use Rattle.setup.specs.Setup.{insts_from}
-use borrow.Author.Rules.{rules}
-use mathlib.Core.Path.{◌≡◌, refl}
-use native.Mathlib.Omega.{arith}
+use mathlib.Core.Path.{◌≡◌}
 use Rattle.setup.proofs.fresh.Given as goal
 
 abbrev pub invariant-loop-i : goal.invariant-loop-i

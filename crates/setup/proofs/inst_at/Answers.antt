@@ -1,6 +1,5 @@
 -- By whether the seven numbers are there.
 use Rattle.setup.proofs.Limits.{inst-lacking, inst-whole}
-use borrow.Author.Rules.{rules}
 use mathlib.Core.Path.{◌∙◌}
 use Rattle.setup.proofs.inst_at.Goals as goal
 

@@ -1,6 +1,5 @@
 -- The number, as an answer.
 use Rattle.setup.proofs.Given.{set-up-answers}
-use borrow.Author.Rules.{rules}
 use Rattle.setup.proofs.set_up.Goals as goal
 
 pub returns : goal.returns

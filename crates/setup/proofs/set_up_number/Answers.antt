@@ -1,8 +1,6 @@
 -- Outside the limits, without a clock, or replaced.
 use Rattle.setup.proofs.Laws.{outside, no-clock, replaced}
 use Rattle.setup.specs.Setup.{setup_of}
-use borrow.Author.Rules.{rules}
-use borrow.Author.Tests.{not-false}
 use mathlib.Core.Path.{◌∙◌, sym}
 use mathlib.Core.Path.{ap}
 use mathlib.Core.Bool.{not}

@@ -1,8 +1,5 @@
-use Prim.Native.Nat.{◌-◌}
-use Rattle.setup.proofs.Laws.{Listing, list-begins, list-goes, list-ends}
+use Rattle.setup.proofs.Laws.{list-begins, list-goes, list-ends}
 use Rattle.setup.proofs.Limits.{entry_at}
-use borrow.Author.Rules.{rules}
-use lib.ListN.{length}
 use native.Mathlib.Omega.{arith}
 use Rattle.setup.proofs.store_table.Goals as goal
 

@@ -1,10 +1,7 @@
 -- The loop has stored the first k entries.
 use Prim.Native.Nat.{◌-◌}
-use Rattle.setup.proofs.Laws.{Listing, list-begins, list-goes, list-ends}
-use Rattle.setup.proofs.Limits.{entry_at}
-use borrow.Author.Rules.{rules}
+use Rattle.setup.proofs.Laws.{Listing}
 use lib.ListN.{length}
-use native.Mathlib.Omega.{arith}
 use Rattle.setup.proofs.store_table.Given as goal
 
 abbrev pub invariant-loop-k : goal.invariant-loop-k

@@ -1,6 +1,4 @@
-use Prim.Native.Nat.{◌-◌}
-use Rattle.setup.proofs.Laws.{Storing, store-begins, store_goes, store-ends, new-fit}
-use borrow.Author.Rules.{rules}
+use Rattle.setup.proofs.Laws.{store-begins, store_goes, store-ends, new-fit}
 use native.Mathlib.Omega.{arith}
 use Rattle.setup.proofs.store_timers.Goals as goal
 

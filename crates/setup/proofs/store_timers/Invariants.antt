@@ -1,8 +1,6 @@
 -- The loop has stored the first i timers.
 use Prim.Native.Nat.{◌-◌}
-use Rattle.setup.proofs.Laws.{Storing, store-begins, store_goes, store-ends, new-fit}
-use borrow.Author.Rules.{rules}
-use native.Mathlib.Omega.{arith}
+use Rattle.setup.proofs.Laws.{Storing}
 use Rattle.setup.proofs.store_timers.Given as goal
 
 abbrev pub invariant-loop-i : goal.invariant-loop-i

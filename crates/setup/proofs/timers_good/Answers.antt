@@ -1,10 +1,5 @@
-use Prim.Native.Nat.{◌-◌, ◌≤◌}
-use Rattle.machine.specs.Step as S
 use Rattle.setup.proofs.Limits.{good-bad, good-twice, good-next, good-end, good_start}
-use Rattle.setup.specs.Setup.{insts_from}
-use borrow.Author.Rules.{rules}
-use borrow.Author.Tests.{not-true, not-false}
-use mathlib.Core.Path.{◌≡◌, ◌∙◌, sym}
+use mathlib.Core.Path.{◌∙◌, sym}
 use native.Mathlib.Omega.{arith}
 use Rattle.setup.proofs.timers_good.Goals as goal
 

@@ -1,12 +1,8 @@
 -- The timers that are left decide as all do.
 use Prim.Native.Nat.{◌-◌, ◌≤◌}
 use Rattle.machine.specs.Step as S
-use Rattle.setup.proofs.Limits.{good-bad, good-twice, good-next, good-end, good_start}
 use Rattle.setup.specs.Setup.{insts_from}
-use borrow.Author.Rules.{rules}
-use borrow.Author.Tests.{not-true, not-false}
-use mathlib.Core.Path.{◌≡◌, ◌∙◌, sym}
-use native.Mathlib.Omega.{arith}
+use mathlib.Core.Path.{◌≡◌}
 use Rattle.setup.proofs.timers_good.Given as goal
 
 abbrev pub invariant-loop-i : goal.invariant-loop-i

@@ -1,7 +1,5 @@
 -- Limit by limit.
 use Rattle.setup.proofs.Limits.{few-timers, sizes-bad, timers-bad, supply-bad, table-bad, table-decides}
-use borrow.Author.Rules.{rules}
-use borrow.Author.Tests.{not-true, not-false}
 use mathlib.Core.Path.{◌∙◌, sym}
 use Rattle.setup.proofs.within_limits.Goals as goal
 

@@ -1,5 +1,5 @@
-use Rattle.std.proofs.Common.{ℕ, ◌-◌, ◌≤◌, ap, ◌∙◌, arith, rules}
-use Rattle.shift.specs.Kept.{fresh_track, Fresh}
+use Rattle.std.proofs.Common.{ℕ, ap, ◌∙◌, arith}
+use Rattle.shift.specs.Kept.{fresh_track}
 use Rattle.shift.proofs.Ending.{fresh-more}
 use Rattle.shift.proofs.begin_pins.Goals as goal
 

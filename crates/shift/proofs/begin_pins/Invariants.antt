@@ -1,7 +1,6 @@
 -- The pins so far are fresh.
-use Rattle.std.proofs.Common.{ℕ, ◌-◌, ◌≤◌, ap, ◌∙◌, arith, rules}
-use Rattle.shift.specs.Kept.{fresh_track, Fresh}
-use Rattle.shift.proofs.Ending.{fresh-more}
+use Rattle.std.proofs.Common.{◌-◌, ◌≤◌}
+use Rattle.shift.specs.Kept.{Fresh}
 use Rattle.shift.proofs.begin_pins.Given as goal
 
 abbrev pub invariant-loop-pin : goal.invariant-loop-pin

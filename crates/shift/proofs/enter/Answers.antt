@@ -1,6 +1,6 @@
 -- Each branch by its tests.
-use Rattle.std.proofs.Common.{◌∙◌, rules, le-ltb, lt-ltb, eq-eqb, ne_eqb}
-use Rattle.shift.specs.Kept.{took, entered}
+use Rattle.std.proofs.Common.{◌∙◌, le-ltb, lt-ltb, eq-eqb, ne_eqb}
+use Rattle.shift.specs.Kept.{entered}
 use Rattle.shift.proofs.enter.Goals as goal
 
 pub returns-then-kept-ne0 : goal.returns-then-kept-ne0

@@ -1,6 +1,5 @@
 -- A word of 32 bits has at most 32 set.
 use lib.Count.{ones-le}
-use Rattle.std.proofs.Common.{rules}
 use Rattle.shift.proofs.high_in.Goals as goal
 
 pub returns : goal.returns

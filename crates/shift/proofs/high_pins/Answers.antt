@@ -1,5 +1,5 @@
 -- Four words of 32 pins.
-use Rattle.std.proofs.Common.{arith, rules}
+use Rattle.std.proofs.Common.{arith}
 use Rattle.shift.proofs.Ending.{high-none}
 use Rattle.shift.proofs.high_pins.Goals as goal
 

@@ -1,5 +1,5 @@
 -- Each branch by its test.
-use Rattle.std.proofs.Common.{rules, eq-eqb, ne_eqb}
+use Rattle.std.proofs.Common.{eq-eqb, ne_eqb}
 use Rattle.shift.proofs.is_high.Goals as goal
 
 pub returns-then-kept-at-eq1 : goal.returns-then-kept-at-eq1

@@ -1,5 +1,5 @@
 -- By the definition.
-use Rattle.std.proofs.Common.{refl, rules}
+use Rattle.std.proofs.Common.{refl}
 use Rattle.shift.specs.Shift.{level_bit}
 use Rattle.shift.proofs.level_of.Goals as goal
 

@@ -1,4 +1,4 @@
-use Rattle.std.proofs.Common.{◌≡◌, ℕ, ◌+◌, ◌-◌, ◌^◌, ◌<◌, ◌≤◌, eqb, subst, arith}
+use Rattle.std.proofs.Common.{◌≡◌, ℕ, ◌+◌, ◌^◌, ◌<◌, eqb, subst, arith}
 use lib.Count.{ones}
 use Rattle.shift.specs.Kept.{high_tracks, track_at}
 use Rattle.shift.proofs.Ending.{word_small, word_more, bits-more, bits_none, one_bit}

@@ -1,8 +1,7 @@
 -- The word's set bits are the high pins so far.
-use Rattle.std.proofs.Common.{◌≡◌, ℕ, ◌+◌, ◌-◌, ◌^◌, ◌<◌, ◌≤◌, eqb, subst, arith}
+use Rattle.std.proofs.Common.{◌≡◌, ◌+◌, ◌-◌, ◌^◌, ◌<◌, ◌≤◌}
 use lib.Count.{ones}
-use Rattle.shift.specs.Kept.{high_tracks, track_at}
-use Rattle.shift.proofs.Ending.{word_small, word_more, bits-more, bits_none, one_bit}
+use Rattle.shift.specs.Kept.{high_tracks}
 use Rattle.shift.proofs.level_word.Given as goal
 
 abbrev pub invariant-loop-j : goal.invariant-loop-j

@@ -1,5 +1,5 @@
 -- Each branch by its test.
-use Rattle.std.proofs.Common.{rules, le-ltb, lt-ltb}
+use Rattle.std.proofs.Common.{le-ltb, lt-ltb}
 use Rattle.shift.proofs.more.Goals as goal
 
 pub returns-then-from-cycle : goal.returns-then-from-cycle

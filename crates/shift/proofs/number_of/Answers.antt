@@ -1,5 +1,5 @@
 -- Each branch by its tests.
-use Rattle.std.proofs.Common.{rules, eq-eqb, ne_eqb}
+use Rattle.std.proofs.Common.{eq-eqb, ne_eqb}
 use Rattle.shift.specs.Kept.{number_given}
 use Rattle.shift.proofs.number_of.Goals as goal
 

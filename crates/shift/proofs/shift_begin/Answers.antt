@@ -1,5 +1,5 @@
 -- The stores stand for a shift without entries.
-use Rattle.std.proofs.Common.{arith, rules}
+use Rattle.std.proofs.Common.{arith}
 use Rattle.shift.specs.Shift.{shift}
 use Rattle.shift.proofs.Standing.{stands-begun}
 use Rattle.shift.proofs.shift_begin.Goals as goal

@@ -1,6 +1,5 @@
 -- Refused, or written.
 use Rattle.shift.proofs.Ending.{ended-refused, ended-served, ended-both}
-use Rattle.std.proofs.Common.{rules}
 use Rattle.shift.proofs.shift_end.Goals as goal
 
 pub returns-then-number-ne0 : goal.returns-then-number-ne0

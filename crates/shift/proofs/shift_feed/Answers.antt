@@ -1,6 +1,5 @@
-use Rattle.std.proofs.Common.{◌≡◌, ◌-◌, ◌≤◌, min, ap, ◌∙◌, arith, rules}
-use Rattle.shift.specs.Shift.{piece, unsourced_from}
-use Rattle.shift.specs.Kept.{fed}
+use Rattle.std.proofs.Common.{min, ap, ◌∙◌, arith}
+use Rattle.shift.specs.Shift.{piece}
 use Rattle.shift.proofs.Ending.{fed-begins, fed-more, fed-both}
 use Rattle.shift.proofs.shift_feed.Goals as goal
 

@@ -1,8 +1,7 @@
 -- What is left to feed leads to the same words.
-use Rattle.std.proofs.Common.{◌≡◌, ◌-◌, ◌≤◌, min, ap, ◌∙◌, arith, rules}
+use Rattle.std.proofs.Common.{◌≡◌, ◌-◌, ◌≤◌}
 use Rattle.shift.specs.Shift.{piece, unsourced_from}
 use Rattle.shift.specs.Kept.{fed}
-use Rattle.shift.proofs.Ending.{fed-begins, fed-more, fed-both}
 use Rattle.shift.proofs.shift_feed.Given as goal
 
 abbrev pub invariant-loop-i : goal.invariant-loop-i

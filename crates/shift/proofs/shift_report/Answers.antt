@@ -1,5 +1,5 @@
 -- Begin, one feed, end.
-use Rattle.std.proofs.Common.{[], arith, rules}
+use Rattle.std.proofs.Common.{[], arith}
 use Rattle.shift.specs.Shift.{shift, piece, length_of, entries_in}
 use Rattle.shift.proofs.Ending.{entries-length}
 use Rattle.shift.proofs.shift_report.Goals as goal

@@ -1,5 +1,5 @@
 -- The stores, as they are written.
-use Rattle.std.proofs.Common.{refl, rules}
+use Rattle.std.proofs.Common.{refl}
 use Rattle.shift.specs.Kept.{put_track}
 use Rattle.shift.proofs.store.Goals as goal
 

@@ -1,5 +1,5 @@
 -- Each branch by its test.
-use Rattle.std.proofs.Common.{rules, eq-eqb, ne_eqb}
+use Rattle.std.proofs.Common.{eq-eqb, ne_eqb}
 use Rattle.shift.proofs.turned.Goals as goal
 
 pub returns-then-level-eq1 : goal.returns-then-level-eq1

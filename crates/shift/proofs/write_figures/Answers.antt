@@ -1,5 +1,4 @@
-use Rattle.std.proofs.Common.{◌-◌, ◌≤◌, arith, rules}
-use Rattle.shift.specs.Kept.{Written}
+use Rattle.std.proofs.Common.{arith}
 use Rattle.shift.proofs.Ending.{written-more}
 use Rattle.shift.proofs.write_figures.Goals as goal
 

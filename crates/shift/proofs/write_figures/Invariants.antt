@@ -1,7 +1,6 @@
 -- The pins so far have their figures.
-use Rattle.std.proofs.Common.{◌-◌, ◌≤◌, arith, rules}
+use Rattle.std.proofs.Common.{◌-◌, ◌≤◌}
 use Rattle.shift.specs.Kept.{Written}
-use Rattle.shift.proofs.Ending.{written-more}
 use Rattle.shift.proofs.write_figures.Given as goal
 
 abbrev pub invariant-loop-pin : goal.invariant-loop-pin

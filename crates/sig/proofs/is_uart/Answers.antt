@@ -1,5 +1,4 @@
 -- `is_uart` gives `is_uart`: the two tests of the UART and the test of the signal, one return each.
-use borrow.Author.Rules.{rules}
 use borrow.Author.Tests.{le-leb, lt-leb}
 use Rattle.sig.specs.Signal.{is_uart}
 use Rattle.sig.proofs.is_uart.Goals as goal

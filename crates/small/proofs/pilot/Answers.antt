@@ -1,5 +1,4 @@
 -- Each answer is that of its test.
-use borrow.Author.Rules.{rules}
 use borrow.Author.Tests.{lt-ltb, le-ltb}
 use native.Mathlib.Omega.{arith}
 use Rattle.small.specs.Small.{count, listed}

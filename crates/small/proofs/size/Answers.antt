@@ -1,6 +1,4 @@
 -- The products: at most 8 times 8, 4 times that, 256 times 9.
-use borrow.Author.Rules.{rules}
-use Prim.Native.Nat.{◌+◌, ◌*◌, ◌≤◌}
 use lib.Dec.{lit<}
 use native.Mathlib.Nat.{lt_of_le_of_lt, mul-le-mul}
 use native.Mathlib.Omega.{arith}

@@ -1,7 +1,6 @@
 -- The word of the table.
 use Prim.Native.Nat.{◌*◌, ◌+◌}
 use Rattle.state.proofs.Places.{af-read}
-use borrow.Author.Rules.{rules}
 use mathlib.Core.Path.{sym}
 use native.Mathlib.Omega.{arith}
 use Rattle.state.proofs.af.Goals as goal

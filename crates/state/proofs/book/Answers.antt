@@ -4,7 +4,6 @@ use Rattle.state.specs.Board.{booking_set}
 use Rattle.state.specs.View.{view}
 use Rattle.state.proofs.Places.{booked-word}
 use Rattle.state.proofs.Stores.{booking-set}
-use borrow.Author.Rules.{rules}
 use Rattle.state.proofs.book.Goals as goal
 
 pub returns : goal.returns

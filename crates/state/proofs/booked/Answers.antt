@@ -3,7 +3,6 @@ use mathlib.Core.List.{List}
 use mathlib.Core.Path.{◌∙◌, ap}
 use Prim.Native.Nat.{ℕ}
 use Rattle.scheduler.specs.Booking.{cycle_of}
-use borrow.Author.Rules.{rules}
 use Rattle.state.proofs.booked.Goals as goal
 
 pub returns : goal.returns

@@ -1,6 +1,5 @@
 -- The eight words of the bookings.
 use Rattle.state.proofs.Places.{booking-all}
-use borrow.Author.Rules.{rules}
 use mathlib.Core.Path.{◌∙◌, sym}
 use Rattle.state.proofs.bookings.Goals as goal
 

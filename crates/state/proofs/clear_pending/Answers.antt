@@ -2,7 +2,6 @@
 use Rattle.nvic.specs.Nvic.{line_cleared}
 use Rattle.state.proofs.Places.{line-absent, line-place, line-there}
 use Rattle.state.proofs.Stores.{line-none, line_set_lem}
-use borrow.Author.Rules.{rules}
 use Rattle.state.proofs.clear_pending.Goals as goal
 
 pub bounds-words-at : goal.bounds-words-at

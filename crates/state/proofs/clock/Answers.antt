@@ -1,6 +1,5 @@
 -- The word and the two reals of the clock.
 use Rattle.state.proofs.Places.{clock-read}
-use borrow.Author.Rules.{rules}
 use mathlib.Core.Path.{sym}
 use Rattle.state.proofs.clock.Goals as goal
 

@@ -1,6 +1,5 @@
 -- The enable word.
 use Rattle.state.proofs.Places.{enr-read}
-use borrow.Author.Rules.{rules}
 use mathlib.Core.Path.{sym}
 use Rattle.state.proofs.enr.Goals as goal
 

@@ -1,9 +1,8 @@
-use Prim.Native.Nat.{◌-◌, ◌≤◌}
 use Rattle.state.proofs.Copies.{get-done, get-step}
 use borrow.Author.Rules.{rules}
-use lib.ListN.{drop, length, length-set}
-use lib.Seq.{paste, paste-zero}
-use mathlib.Core.Path.{◌≡◌, refl}
+use lib.ListN.{drop, length-set}
+use lib.Seq.{paste-zero}
+use mathlib.Core.Path.{refl}
 use native.Mathlib.Omega.{arith}
 use Rattle.state.proofs.get.Goals as goal
 

@@ -1,11 +1,8 @@
 -- The loop has copied the first j words.
 use Prim.Native.Nat.{◌-◌, ◌≤◌}
-use Rattle.state.proofs.Copies.{get-done, get-step}
-use borrow.Author.Rules.{rules}
-use lib.ListN.{drop, length, length-set}
-use lib.Seq.{paste, paste-zero}
-use mathlib.Core.Path.{◌≡◌, refl}
-use native.Mathlib.Omega.{arith}
+use lib.ListN.{drop, length}
+use lib.Seq.{paste}
+use mathlib.Core.Path.{◌≡◌}
 use Rattle.state.proofs.get.Given as goal
 
 abbrev pub invariant-loop-j : goal.invariant-loop-j

@@ -1,6 +1,5 @@
 -- Below the word of the count and below 256: below the count.
 use Rattle.state.proofs.Places.{nirq-read, none_above, of-lesser}
-use borrow.Author.Rules.{rules}
 use Rattle.state.proofs.has_line.Goals as goal
 
 pub returns-then-irq-ge256 : goal.returns-then-irq-ge256

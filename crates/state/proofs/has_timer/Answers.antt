@@ -1,6 +1,5 @@
 -- Below the word of the count and below 8: below the count.
 use Rattle.state.proofs.Places.{timers-read, none_above, of-lesser}
-use borrow.Author.Rules.{rules}
 use Rattle.state.proofs.has_timer.Goals as goal
 
 pub returns-then-i-ge8 : goal.returns-then-i-ge8

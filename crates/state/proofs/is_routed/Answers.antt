@@ -7,9 +7,6 @@ use lib.Dec.{ltb}
 use mathlib.Core.Bool.{Bool, true, false}
 use mathlib.Core.Path.{◌≡◌, ◌∙◌, ap, refl, sym}
 use native.Mathlib.Omega.{arith}
-use borrow.Author.Rules.{rules}
-use Rattle.state.proofs.is_routed.Reads as reads
-use Rattle.state.proofs.is_routed.Lts as lts
 use Rattle.state.proofs.is_routed.Goals as goal
 
 -- a cut word is below the cut where the word is

@@ -1,6 +1,5 @@
 -- The word of the cycle.
 use Rattle.state.proofs.Places.{last-read}
-use borrow.Author.Rules.{rules}
 use mathlib.Core.Path.{sym}
 use Rattle.state.proofs.last_cycle.Goals as goal
 

@@ -2,7 +2,6 @@
 use Rattle.nvic.proofs.Laws.{absent}
 use Rattle.state.proofs.Places.{line-absent, line-place, line_read, line-there}
 use Rattle.state.specs.View.{view}
-use borrow.Author.Rules.{rules}
 use mathlib.Core.Path.{sym}
 use Rattle.state.proofs.line_state.Goals as goal
 

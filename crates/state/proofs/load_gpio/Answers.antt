@@ -1,6 +1,5 @@
 -- The block of words and the two reals, decoded.
 use Rattle.state.proofs.Places.{gpio-read}
-use borrow.Author.Rules.{rules}
 use mathlib.Core.Path.{sym}
 use Rattle.state.proofs.load_gpio.Goals as goal
 

@@ -1,7 +1,6 @@
 -- The block of words, decoded.
 use Rattle.state.proofs.Places.{timer-read}
 use Rattle.codec.specs.Codec.{decode_timer}
-use borrow.Author.Rules.{rules}
 use mathlib.Core.Path.{◌∙◌, ap, sym}
 use Rattle.state.proofs.load_timer.Goals as goal
 

@@ -1,6 +1,5 @@
 -- The least of the table.
 use Rattle.scheduler.specs.Booking.{least}
-use borrow.Author.Rules.{rules}
 use mathlib.Core.Path.{◌∙◌, ap}
 use Rattle.state.proofs.next_booked.Goals as goal
 

@@ -1,6 +1,5 @@
 -- Each divider comes back from its word.
 use Rattle.state.proofs.Stores.{dividers}
-use borrow.Author.Rules.{rules}
 use Rattle.state.proofs.pack_dividers.Goals as goal
 
 pub returns : goal.returns

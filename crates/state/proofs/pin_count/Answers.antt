@@ -1,6 +1,5 @@
 -- The word of the count.
 use Rattle.state.proofs.Places.{pins-read}
-use borrow.Author.Rules.{rules}
 use mathlib.Core.Path.{◌∙◌, sym}
 use Rattle.state.proofs.pin_count.Goals as goal
 

@@ -1,9 +1,6 @@
-use Prim.Native.Nat.{◌-◌, ◌≤◌}
 use Rattle.state.proofs.Copies.{put-done, put_step}
 use borrow.Author.Rules.{rules}
-use lib.ListN.{length}
-use lib.Seq.{paste, paste-zero}
-use mathlib.Core.Path.{◌≡◌}
+use lib.Seq.{paste-zero}
 use native.Mathlib.Omega.{arith}
 use Rattle.state.proofs.put.Goals as goal
 

@@ -1,11 +1,8 @@
 -- The loop has copied the first j words.
 use Prim.Native.Nat.{◌-◌, ◌≤◌}
-use Rattle.state.proofs.Copies.{put-done, put_step}
-use borrow.Author.Rules.{rules}
 use lib.ListN.{length}
-use lib.Seq.{paste, paste-zero}
+use lib.Seq.{paste}
 use mathlib.Core.Path.{◌≡◌}
-use native.Mathlib.Omega.{arith}
 use Rattle.state.proofs.put.Given as goal
 
 abbrev pub invariant-loop-j : goal.invariant-loop-j

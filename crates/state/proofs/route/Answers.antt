@@ -1,6 +1,5 @@
 -- The word of the route.
 use Rattle.state.proofs.Places.{route-read}
-use borrow.Author.Rules.{rules}
 use mathlib.Core.Path.{◌∙◌, sym}
 use Rattle.state.proofs.route.Goals as goal
 

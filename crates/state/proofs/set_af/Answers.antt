@@ -1,6 +1,5 @@
 -- A word stored in the table.
 use Rattle.state.proofs.Stores.{af-set}
-use borrow.Author.Rules.{rules}
 use Rattle.state.proofs.set_af.Goals as goal
 
 pub returns : goal.returns

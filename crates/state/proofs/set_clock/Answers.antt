@@ -1,6 +1,5 @@
 -- A word and two reals that hold the clock.
 use Rattle.state.proofs.Stores.{clock-set}
-use borrow.Author.Rules.{rules}
 use Rattle.state.proofs.set_clock.Goals as goal
 
 pub returns : goal.returns

@@ -1,6 +1,5 @@
 -- A word stored in the enable words.
 use Rattle.state.proofs.Stores.{enr-set}
-use borrow.Author.Rules.{rules}
 use native.Mathlib.Omega.{arith}
 use Rattle.state.proofs.set_enr.Goals as goal
 

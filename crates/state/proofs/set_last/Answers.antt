@@ -1,6 +1,5 @@
 -- The word of the cycle stored.
 use Rattle.state.proofs.Stores.{last_set}
-use borrow.Author.Rules.{rules}
 use Rattle.state.proofs.set_last.Goals as goal
 
 pub returns : goal.returns

@@ -1,7 +1,6 @@
 use Rattle.nvic.specs.Nvic.{line_set}
 use Rattle.state.proofs.Places.{line-absent, line-place, line-there}
 use Rattle.state.proofs.Stores.{line-none, line_set_lem}
-use borrow.Author.Rules.{rules}
 use Rattle.state.proofs.set_line.Goals as goal
 
 pub bounds-words-at : goal.bounds-words-at

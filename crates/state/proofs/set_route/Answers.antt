@@ -1,6 +1,5 @@
 -- A word stored in the routes.
 use Rattle.state.proofs.Stores.{route-set}
-use borrow.Author.Rules.{rules}
 use Rattle.state.proofs.set_route.Goals as goal
 
 pub returns : goal.returns

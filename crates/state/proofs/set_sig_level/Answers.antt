@@ -1,6 +1,5 @@
 -- A word stored in the levels.
 use Rattle.state.proofs.Stores.{level-set}
-use borrow.Author.Rules.{rules}
 use Rattle.state.proofs.set_sig_level.Goals as goal
 
 pub returns : goal.returns

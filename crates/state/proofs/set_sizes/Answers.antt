@@ -1,6 +1,5 @@
 -- The three words stored.
 use Rattle.state.proofs.Stores.{sizes-set}
-use borrow.Author.Rules.{rules}
 use Rattle.state.proofs.set_sizes.Goals as goal
 
 pub returns : goal.returns

@@ -1,6 +1,5 @@
 -- The word of the level.
 use Rattle.state.proofs.Places.{level-read}
-use borrow.Author.Rules.{rules}
 use mathlib.Core.Path.{sym}
 use Rattle.state.proofs.sig_level.Goals as goal
 

@@ -1,11 +1,6 @@
 -- A piece of a block of words that decodes to the timer.
 use Rattle.state.proofs.Pieces.{live-set}
 use borrow.Author.Rules.{rules}
-use Rattle.state.proofs.store_live.Reads as reads
-use Rattle.state.proofs.store_live.Lts as lts
-use Rattle.state.proofs.put.Reads as put_reads
-use Rattle.state.proofs.sized.Reads as sized_Reads
-use Rattle.codec.proofs.pack_timer.Reads as pack-timer-reads
 use Rattle.state.proofs.store_live.Goals as goal
 
 pub returns : goal.returns

@@ -1,6 +1,5 @@
 -- The word of the count.
 use Rattle.state.proofs.Places.{timers-read}
-use borrow.Author.Rules.{rules}
 use mathlib.Core.Path.{◌∙◌, sym}
 use Rattle.state.proofs.timer_count.Goals as goal
 

@@ -1,6 +1,5 @@
 -- The words of the dividers and the two reals.
 use Rattle.state.proofs.Places.{tree-read}
-use borrow.Author.Rules.{rules}
 use mathlib.Core.Path.{sym}
 use Rattle.state.proofs.tree.Goals as goal
 

@@ -1,6 +1,5 @@
 -- The real of the supply.
 use Rattle.state.proofs.Places.{vcc-read}
-use borrow.Author.Rules.{rules}
 use mathlib.Core.Path.{sym}
 use Rattle.state.proofs.vcc.Goals as goal
 

@@ -4,7 +4,6 @@ use Rattle.machine.specs.Board.{Pads}
 use Rattle.machine.specs.Sys.{drive_pin, update_pin}
 use Rattle.state.proofs.InRange.{bounded}
 use Rattle.sys.proofs.Laws.{then-moves}
-use borrow.Author.Rules.{rules}
 use mathlib.Core.Path.{◌∙◌}
 use Rattle.sys.proofs.drive_pin.Goals as goal
 

@@ -1,10 +1,4 @@
-use mathlib.Core.Path.{◌∙◌, ap, sym}
-use borrow.Author.Rules.{rules}
-use Rattle.sys.proofs.is_driven.Reads as reads
-use Rattle.sys.proofs.is_driven.Lts as lts
-use Rattle.gpio.proofs.drives.Reads as drives-reads
-use Rattle.levels.proofs.is_push_pull.Reads as is-push-pull-reads
-use Rattle.levels.proofs.signal.Reads as signal-reads
+use mathlib.Core.Path.{◌∙◌, sym}
 use Rattle.sys.proofs.is_driven.Goals as goal
 
 -- src/lib.rt:40:9

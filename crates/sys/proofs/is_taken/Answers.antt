@@ -1,6 +1,5 @@
 -- By the signal and its route.
 use mathlib.Core.Path.{◌∙◌, sym}
-use borrow.Author.Rules.{rules}
 use Rattle.machine.specs.Board.{Pads}
 use Rattle.machine.specs.Sys as S
 use Rattle.state.specs.View.{view}

@@ -1,5 +1,4 @@
 -- By the signal and its route.
-use borrow.Author.Rules.{rules}
 use borrow.Author.Tests.{eq-eqb, ne_eqb}
 use mathlib.Core.Path.{◌∙◌, sym}
 use Rattle.sys.proofs.leave.Goals as goal

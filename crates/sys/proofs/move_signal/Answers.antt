@@ -1,15 +1,7 @@
 use Rattle.gpio.specs.Gpio.{change_of}
 use Rattle.sys.proofs.Laws.{sig_none, sig-pin}
 use Rattle.sys.proofs.Small.{no-route, routed-small}
-use borrow.Author.Tests.{not-false, not-true}
 use native.Mathlib.Omega.{arith}
-use borrow.Author.Rules.{rules}
-use Rattle.sys.proofs.move_signal.Reads as reads
-use Rattle.sys.proofs.move_signal.Lts as lts
-use Rattle.state.proofs.is_routed.Reads as is-routed-reads
-use Rattle.state.proofs.route.Reads as route-reads
-use Rattle.state.proofs.set_sig_level.Reads as set-sig-level-reads
-use Rattle.sys.proofs.refresh.Reads as refresh-reads
 use Rattle.sys.proofs.move_signal.Goals as goal
 
 -- src/lib.rt:186:9

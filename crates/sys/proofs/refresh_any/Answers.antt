@@ -3,7 +3,6 @@ use Rattle.gpio.proofs.Fits.{refreshed-fit}
 use Rattle.state.proofs.InRange.{bounded}
 use Rattle.sys.proofs.Laws.{refresh-sets}
 use Rattle.sys.proofs.Small.{loaded-small, level-small}
-use borrow.Author.Rules.{rules}
 use lib.Dec.{lit≤}
 use native.Mathlib.Nat.{lt_of_lt_of_le}
 use native.Mathlib.Omega.{arith}

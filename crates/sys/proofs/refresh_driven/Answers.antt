@@ -1,20 +1,11 @@
 use Rattle.gpio.specs.Gpio.{is_push_pull}
 use Rattle.machine.specs.Board.{gpio_at}
 use Rattle.state.specs.View.{view}
-use mathlib.Core.Path.{◌∙◌, ap, sym}
+use mathlib.Core.Path.{◌∙◌, ap}
 use Rattle.gpio.specs.Gpio.{drives}
 use Rattle.sys.proofs.Laws.{both_left, both_right, push-moves, told}
 use Rattle.sys.proofs.Small.{level-small, pin-there}
 use native.Mathlib.Omega.{arith}
-use borrow.Author.Rules.{rules}
-use Rattle.sys.proofs.refresh_driven.Reads as reads
-use Rattle.sys.proofs.refresh_driven.Lts as lts
-use Rattle.gpio.proofs.changed.Reads as changed-reads
-use Rattle.gpio.proofs.code_of.Reads as code-of-reads
-use Rattle.levels.proofs.drive_level.Reads as drive-level-reads
-use Rattle.levels.proofs.level.Reads as level-reads
-use Rattle.levels.proofs.signal.Reads as signal-reads
-use Rattle.state.proofs.sig_level.Reads as sig-level-reads
 use Rattle.sys.proofs.refresh_driven.Goals as goal
 
 pub drive_level-requires : goal.drive_level-requires

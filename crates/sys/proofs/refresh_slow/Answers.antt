@@ -1,13 +1,5 @@
 use Rattle.sys.proofs.Laws.{refresh-moves, told}
 use Rattle.sys.proofs.Small.{pin-there}
-use borrow.Author.Rules.{rules}
-use Rattle.sys.proofs.refresh_slow.Reads as reads
-use Rattle.sys.proofs.refresh_slow.Lts as lts
-use Rattle.gpio.proofs.changed.Reads as changed-reads
-use Rattle.gpio.proofs.code_of.Reads as code-of-reads
-use Rattle.levels.proofs.level.Reads as level-reads
-use Rattle.levels.proofs.source.Reads as source-reads
-use Rattle.sys.proofs.refresh_any.Reads as refresh-any-reads
 use Rattle.sys.proofs.refresh_slow.Goals as goal
 
 pub returns : goal.returns

@@ -5,15 +5,6 @@ use Rattle.machine.specs.Sys.{refresh_pin, reset_pin}
 use Rattle.sys.proofs.Laws.{then-moves, told}
 use mathlib.Core.Path.{◌∙◌}
 use native.Mathlib.Omega.{arith}
-use borrow.Author.Rules.{rules}
-use Rattle.sys.proofs.reset_pin.Reads as reads
-use Rattle.sys.proofs.reset_pin.Lts as lts
-use Rattle.gpio.proofs.change_of.Reads as change-of-reads
-use Rattle.gpio.proofs.configure.Reads as configure-reads
-use Rattle.state.proofs.load_gpio.Reads as load-gpio-reads
-use Rattle.state.proofs.store_gpio.Reads as store-gpio-reads
-use Rattle.sys.proofs.plain.Reads as plain-reads
-use Rattle.sys.proofs.refresh_slow.Reads as refresh-slow-reads
 use Rattle.sys.proofs.reset_pin.Goals as goal
 
 -- src/lib.rt:221:5

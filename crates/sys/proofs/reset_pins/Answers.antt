@@ -1,12 +1,7 @@
-use Prim.Native.Nat.{◌-◌}
-use Rattle.book.specs.Book.{book, slices}
 use Rattle.machine.specs.Board.{Board}
-use Rattle.state.specs.View.{view}
-use Rattle.sys.proofs.Laws.{Resetting, reset-begins, reset-ends, reset-goes}
+use Rattle.sys.proofs.Laws.{reset-begins, reset-ends, reset-goes}
 use Rattle.sys.proofs.Small.{pins-small}
-use borrow.Author.Rules.{rules}
-use lib.ListN.{length}
-use mathlib.Core.Path.{◌∙◌, ◌≡◌, ap, refl}
+use mathlib.Core.Path.{◌∙◌, ap, refl}
 use native.Mathlib.Omega.{arith}
 use Rattle.sys.proofs.reset_pins.Goals as goal
 

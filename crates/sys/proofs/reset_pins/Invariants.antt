@@ -1,14 +1,10 @@
 -- Pin by pin: what is left of the reset leads to the same board and book.
 use Prim.Native.Nat.{◌-◌}
 use Rattle.book.specs.Book.{book, slices}
-use Rattle.machine.specs.Board.{Board}
 use Rattle.state.specs.View.{view}
-use Rattle.sys.proofs.Laws.{Resetting, reset-begins, reset-ends, reset-goes}
-use Rattle.sys.proofs.Small.{pins-small}
-use borrow.Author.Rules.{rules}
+use Rattle.sys.proofs.Laws.{Resetting}
 use lib.ListN.{length}
-use mathlib.Core.Path.{◌∙◌, ◌≡◌, ap, refl}
-use native.Mathlib.Omega.{arith}
+use mathlib.Core.Path.{◌≡◌}
 use Rattle.sys.proofs.reset_pins.Given as goal
 
 abbrev pub invariant-loop-i : goal.invariant-loop-i

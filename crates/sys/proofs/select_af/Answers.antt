@@ -2,7 +2,6 @@
 use Rattle.gpio.proofs.Fits.{configured-fit}
 use Rattle.state.proofs.InRange.{bounded}
 use Rattle.sys.proofs.Laws.{select-sets}
-use borrow.Author.Rules.{rules}
 use Rattle.sys.proofs.select_af.Goals as goal
 
 pub store_gpio-requires : goal.store_gpio-requires

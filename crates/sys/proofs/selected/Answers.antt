@@ -1,7 +1,6 @@
 -- By the mode; a table entry is below 256.
 use Prim.Native.Nat.{◌%◌, ◌*◌, ◌+◌}
 use Rattle.state.proofs.InRange.{bounded}
-use borrow.Author.Rules.{rules}
 use borrow.Author.Tests.{eq-eqb, ne_eqb}
 use mathlib.Core.List.{[]}
 use native.Mathlib.Omega.{arith}

@@ -2,7 +2,6 @@
 use Rattle.machine.specs.Board.{Pads}
 use Rattle.machine.specs.Sys.{refresh_pin, set_pin}
 use Rattle.sys.proofs.Laws.{then-moves}
-use borrow.Author.Rules.{rules}
 use Rattle.sys.proofs.set_pin.Goals as goal
 
 pub returns : goal.returns

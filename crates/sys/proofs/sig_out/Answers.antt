@@ -1,11 +1,5 @@
-use mathlib.Core.Path.{◌∙◌, ap, sym}
+use mathlib.Core.Path.{◌∙◌, sym}
 use Rattle.sys.proofs.Laws.{sig_same, told}
-use borrow.Author.Rules.{rules}
-use Rattle.sys.proofs.sig_out.Reads as reads
-use Rattle.sys.proofs.sig_out.Lts as lts
-use Rattle.gpio.proofs.change_of.Reads as change-of-reads
-use Rattle.state.proofs.sig_level.Reads as sig-level-reads
-use Rattle.sys.proofs.move_signal.Reads as move-signal-reads
 use Rattle.sys.proofs.sig_out.Goals as goal
 
 -- src/lib.rt:197:9

@@ -1,5 +1,4 @@
 -- By the signal.
-use borrow.Author.Rules.{rules}
 use borrow.Author.Tests.{eq-eqb, ne_eqb}
 use Rattle.sys.proofs.take.Goals as goal
 

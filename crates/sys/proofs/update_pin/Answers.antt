@@ -2,7 +2,6 @@
 use Rattle.gpio.proofs.Fits.{updated-fit}
 use Rattle.state.proofs.InRange.{bounded}
 use Rattle.sys.proofs.Laws.{update-moves}
-use borrow.Author.Rules.{rules}
 use Rattle.sys.proofs.update_pin.Goals as goal
 
 pub store_gpio-requires : goal.store_gpio-requires

@@ -1,10 +1,7 @@
-use Prim.Native.Nat.{ℕ, suc, ◌+◌, ◌-◌, ◌≤◌}
+use Prim.Native.Nat.{ℕ, suc, ◌≤◌}
 use Rattle.text.proofs.WordLaws.{There, piece-there, call-start, call-here, call_next, call_none, word-there, joined, starts, words}
-use Rattle.text.specs.Words.{place_in, calls, call_of, same_word}
-use borrow.Author.Rules.{rules}
-use lib.ListN.{drop}
+use Rattle.text.specs.Words.{calls, same_word}
 use mathlib.Core.List.{List}
-use mathlib.Core.Path.{◌≡◌}
 use native.Mathlib.Omega.{arith}
 use Rattle.text.proofs.call_of.Goals as goal
 

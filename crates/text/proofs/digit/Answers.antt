@@ -1,6 +1,5 @@
 -- One test after the other.
 use Rattle.text.specs.Numbers.{digit_of}
-use borrow.Author.Rules.{rules}
 use borrow.Author.Tests.{le-ltb, lt-ltb}
 use Rattle.text.proofs.digit.Goals as goal
 

@@ -1,6 +1,5 @@
 -- A 0, or a first digit.
 use Rattle.text.specs.Numbers.{first_of}
-use borrow.Author.Rules.{rules}
 use borrow.Author.Tests.{eq-eqb, ne_eqb}
 use Rattle.text.proofs.first.Goals as goal
 

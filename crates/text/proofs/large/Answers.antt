@@ -1,6 +1,5 @@
 -- A digit, or none.
 use Rattle.text.specs.Numbers.{large_of}
-use borrow.Author.Rules.{rules}
 use borrow.Author.Tests.{le-ltb, lt-ltb}
 use Rattle.text.proofs.large.Goals as goal
 

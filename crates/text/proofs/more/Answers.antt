@@ -1,7 +1,6 @@
 -- The test by a quotient is whether the product and the digit fit 64 bits.
 use Rattle.text.proofs.Laws.{fits_more, over-more}
 use Rattle.text.specs.Numbers.{held, more_of}
-use borrow.Author.Rules.{rules}
 use borrow.Author.Tests.{le-ltb, lt-ltb}
 use native.Mathlib.Omega.{arith}
 use Rattle.text.proofs.more.Goals as goal

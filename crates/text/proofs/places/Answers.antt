@@ -1,8 +1,5 @@
-use Prim.Native.Nat.{◌+◌, ◌≤◌}
 use Rattle.text.proofs.Spelled.{count-step}
-use Rattle.text.specs.Digits.{places_of}
 use Rattle.text.proofs.ReadsBack.{places-most, places-one, places-pos}
-use mathlib.Core.Path.{◌≡◌}
 use native.Mathlib.Omega.{arith}
 use Rattle.text.proofs.places.Goals as goal
 

@@ -1,10 +1,7 @@
 -- The places counted and those of what is left make the places of the number.
 use Prim.Native.Nat.{◌+◌, ◌≤◌}
-use Rattle.text.proofs.Spelled.{count-step}
 use Rattle.text.specs.Digits.{places_of}
-use Rattle.text.proofs.ReadsBack.{places-most, places-one, places-pos}
 use mathlib.Core.Path.{◌≡◌}
-use native.Mathlib.Omega.{arith}
 use Rattle.text.proofs.places.Given as goal
 
 abbrev pub invariant-loop-rest : goal.invariant-loop-rest

@@ -1,9 +1,6 @@
-use Prim.Native.Nat.{◌-◌, ◌≤◌}
 use Rattle.text.proofs.Laws.{read_done, read_step, reads}
-use Rattle.text.specs.Numbers.{reading_of, start, told_of}
-use borrow.Author.Rules.{rules}
-use lib.ListN.{drop, length}
-use mathlib.Core.Path.{◌∙◌, ◌≡◌, ap}
+use Rattle.text.specs.Numbers.{told_of}
+use mathlib.Core.Path.{◌∙◌, ap}
 use native.Mathlib.Omega.{arith}
 use Rattle.text.proofs.read_number.Goals as goal
 

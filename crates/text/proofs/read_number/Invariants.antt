@@ -1,11 +1,8 @@
 -- What is left of the word leads to what the whole word does.
 use Prim.Native.Nat.{◌-◌, ◌≤◌}
-use Rattle.text.proofs.Laws.{read_done, read_step, reads}
-use Rattle.text.specs.Numbers.{reading_of, start, told_of}
-use borrow.Author.Rules.{rules}
+use Rattle.text.specs.Numbers.{reading_of, start}
 use lib.ListN.{drop, length}
-use mathlib.Core.Path.{◌∙◌, ◌≡◌, ap}
-use native.Mathlib.Omega.{arith}
+use mathlib.Core.Path.{◌≡◌}
 use Rattle.text.proofs.read_number.Given as goal
 
 abbrev pub invariant-loop-i : goal.invariant-loop-i

@@ -1,8 +1,5 @@
-use Prim.Native.Nat.{◌-◌, ◌≤◌}
 use Rattle.text.proofs.WordLaws.{longer-differs, same_ends, same_step, same-stops}
-use Rattle.text.specs.Words.{same_word}
-use lib.ListN.{drop, length}
-use mathlib.Core.Path.{◌∙◌, ◌≡◌, refl, sym}
+use mathlib.Core.Path.{◌∙◌, refl, sym}
 use native.Mathlib.Omega.{arith}
 use Rattle.text.proofs.same.Goals as goal
 

@@ -1,10 +1,8 @@
 -- What is left of the two words is the same exactly if they are.
 use Prim.Native.Nat.{◌-◌, ◌≤◌}
-use Rattle.text.proofs.WordLaws.{longer-differs, same_ends, same_step, same-stops}
 use Rattle.text.specs.Words.{same_word}
 use lib.ListN.{drop, length}
-use mathlib.Core.Path.{◌∙◌, ◌≡◌, refl, sym}
-use native.Mathlib.Omega.{arith}
+use mathlib.Core.Path.{◌≡◌}
 use Rattle.text.proofs.same.Given as goal
 
 abbrev pub invariant-loop-i : goal.invariant-loop-i

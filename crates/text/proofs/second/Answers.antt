@@ -1,6 +1,5 @@
 -- An x, or a digit behind the 0.
 use Rattle.text.specs.Numbers.{second_of}
-use borrow.Author.Rules.{rules}
 use borrow.Author.Tests.{eq-eqb, ne_eqb}
 use Rattle.text.proofs.second.Goals as goal
 

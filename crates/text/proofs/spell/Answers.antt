@@ -1,9 +1,6 @@
-use Prim.Native.Nat.{◌≤◌}
 use Rattle.text.proofs.Spelled.{spell_last, spell-turn}
-use Rattle.text.specs.Digits.{last_digits, over}
-use borrow.Author.Rules.{rules}
-use lib.ListN.{length, length-set}
-use mathlib.Core.Path.{◌∙◌, ◌≡◌, refl, sym}
+use lib.ListN.{length-set}
+use mathlib.Core.Path.{◌∙◌, refl, sym}
 use native.Mathlib.Nat.{mod-lt}
 use native.Mathlib.Omega.{arith}
 use Rattle.text.proofs.spell.Goals as goal

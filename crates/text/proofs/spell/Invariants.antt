@@ -1,12 +1,8 @@
 -- The digits that are left, laid over the bytes, make what the contract says.
 use Prim.Native.Nat.{◌≤◌}
-use Rattle.text.proofs.Spelled.{spell_last, spell-turn}
 use Rattle.text.specs.Digits.{last_digits, over}
-use borrow.Author.Rules.{rules}
-use lib.ListN.{length, length-set}
-use mathlib.Core.Path.{◌∙◌, ◌≡◌, refl, sym}
-use native.Mathlib.Nat.{mod-lt}
-use native.Mathlib.Omega.{arith}
+use lib.ListN.{length}
+use mathlib.Core.Path.{◌≡◌}
 use Rattle.text.proofs.spell.Given as goal
 
 abbrev pub invariant-loop-i : goal.invariant-loop-i

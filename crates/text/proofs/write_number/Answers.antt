@@ -1,6 +1,5 @@
 -- No room, or the digits in their places.
 use Rattle.text.proofs.Spelled.{wrote_none, wrote-to}
-use borrow.Author.Rules.{rules}
 use native.Mathlib.Omega.{arith}
 use Rattle.text.proofs.write_number.Goals as goal
 

@@ -1,8 +1,6 @@
 use Rattle.rm0440.specs.Output.{at_match}
 use borrow.Author.Tests.{eq-eqb, ne_eqb}
 use native.Mathlib.Omega.{arith}
-use Rattle.tim.proofs.at_match.Reads as reads
-use Rattle.tim.proofs.at_match.Lts as lts
 use Rattle.tim.proofs.at_match.Goals as goal
 
 -- src/lib.rt:150:9

@@ -1,7 +1,6 @@
 -- The count after a number of steps downward.
 use Prim.Native.Nat.{◌+◌, ◌-◌}
 use Rattle.tim.specs.Count.{down_from}
-use borrow.Author.Rules.{rules}
 use borrow.Author.Tests.{le-leb, lt-leb}
 use native.Mathlib.Nat.{mod-lt}
 use native.Mathlib.Omega.{arith}

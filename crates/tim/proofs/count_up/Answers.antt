@@ -3,9 +3,6 @@ use Rattle.tim.specs.Count.{up_from}
 use borrow.Author.Tests.{le-leb, lt-leb}
 use native.Mathlib.Nat.{mod-eq-sub-mod, mod-lt}
 use native.Mathlib.Omega.{arith}
-use borrow.Author.Rules.{rules}
-use Rattle.tim.proofs.count_up.Reads as reads
-use Rattle.tim.proofs.count_up.Lts as lts
 use Rattle.tim.proofs.count_up.Goals as goal
 
 -- src/lib.rt:91:9

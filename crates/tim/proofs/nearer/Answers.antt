@@ -1,6 +1,4 @@
 use borrow.Author.Tests.{le-ltb, lt-ltb}
-use Rattle.tim.proofs.nearer.Reads as reads
-use Rattle.tim.proofs.nearer.Lts as lts
 use Rattle.tim.proofs.nearer.Goals as goal
 
 -- src/lib.rt:729:9

@@ -1,8 +1,5 @@
 use Rattle.tim.proofs.Laws.{bit_le, edge}
 use native.Mathlib.Omega.{arith}
-use borrow.Author.Rules.{rules}
-use Rattle.tim.proofs.pwm1.Reads as reads
-use Rattle.tim.proofs.pwm1.Lts as lts
 use Rattle.tim.proofs.pwm1.Goals as goal
 
 -- src/lib.rt:167:20

@@ -4,10 +4,6 @@ use borrow.Author.Tests.{eq-eqb, ne_eqb}
 use mathlib.Core.Bool.{not}
 use mathlib.Core.Path.{ap}
 use native.Mathlib.Omega.{arith}
-use borrow.Author.Rules.{rules}
-use Rattle.tim.proofs.ref_of.Reads as reads
-use Rattle.tim.proofs.ref_of.Lts as lts
-use Rattle.tim.proofs.pwm1.Reads as pwm1-reads
 use Rattle.tim.proofs.ref_of.Goals as goal
 
 -- src/lib.rt:744:13

@@ -1,5 +1,4 @@
 -- The product is at most 65536 times 8192.
-use borrow.Author.Rules.{rules}
 use lib.Dec.{lit<}
 use native.Mathlib.Nat.{lt_of_le_of_lt, mul-le-mul}
 use native.Mathlib.Omega.{arith}

@@ -1,7 +1,6 @@
 -- A timer that feeds the signal has it as a channel.
 use native.Mathlib.Omega.{arith}
 use Rattle.why.proofs.Laws.{fed, channel-is}
-use borrow.Author.Rules.{rules}
 use Rattle.why.proofs.channel_of.Goals as goal
 
 pub overflow_add-first : goal.overflow_add-first

@@ -1,6 +1,5 @@
 -- By the mode and CCxP.
 use Rattle.why.proofs.Laws.{low-mode, low-inverted, low-plain}
-use borrow.Author.Rules.{rules}
 use Rattle.why.proofs.counts_low.Goals as goal
 
 pub returns-then-oc_mode-lt6 : goal.returns-then-oc_mode-lt6

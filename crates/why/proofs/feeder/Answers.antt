@@ -1,13 +1,11 @@
-use mathlib.Core.List.{List, []}
-use mathlib.Core.Path.{◌≡◌, ◌∙◌, ap}
-use Prim.Native.Nat.{ℕ, ◌-◌, ◌≤◌}
+use mathlib.Core.List.{[]}
+use mathlib.Core.Path.{◌∙◌, ap}
+use Prim.Native.Nat.{ℕ}
 use native.Mathlib.Omega.{arith}
-use lib.Ieee.{Float}
 use Rattle.machine.specs.Why.{feeder_from}
 use Rattle.state.specs.View.{view}
 use Rattle.state.proofs.InRange.{bounded}
 use Rattle.why.proofs.Laws.{from_start, from-here, from_next, from_end}
-use borrow.Author.Rules.{rules}
 use Rattle.why.proofs.feeder.Goals as goal
 
 pub loop-i-init : goal.loop-i-init

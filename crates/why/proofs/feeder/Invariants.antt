@@ -1,14 +1,10 @@
 -- What the timers that are left give is what all give.
-use mathlib.Core.List.{List, []}
-use mathlib.Core.Path.{◌≡◌, ◌∙◌, ap}
-use Prim.Native.Nat.{ℕ, ◌-◌, ◌≤◌}
-use native.Mathlib.Omega.{arith}
+use mathlib.Core.List.{List}
+use mathlib.Core.Path.{◌≡◌}
+use Prim.Native.Nat.{◌-◌, ◌≤◌}
 use lib.Ieee.{Float}
 use Rattle.machine.specs.Why.{feeder_from}
 use Rattle.state.specs.View.{view}
-use Rattle.state.proofs.InRange.{bounded}
-use Rattle.why.proofs.Laws.{from_start, from-here, from_next, from_end}
-use borrow.Author.Rules.{rules}
 use Rattle.why.proofs.feeder.Given as goal
 
 abbrev pub invariant-loop-i : goal.invariant-loop-i

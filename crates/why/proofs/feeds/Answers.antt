@@ -1,6 +1,5 @@
 -- By the timer's number, and the channel that the signal would be.
 use Rattle.why.proofs.Laws.{feeds-below, feeds-above, feeds-before, feeds-behind, feeds-at}
-use borrow.Author.Rules.{rules}
 use Rattle.why.proofs.feeds.Goals as goal
 
 pub returns-then-k-lt2 : goal.returns-then-k-lt2

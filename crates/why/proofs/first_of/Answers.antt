@@ -3,13 +3,6 @@ use Rattle.tim.specs.declared.Next.TheVariants.{Update}
 use Rattle.tim.specs.Next.{consider, next_steps}
 use lib.Dec.{lit<}
 use mathlib.Core.Path.{◌∙◌, ap, sym}
-use borrow.Author.Rules.{rules}
-use Rattle.why.proofs.first_of.Reads as reads
-use Rattle.why.proofs.first_of.Lts as lts
-use Rattle.tim.proofs.Timer.consider_down.Reads as consider-down-reads
-use Rattle.tim.proofs.Timer.consider_up.Reads as consider-up-reads
-use Rattle.tim.proofs.Timer.down.Reads as down-reads
-use Rattle.tim.proofs.Timer.update_steps.Reads as update-steps-reads
 use Rattle.why.proofs.first_of.Goals as goal
 
 pub consider_down-a-requires : goal.consider_down-a-requires

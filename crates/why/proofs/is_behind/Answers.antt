@@ -4,7 +4,6 @@ use native.Mathlib.Omega.{arith}
 use Rattle.state.specs.View.{view}
 use Rattle.state.proofs.InRange.{bounded}
 use Rattle.why.proofs.Laws.{behind-none, behind-due}
-use borrow.Author.Rules.{rules}
 use Rattle.why.proofs.is_behind.Goals as goal
 
 pub returns-then-timer_count-i : goal.returns-then-timer_count-i

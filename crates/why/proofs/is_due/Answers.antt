@@ -2,7 +2,6 @@
 use mathlib.Core.Path.{◌∙◌, ap, sym}
 use Rattle.tim.specs.declared.Due.{Due}
 use Rattle.machine.specs.Deliver.{due_by}
-use borrow.Author.Rules.{rules}
 use Rattle.why.proofs.is_due.Goals as goal
 
 pub returns-in-At : goal.returns-in-At

@@ -1,10 +1,8 @@
 -- By CCxS and CCxE.
 use mathlib.Core.Path.{◌∙◌, sym}
 use Prim.Native.Nat.{◌*◌, ◌/◌, ◌^◌}
-use borrow.Author.Tests.{not-true, not-false}
 use Rattle.machine.specs.Why.{is_off}
 use Rattle.why.proofs.Laws.{even-or-odd}
-use borrow.Author.Rules.{rules}
 use Rattle.why.proofs.is_off.Goals as goal
 
 pub returns-then-not-is_output : goal.returns-then-not-is_output

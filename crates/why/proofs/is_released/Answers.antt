@@ -5,7 +5,6 @@ use borrow.Author.Tests.{eq-eqb, ne_eqb, not-true, not-false}
 use Rattle.gpio.specs.Gpio.{drives}
 use Rattle.machine.specs.Why.{is_released}
 use Rattle.why.proofs.Laws.{signal-lt}
-use borrow.Author.Rules.{rules}
 use Rattle.why.proofs.is_released.Goals as goal
 
 pub returns-then-not-g : goal.returns-then-not-g

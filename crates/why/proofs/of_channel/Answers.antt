@@ -2,7 +2,6 @@
 use mathlib.Core.Path.{◌∙◌, sym}
 use native.Mathlib.Omega.{arith}
 use Rattle.why.proofs.Laws.{channel-off, channel-high, channel-held, channel-counts, channel-none}
-use borrow.Author.Rules.{rules}
 use Rattle.why.proofs.of_channel.Goals as goal
 
 pub returns-then-is_off : goal.returns-then-is_off

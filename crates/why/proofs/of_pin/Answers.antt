@@ -2,7 +2,6 @@
 use mathlib.Core.Path.{◌∙◌, sym}
 use borrow.Author.Tests.{eq-eqb, ne_eqb}
 use Rattle.why.proofs.Laws.{five-0, five-1, five-2, five-3, five-4, five-5}
-use borrow.Author.Rules.{rules}
 use Rattle.why.proofs.of_pin.Goals as goal
 
 pub returns-then-g-eq1 : goal.returns-then-g-eq1

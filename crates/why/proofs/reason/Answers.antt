@@ -4,7 +4,6 @@ use native.Mathlib.Omega.{arith}
 use Rattle.state.specs.View.{view}
 use Rattle.state.proofs.InRange.{bounded}
 use Rattle.why.proofs.Laws.{reason-pin, reason-plain, reason-unfed, reason-unrouted, reason-channel, fed-loaded}
-use borrow.Author.Rules.{rules}
 use Rattle.why.proofs.reason.Goals as goal
 
 pub returns-then-first-lt5 : goal.returns-then-first-lt5

@@ -3,7 +3,6 @@ use native.Mathlib.Omega.{arith}
 use Rattle.state.specs.View.{view}
 use Rattle.state.proofs.InRange.{bounded}
 use Rattle.why.proofs.Laws.{gpio-small, signal-lt, fed-feeder, in-time, no_pin_lem, no-time, backlog, told}
-use borrow.Author.Rules.{rules}
 use Rattle.why.proofs.why.Goals as goal
 
 pub returns-then-pin_count-p : goal.returns-then-pin_count-p

@@ -1,9 +1,5 @@
 -- By the register.
 use borrow.Author.Tests.{eq-eqb, ne_eqb}
-use borrow.Author.Rules.{rules}
-use Rattle.write.proofs.counter_astray.Reads as reads
-use Rattle.write.proofs.counter_astray.Lts as lts
-use Rattle.regs.proofs.is_astray.Reads as is-astray-reads
 use Rattle.write.proofs.counter_astray.Goals as goal
 
 pub returns-then-off-eq0 : goal.returns-then-off-eq0

@@ -1,7 +1,6 @@
 -- No driver, or four channels driven.
 use native.Mathlib.Omega.{arith}
 use Rattle.outputs.proofs.Laws.{above-four, at-timer, below_two, four-driven, none-driven}
-use borrow.Author.Rules.{rules}
 use Rattle.write.proofs.drive_written.Goals as goal
 
 pub returns-then-t-lt2 : goal.returns-then-t-lt2

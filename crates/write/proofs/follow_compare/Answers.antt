@@ -1,6 +1,5 @@
 -- The outputs, then the booking.
 use Rattle.write.proofs.Laws.{acts-follow}
-use borrow.Author.Rules.{rules}
 use Rattle.write.proofs.follow_compare.Goals as goal
 
 pub returns : goal.returns

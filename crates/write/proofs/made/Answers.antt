@@ -1,6 +1,5 @@
 -- The count stands in the high half.
 use Rattle.write.proofs.Laws.{coding}
-use borrow.Author.Rules.{rules}
 use Rattle.write.proofs.made.Goals as goal
 
 pub returns : goal.returns

@@ -1,10 +1,9 @@
 -- The value, or merged into what is there.
 use native.Mathlib.Omega.{arith}
-use borrow.Author.Tests.{eq-eqb, ne_eqb}
+use borrow.Author.Tests.{eq-eqb}
 use mathlib.Core.Path.{◌≡◌, ap, ◌∙◌}
 use Prim.Native.Nat.{ℕ, ◌*◌, ◌/◌}
 use Rattle.periph.specs.Lane.{lane_write}
-use borrow.Author.Rules.{rules}
 use Rattle.write.proofs.merged.Goals as goal
 
 aligned : (offset : ℕ) → offset / 4 * 4 / 4 * 4 ≡ offset / 4 * 4

@@ -6,7 +6,6 @@ use Rattle.periph.specs.Lane.{lane_read}
 use Rattle.regs.specs.Regs.{reg_read}
 use Rattle.state.specs.View.{view}
 use borrow.Author.Tests.{eq-eqb, ne_eqb}
-use borrow.Author.Rules.{rules}
 use native.Mathlib.Omega.{arith}
 use Rattle.write.proofs.present.Goals as goal
 

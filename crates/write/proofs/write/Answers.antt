@@ -1,11 +1,9 @@
 -- Refused, gated, or written.
 use native.Mathlib.Omega.{arith}
-use borrow.Author.Tests.{not-true, not-false}
 use Rattle.book.specs.Book.{places, slices}
 use Rattle.book.proofs.Laws.{roomy}
 use Rattle.mmio.proofs.Laws.{admitted}
 use Rattle.write.proofs.Laws.{coded, coded-book, write-away, write-away-book, write-below, write-below-book, write-off, write-off-book}
-use borrow.Author.Rules.{rules}
 use Rattle.write.proofs.write.Goals as goal
 
 pub returns-then-no-ne0 : goal.returns-then-no-ne0

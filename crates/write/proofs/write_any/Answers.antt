@@ -1,7 +1,6 @@
 -- Merged, and by the general way.
 use native.Mathlib.Omega.{arith}
 use Rattle.write.proofs.Laws.{on-merged, on-merged-book}
-use borrow.Author.Rules.{rules}
 use Rattle.write.proofs.write_any.Goals as goal
 
 pub merged-v-requires : goal.merged-v-requires

@@ -4,14 +4,12 @@ use native.Mathlib.Omega.{arith}
 use lib.Bits.{bit_and}
 use mathlib.Core.Path.{ap, sym, ◌∙◌}
 use mathlib.Core.Bool.{true, false, false≢true}
-use borrow.Author.Tests.{not-true, not-false}
 use Rattle.regs.specs.Regs as R
 use Rattle.state.specs.View.{view}
 use Rattle.state.proofs.InRange.{bounded}
 use Rattle.mmio.proofs.Laws.{of-eight}
 use Rattle.write.proofs.Laws.{channel-lt, coded, coded-book, compare-follows, compare-gives, compare-kept, no-entries, waits-follow, without-entries, without-gives}
 use Rattle.write.proofs.Synced.{rests}
-use borrow.Author.Rules.{rules}
 use Rattle.write.proofs.write_compare.Goals as goal
 
 pub returns-then-t-eq0 : goal.returns-then-t-eq0

@@ -3,7 +3,6 @@ use Rattle.book.specs.Book.{slices}
 use native.Mathlib.Omega.{arith}
 use Rattle.mmio.proofs.Laws.{of-eight}
 use Rattle.write.proofs.Laws.{cr1-entries, cr1-served, from-same, from-same-book, no-entries}
-use borrow.Author.Rules.{rules}
 use Rattle.write.proofs.write_cr1.Goals as goal
 
 pub write_cr1-requires : goal.write_cr1-requires

@@ -4,7 +4,6 @@ use mathlib.Core.Path.{◌≡◌, sym, ◌∙◌}
 use Prim.Native.Nat.{ℕ, ◌*◌, ◌/◌}
 use borrow.Author.Tests.{eqb-true}
 use Rattle.write.proofs.Laws.{on-merged, on-merged-book, whole}
-use borrow.Author.Rules.{rules}
 use Rattle.write.proofs.write_on.Goals as goal
 
 aligned : (offset : ℕ) → offset / 4 * 4 / 4 * 4 ≡ offset / 4 * 4

@@ -2,7 +2,6 @@
 use native.Mathlib.Omega.{arith}
 use Rattle.regs.proofs.Cases.{ccr-in}
 use Rattle.write.proofs.Laws.{at_reg, at-reg-book}
-use borrow.Author.Rules.{rules}
 use Rattle.write.proofs.write_other.Goals as goal
 
 pub write_compare-requires : goal.write_compare-requires

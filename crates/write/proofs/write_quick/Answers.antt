@@ -3,7 +3,6 @@ use Rattle.book.specs.Book.{slices}
 use native.Mathlib.Omega.{arith}
 use Rattle.regs.proofs.Cases.{ccr-in}
 use Rattle.write.proofs.Laws.{as-whole, as-whole-book, at_reg, at-reg-book, dier-entries, no-entries, sr-entries}
-use borrow.Author.Rules.{rules}
 use Rattle.write.proofs.write_quick.Goals as goal
 
 pub write_compare-requires : goal.write_compare-requires

@@ -1,7 +1,6 @@
 -- The register stored, then the line.
 use Rattle.mmio.proofs.Laws.{of-eight}
 use Rattle.write.proofs.Laws.{sr-gives}
-use borrow.Author.Rules.{rules}
 use Rattle.write.proofs.write_sr.Goals as goal
 
 pub returns : goal.returns

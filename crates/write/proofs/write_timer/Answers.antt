@@ -5,7 +5,6 @@ use mathlib.Core.Path.{refl}
 use Rattle.regs.proofs.Fit.{fit_written}
 use Rattle.mmio.proofs.Laws.{of-eight}
 use Rattle.write.proofs.Laws.{coded, coded-book, loaded-ready, stored-follows, write-astray, write-astray-book, write-follows, written-kept}
-use borrow.Author.Rules.{rules}
 use Rattle.write.proofs.write_timer.Goals as goal
 
 pub write_reg-w-requires : goal.write_reg-w-requires

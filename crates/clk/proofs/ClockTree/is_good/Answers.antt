@@ -1,6 +1,5 @@
 -- `clk::ClockTree::is_good` meets its contract. Assumes nothing.
 use Rattle.clk.specs.Clk.{good}
-use borrow.Author.Rules.{rules}
 use Rattle.clk.proofs.ClockTree.is_good.Goals as goal
 
 pub returns : goal.returns

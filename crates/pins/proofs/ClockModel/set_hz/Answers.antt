@@ -1,5 +1,4 @@
 -- `pins::ClockModel::set_hz` meets its contract. Assumes nothing.
-use borrow.Author.Rules.{rules}
 use Rattle.pins.proofs.ClockModel.set_hz.Goals as goal
 
 pub returns-then-hz-self : goal.returns-then-hz-self

@@ -1,5 +1,4 @@
 -- `pins::ClockModel::time_at` meets its contract. Assumes nothing.
-use borrow.Author.Rules.{rules}
 use Rattle.pins.proofs.ClockModel.time_at.Goals as goal
 
 pub returns : goal.returns

@@ -1,7 +1,6 @@
 -- `pins::Pin::resolve` meets its contract: an output, and an input. Assumes nothing.
 use mathlib.Core.Path.{sym, ◌∙◌}
 use Rattle.pins.proofs.Resolved.{input, output}
-use borrow.Author.Rules.{rules}
 use Rattle.pins.proofs.Pin.resolve.Goals as goal
 
 pub returns-then-effective_dir-ne0 : goal.returns-then-effective_dir-ne0

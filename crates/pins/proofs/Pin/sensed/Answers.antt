@@ -2,7 +2,6 @@
 use mathlib.Core.Path.{sym, ap, ◌∙◌}
 use Rattle.pins.proofs.Laws.{pulled-up, pulled-down, floating}
 use Rattle.pins.specs.Pins.{sensed_from}
-use borrow.Author.Rules.{rules}
 use Rattle.pins.proofs.Pin.sensed.Goals as goal
 
 pub returns-then-self-ne0 : goal.returns-then-self-ne0

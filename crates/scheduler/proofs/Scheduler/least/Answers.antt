@@ -1,11 +1,9 @@
 use mathlib.Core.Path.{◌≡◌, sym, ap, ◌∙◌}
-use Prim.Native.Nat.{ℕ, min, ◌-◌, ◌≤◌}
+use Prim.Native.Nat.{ℕ, min, ◌-◌}
 use native.Mathlib.Omega.{arith}
-use borrow.Author.Rules.{rules}
-use Rattle.std.proofs.lemmas.List.{map-id}
 use lib.ListN.{length, get_or, drop}
 use Rattle.scheduler.specs.Booking.{least}
-use Rattle.scheduler.proofs.Laws.{sized, least-end, least-from}
+use Rattle.scheduler.proofs.Laws.{least-end, least-from}
 use Rattle.scheduler.proofs.Scheduler.least.Goals as goal
 
 pub loop-i-init : goal.loop-i-init

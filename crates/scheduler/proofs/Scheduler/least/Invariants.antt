@@ -1,11 +1,8 @@
 -- `Scheduler::least` gives `least`. The loop's invariant: `low` is the least from owner `i` on; the measure is `i`.
-use mathlib.Core.Path.{◌≡◌, sym, ap, ◌∙◌}
-use Prim.Native.Nat.{ℕ, min, ◌-◌, ◌≤◌}
-use native.Mathlib.Omega.{arith}
-use borrow.Author.Rules.{rules}
-use lib.ListN.{length, get_or, drop}
+use mathlib.Core.Path.{◌≡◌}
+use Prim.Native.Nat.{◌≤◌}
+use lib.ListN.{length, drop}
 use Rattle.scheduler.specs.Booking.{least}
-use Rattle.scheduler.proofs.Laws.{sized, least-end, least-from}
 use Rattle.scheduler.proofs.Scheduler.least.Given as goal
 
 abbrev pub invariant-loop-i : goal.invariant-loop-i

@@ -3,9 +3,7 @@ use mathlib.Core.Path.{◌≡◌}
 use native.Mathlib.Omega.{arith}
 use lib.ListN.{length}
 use Rattle.scheduler.specs.Booking.{never}
-use Rattle.scheduler.proofs.Laws.{sized, read_at}
-use borrow.Author.Rules.{rules}
-use Rattle.std.proofs.lemmas.List.{map-id}
+use Rattle.scheduler.proofs.Laws.{read_at}
 use Rattle.scheduler.proofs.Scheduler.when.Goals as goal
 
 pub returns : goal.returns

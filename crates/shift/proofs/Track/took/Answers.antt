@@ -1,6 +1,5 @@
 -- Each branch by its tests.
-use Rattle.std.proofs.Common.{sym, ◌∙◌, rules, eq-eqb, ne_eqb}
-use borrow.Author.Tests.{not-true, not-false}
+use Rattle.std.proofs.Common.{sym, ◌∙◌, eq-eqb, ne_eqb}
 use Rattle.shift.specs.Kept.{took}
 use Rattle.shift.proofs.Track.took.Goals as goal
 

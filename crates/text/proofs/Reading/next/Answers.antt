@@ -1,6 +1,5 @@
 -- One step after the other.
 use Rattle.text.specs.Numbers.{next_of}
-use borrow.Author.Rules.{rules}
 use borrow.Author.Tests.{eq-eqb, le-ltb, lt-ltb, ne_eqb}
 use Rattle.text.proofs.Reading.next.Goals as goal
 

@@ -1,8 +1,3 @@
-use borrow.Author.Rules.{rules}
-use Rattle.tim.proofs.Timer.after_down.Reads as reads
-use Rattle.tim.proofs.Timer.after_down.Lts as lts
-use Rattle.tim.proofs.count_down.Reads as count-down-reads
-use Rattle.tim.proofs.lesser.Reads as lesser-reads
 use Rattle.tim.proofs.Timer.after_down.Goals as goal
 
 -- src/lib.rt:253:5

@@ -1,16 +1,8 @@
 use Prim.Native.Nat.{◌-◌}
 use Rattle.tim.specs.Count.{cnt_at}
-use borrow.Author.Tests.{not-false, not-true}
 use mathlib.Core.Path.{◌∙◌, sym}
 use native.Mathlib.Nat.{div-le_self}
 use native.Mathlib.Omega.{arith}
-use borrow.Author.Rules.{rules}
-use Rattle.tim.proofs.Timer.cnt_at.Reads as reads
-use Rattle.tim.proofs.Timer.cnt_at.Lts as lts
-use Rattle.tim.proofs.Timer.after_down.Reads as after-down-reads
-use Rattle.tim.proofs.Timer.after_up.Reads as after-up-reads
-use Rattle.tim.proofs.Timer.down.Reads as down-reads
-use Rattle.tim.proofs.Timer.ticks_at.Reads as ticks-at-reads
 use Rattle.tim.proofs.Timer.cnt_at.Goals as goal
 
 pub returns-then-not-counts : goal.returns-then-not-counts

@@ -4,7 +4,6 @@ use Rattle.tim.specs.Change.{compared, with_done}
 use lib.ListN.{set}
 use mathlib.Core.Bool.{true}
 use mathlib.Core.Path.{◌∙◌, ap}
-use borrow.Author.Rules.{rules}
 use Rattle.tim.proofs.Timer.compare.Goals as goal
 
 pub returns : goal.returns

@@ -1,11 +1,6 @@
 use Rattle.tim.proofs.Laws.{shut, opened}
-use borrow.Author.Tests.{le-leb, lt-leb, not-false, not-true}
+use borrow.Author.Tests.{le-leb, lt-leb}
 use mathlib.Core.Path.{◌∙◌, sym}
-use borrow.Author.Rules.{rules}
-use Rattle.tim.proofs.Timer.consider_down.Reads as reads
-use Rattle.tim.proofs.Timer.consider_down.Lts as lts
-use Rattle.tim.proofs.Timer.is_waiting.Reads as is-waiting-reads
-use Rattle.tim.proofs.nearer.Reads as nearer-reads
 use Rattle.tim.proofs.Timer.consider_down.Goals as goal
 
 -- src/lib.rt:396:13

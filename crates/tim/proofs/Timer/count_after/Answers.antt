@@ -1,10 +1,4 @@
 use mathlib.Core.Path.{◌∙◌, sym}
-use borrow.Author.Rules.{rules}
-use Rattle.tim.proofs.Timer.count_after.Reads as reads
-use Rattle.tim.proofs.Timer.count_after.Lts as lts
-use Rattle.tim.proofs.Timer.after_down.Reads as after-down-reads
-use Rattle.tim.proofs.Timer.after_up.Reads as after-up-reads
-use Rattle.tim.proofs.Timer.down.Reads as down-reads
 use Rattle.tim.proofs.Timer.count_after.Goals as goal
 
 -- src/lib.rt:287:13

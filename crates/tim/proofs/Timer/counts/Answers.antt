@@ -1,6 +1,5 @@
 -- By whether it is blocked.
 use mathlib.Core.Path.{◌∙◌, sym}
-use borrow.Author.Rules.{rules}
 use Rattle.tim.proofs.Timer.counts.Goals as goal
 
 pub returns-then-is_blocked : goal.returns-then-is_blocked

@@ -1,5 +1,4 @@
 -- By whether a pulse ends.
-use borrow.Author.Rules.{rules}
 use Rattle.tim.proofs.Timer.drops_cen.Goals as goal
 
 pub returns : goal.returns

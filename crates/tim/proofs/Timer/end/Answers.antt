@@ -1,6 +1,5 @@
 -- Both fields.
 use Rattle.tim.specs.Change.{ended}
-use borrow.Author.Rules.{rules}
 use Rattle.tim.proofs.Timer.end.Goals as goal
 
 pub returns : goal.returns

@@ -1,6 +1,5 @@
 -- By whether CEN falls.
 use mathlib.Core.Path.{◌∙◌, sym}
-use borrow.Author.Rules.{rules}
 use Rattle.tim.proofs.Timer.end_cr1.Goals as goal
 
 pub returns-then-drops_cen : goal.returns-then-drops_cen

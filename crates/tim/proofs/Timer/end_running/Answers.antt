@@ -1,6 +1,5 @@
 -- By whether a pulse ends.
 use mathlib.Core.Path.{◌∙◌, sym}
-use borrow.Author.Rules.{rules}
 use Rattle.tim.proofs.Timer.end_running.Goals as goal
 
 pub returns-then-pulse_ends : goal.returns-then-pulse_ends

@@ -1,5 +1,4 @@
 -- By URS and UDIS.
-use borrow.Author.Rules.{rules}
 use borrow.Author.Tests.{eq-eqb, ne_eqb}
 use Rattle.tim.proofs.Timer.flag_generated.Goals as goal
 

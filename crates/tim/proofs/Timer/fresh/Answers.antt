@@ -1,6 +1,5 @@
 -- Field by field.
 use Rattle.tim.specs.Change.{reset_state}
-use borrow.Author.Rules.{rules}
 use Rattle.tim.proofs.Timer.fresh.Goals as goal
 
 pub returns : goal.returns

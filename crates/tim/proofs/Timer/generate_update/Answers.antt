@@ -2,7 +2,6 @@
 use Rattle.tim.specs.declared.Timer.{Timer}
 use Rattle.tim.specs.Change.{flagged_generated, generated, recomputed_after_update, restarted}
 use mathlib.Core.Path.{◌∙◌, ap}
-use borrow.Author.Rules.{rules}
 use native.Mathlib.Omega.{arith}
 use Rattle.tim.proofs.Timer.generate_update.Goals as goal
 

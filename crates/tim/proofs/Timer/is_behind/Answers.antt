@@ -1,6 +1,5 @@
 -- The channel's compare in use.
 use Rattle.tim.specs.Change.{behind}
-use borrow.Author.Rules.{rules}
 use Rattle.tim.proofs.Timer.is_behind.Goals as goal
 
 pub returns : goal.returns

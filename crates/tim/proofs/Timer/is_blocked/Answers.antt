@@ -1,7 +1,6 @@
 -- By the reload, then the mode.
 use mathlib.Core.Bool.{Bool, true, false, ◌&&◌}
-use mathlib.Core.Path.{◌≡◌, refl, sym}
-use borrow.Author.Rules.{rules}
+use mathlib.Core.Path.{◌≡◌, refl}
 use borrow.Author.Tests.{eq-eqb, ne_eqb}
 use Rattle.tim.proofs.Timer.is_blocked.Goals as goal
 

@@ -1,5 +1,4 @@
 -- By the channel count.
-use borrow.Author.Rules.{rules}
 use borrow.Author.Tests.{le-ltb, lt-ltb}
 use Rattle.tim.proofs.Timer.is_done.Goals as goal
 

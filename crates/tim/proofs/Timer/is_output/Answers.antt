@@ -1,6 +1,5 @@
 -- By the channel count.
 use Prim.Native.Nat.{◌%◌, ℕ}
-use borrow.Author.Rules.{rules}
 use borrow.Author.Tests.{le-ltb, lt-ltb}
 use lib.Dec.{eqb}
 use mathlib.Core.Path.{ap}

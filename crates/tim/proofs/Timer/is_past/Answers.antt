@@ -1,5 +1,4 @@
 -- By the direction.
-use borrow.Author.Rules.{rules}
 use mathlib.Core.Path.{◌∙◌, sym}
 use Rattle.tim.proofs.Timer.is_past.Goals as goal
 

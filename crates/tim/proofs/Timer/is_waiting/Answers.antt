@@ -1,8 +1,3 @@
-use borrow.Author.Tests.{not-false, not-true}
-use borrow.Author.Rules.{rules}
-use Rattle.tim.proofs.Timer.is_waiting.Reads as reads
-use Rattle.tim.proofs.Timer.is_waiting.Lts as lts
-use Rattle.tim.proofs.Timer.is_output.Reads as is-output-reads
 use Rattle.tim.proofs.Timer.is_waiting.Goals as goal
 
 -- src/lib.rt:366:13

@@ -1,7 +1,6 @@
 -- The reference by the mode, and the flag.
 use mathlib.Core.Path.{◌∙◌}
 use Rattle.tim.specs.Change.{matched}
-use borrow.Author.Rules.{rules}
 use Rattle.tim.proofs.Timer.matched.Goals as goal
 
 pub returns : goal.returns

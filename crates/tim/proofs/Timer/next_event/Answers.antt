@@ -1,8 +1,6 @@
 -- The steps of the first event, in cycles.
 use Rattle.tim.proofs.Laws.{due-fits, next-runs, steps-le}
 use Rattle.tim.specs.Next.{next_event}
-use borrow.Author.Rules.{rules}
-use borrow.Author.Tests.{not-false, not-true}
 use mathlib.Core.Path.{◌∙◌, sym}
 use native.Mathlib.Omega.{arith}
 use Rattle.tim.proofs.Timer.next_event.Goals as goal

@@ -3,12 +3,6 @@ use Rattle.tim.specs.Timer.{ccmr_byte}
 use mathlib.Core.Path.{◌∙◌}
 use native.Mathlib.Nat.{mod-lt}
 use native.Mathlib.Omega.{arith}
-use borrow.Author.Rules.{rules}
-use Rattle.tim.proofs.Timer.ocref.Reads as reads
-use Rattle.tim.proofs.Timer.ocref.Lts as lts
-use Rattle.tim.proofs.Timer.down.Reads as down-reads
-use Rattle.tim.proofs.Timer.oc_mode.Reads as oc-mode-reads
-use Rattle.tim.proofs.ref_of.Reads as ref-of-reads
 use Rattle.tim.proofs.Timer.ocref.Goals as goal
 
 -- src/lib.rt:519:9

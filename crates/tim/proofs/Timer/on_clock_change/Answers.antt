@@ -4,7 +4,6 @@ use Rattle.tim.specs.Change.{retimed, with_tick}
 use Rattle.tim.specs.Count.{synced}
 use Prim.Native.Nat.{ℕ}
 use mathlib.Core.Path.{◌∙◌, ap}
-use borrow.Author.Rules.{rules}
 use Rattle.tim.proofs.Timer.on_clock_change.Goals as goal
 
 pub returns : goal.returns

@@ -2,8 +2,7 @@
 use Prim.Native.Nat.{◌%◌, ◌*◌, ◌/◌, ◌^◌}
 use Rattle.tim.proofs.Laws.{odd}
 use Rattle.tim.specs.Change.{output}
-use borrow.Author.Rules.{rules}
-use borrow.Author.Tests.{eq-eqb, ne_eqb, not-false, not-true}
+use borrow.Author.Tests.{eq-eqb, ne_eqb}
 use lib.Pow.{shr-shr}
 use mathlib.Core.Bool.{not}
 use mathlib.Core.Path.{◌∙◌, ap, sym}

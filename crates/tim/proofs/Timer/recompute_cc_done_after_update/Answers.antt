@@ -4,7 +4,6 @@ use Rattle.tim.proofs.Laws.{four}
 use mathlib.Core.Bool.{Bool}
 use mathlib.Core.List.{List}
 use mathlib.Core.Path.{◌∙◌, ap}
-use borrow.Author.Rules.{rules}
 use Rattle.tim.proofs.Timer.recompute_cc_done_after_update.Goals as goal
 
 pub returns : goal.returns

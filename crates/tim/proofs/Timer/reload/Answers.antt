@@ -1,7 +1,6 @@
 -- By UDIS.
 use Rattle.tim.specs.Change.{UIF, reloaded, with_flag}
 use Rattle.tim.specs.declared.Timer.{Timer}
-use borrow.Author.Rules.{rules}
 use borrow.Author.Tests.{eq-eqb, ne_eqb}
 use mathlib.Core.Path.{◌∙◌, ap}
 use Rattle.tim.proofs.Timer.reload.Goals as goal

@@ -1,6 +1,5 @@
 -- Field by field.
 use Rattle.tim.specs.Change.{restarted}
-use borrow.Author.Rules.{rules}
 use Rattle.tim.proofs.Timer.restart.Goals as goal
 
 pub returns : goal.returns

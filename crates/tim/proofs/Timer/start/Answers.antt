@@ -2,7 +2,6 @@
 use Rattle.tim.specs.Change.{ran_from, recomputed, started}
 use Prim.Native.Nat.{ℕ}
 use mathlib.Core.Path.{◌∙◌, ap}
-use borrow.Author.Rules.{rules}
 use Rattle.tim.proofs.Timer.start.Goals as goal
 
 pub returns : goal.returns

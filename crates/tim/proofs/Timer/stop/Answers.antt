@@ -3,7 +3,6 @@ use Rattle.tim.specs.declared.Timer.{Timer}
 use Rattle.tim.specs.Change.{stopped, with_running}
 use mathlib.Core.Bool.{false}
 use mathlib.Core.Path.{◌∙◌, ap}
-use borrow.Author.Rules.{rules}
 use Rattle.tim.proofs.Timer.stop.Goals as goal
 
 pub returns : goal.returns

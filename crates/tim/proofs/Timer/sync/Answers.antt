@@ -5,11 +5,6 @@ use borrow.Author.Tests.{not-false, not-true}
 use mathlib.Core.Path.{◌≡◌, sym, ◌∙◌}
 use native.Mathlib.Nat.{add-zero, div-add-mod', div-le_self, mod-le, zero-div, zero-mul}
 use native.Mathlib.Omega.{arith}
-use borrow.Author.Rules.{rules}
-use Rattle.tim.proofs.Timer.sync.Reads as reads
-use Rattle.tim.proofs.Timer.sync.Lts as lts
-use Rattle.tim.proofs.Timer.at_count.Reads as at-count-reads
-use Rattle.tim.proofs.Timer.count_after.Reads as count-after-reads
 use Rattle.tim.proofs.Timer.sync.Goals as goal
 
 pub returns-then-not-self : goal.returns-then-not-self

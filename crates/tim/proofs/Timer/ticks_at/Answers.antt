@@ -2,9 +2,6 @@ use Prim.Native.Nat.{◌-◌}
 use mathlib.Core.Path.{◌≡◌}
 use native.Mathlib.Nat.{zero-div}
 use native.Mathlib.Omega.{arith}
-use borrow.Author.Rules.{rules}
-use Rattle.tim.proofs.Timer.ticks_at.Reads as reads
-use Rattle.tim.proofs.Timer.ticks_at.Lts as lts
 use Rattle.tim.proofs.Timer.ticks_at.Goals as goal
 
 -- src/lib.rt:248:13

@@ -3,7 +3,6 @@ use Rattle.tim.specs.declared.Timer.{Timer}
 use Rattle.tim.specs.Change.{ended, recomputed_after_update, restarted, updated}
 use mathlib.Core.Path.{◌∙◌, ap}
 use Rattle.tim.proofs.Laws.{reloaded-psc}
-use borrow.Author.Rules.{rules}
 use Rattle.tim.proofs.Timer.update.Goals as goal
 
 pub restart-s-requires : goal.restart-s-requires

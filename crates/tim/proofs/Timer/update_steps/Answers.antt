@@ -1,5 +1,4 @@
 -- By the direction; above the reload nothing is left.
-use borrow.Author.Rules.{rules}
 use mathlib.Core.Path.{◌∙◌, sym}
 use native.Mathlib.Omega.{arith}
 use Rattle.tim.proofs.Timer.update_steps.Goals as goal
