@@ -24,10 +24,10 @@ start-even (suc n) k (suc i) h = omega (arith, start-even n k i (omega arith))
 -- ---- elements, of which the default does not matter inside a list
 
 module _ {A : Type 0} where
-  pub get_d_any : (l : List A) (i : ℕ) (d e : A) → i < length l → get_or l i d ≡ get_or l i e
-  get_d_any [] i d e h = absurd (omega arith)
-  get_d_any (x ∷ l) zero d e h = refl
-  get_d_any (x ∷ l) (suc i) d e h = get_d_any l i d e (omega arith)
+  pub get_or_any : (l : List A) (i : ℕ) (d e : A) → i < length l → get_or l i d ≡ get_or l i e
+  get_or_any [] i d e h = absurd (omega arith)
+  get_or_any (x ∷ l) zero d e h = refl
+  get_or_any (x ∷ l) (suc i) d e h = get_or_any l i d e (omega arith)
 
   pub set_pair : (l : List A) (a b : A) → length l ≡ 2 → set (set l 0 a) 1 b ≡ a ∷ b ∷ []
   set_pair [] a b h = absurd (omega arith)

@@ -18,7 +18,7 @@ use Rattle.codec.specs.Codec.{decode_timer}
 use Rattle.codec.specs.Pin.{decode_gpio}
 use Rattle.state.specs.Board.{pin_at, route_at, sig_level_at, enr_at, booked_at}
 use Rattle.state.specs.Parts.{start, front, parts, blocks}
-use Rattle.state.proofs.Cut.{get_d_any, map_at, front_at, length_front, part_at, part-front, part-block, length_part, length-blocks}
+use Rattle.state.proofs.Cut.{get_or_any, map_at, front_at, length_front, part_at, part-front, part-block, length_part, length-blocks}
 use Rattle.state.proofs.InRange.{bounded}
 use Rattle.gpio.specs.Gpio.{is_push_pull}
 use Rattle.machine.specs.Board.{no_timer, no_gpio, timer_at}
@@ -69,7 +69,7 @@ module _ (w : List ℕ) (x : List Float) where
   pub booking-read : (owner : ℕ) → owner < 8 → booked_at (view w x) owner ≡ get_or w (340 + owner) 0
   unfolding view start
   booking-read owner h =
-      get_d_any (get_or (parts 0 sizes w) 5 []) owner _ 0 (omega (arith, length_part 0 sizes 5 w)) ∙ part_at 0 sizes 5 owner w h
+      get_or_any (get_or (parts 0 sizes w) 5 []) owner _ 0 (omega (arith, length_part 0 sizes 5 w)) ∙ part_at 0 sizes 5 owner w h
 
   pub booking-all : (view w x).booking ≡ front 0 8 (drop 340 w)
   unfolding view start

@@ -1,0 +1,65 @@
+-- What a proof has at exit of a `Writer` that was passed by value. Each function that takes one cites this. A struct of other fields needs another list of `slots` and another choice for each field, and nothing else.
+--     slots            the struct's fields, as places of a signature of one lifetime
+--     held, held-goes  of a choice for each field: what is had of the struct at exit (`Denote/Triple/Walked.antt`'s `Stay`), and the law for it, from the fields' laws
+--     writer-stay      the borrow is still owned, at its last list.        writer-goes      the law for it
+--     writer-gave      the body has given the borrow up for good, as by passing it on to a callee, and has only what says its last list.        writer-gave-goes      the law for it
+--     writer-spent     the result names the struct's lifetime: nothing is said of a last list.        writer-spent-goes      the law for it
+-- The laws take `Logic`. The rest assumes nothing.
+use mathlib.Core.Path.{refl}
+use mathlib.Core.List.{List, [], ◌∷◌}
+use seplogic.Ra.Ura.{Ura}
+use mir.Syntax.{Sym, named}
+use types.Logic.{Logic}
+use denote.Builtin.{u64, usize}
+use denote.Exit.{Kept, yes, no}
+use denote.Signature.{Slot, plain, mut_slice, mut_slice_of, named_lft}
+use denote.Signature.Struct.{struct_at}
+use denote.Triple.Walked.{Stay, Fields, stay_none, stay_slice, gave_slice, stay_dropped, stay_struct_at, stay_declared, Goes, FieldsGo, Goes-none, Goes-slice, Goes-gave_slice, Goes-spent_slice, Goes-struct_at, Goes-declared}
+use Rattle.writer.specs.declared.Writer.{Writer}
+use Rattle.writer.specs.contracts.Writer as T
+
+abbrev pub slots : List (Slot 1)
+slots = mut_slice 0 tt (λ _. u64) ∷ plain (λ _. usize) ∷ []
+
+abbrev name : Sym
+name = (T.struct (named_lft 1 0 tt ([], tt))).name
+
+-- the struct's place in a signature
+abbrev pub WriterS : Slot 1
+WriterS = plain (λ κs. T.the_row (named_lft 1 0 tt κs))
+
+abbrev pub held : (k : Kept) → Fields slots k → Stay WriterS k
+held k hs = stay_declared (struct_at name (named 0 ∷ []) slots) k (stay_struct_at name (named 0 ∷ []) slots k hs) Writer (λ κs. (T.the_type (named_lft 1 0 tt κs)).to) (λ κs. (T.the_type (named_lft 1 0 tt κs)).to_one)
+
+abbrev stays : Fields slots yes
+stays = (stay_slice (0 ∷ []) tt (plain (λ _. u64)), (stay_none (λ _. usize) yes, tt))
+
+abbrev gives : Fields slots yes
+gives = (gave_slice (0 ∷ []) tt (plain (λ _. u64)), (stay_none (λ _. usize) yes, tt))
+
+abbrev spends : Fields slots no
+spends = (stay_dropped (mut_slice_of (0 ∷ []) tt (plain (λ _. u64))) no, (stay_none (λ _. usize) no, tt))
+
+abbrev pub writer-stay : Stay WriterS yes
+writer-stay = held yes stays
+
+abbrev pub writer-gave : Stay WriterS yes
+writer-gave = held yes gives
+
+abbrev pub writer-spent : Stay WriterS no
+writer-spent = held no spends
+
+module _ {M : Type 1} {𝓤 : Ura M} (𝓛 : Logic 𝓤) where
+  pub held-goes : (k : Kept) (hs : Fields slots k) → FieldsGo 𝓛 1 slots k hs → Goes 𝓛 1 WriterS k (held k hs)
+  held-goes k hs gs =
+      Goes-declared 𝓛 1 (struct_at name (named 0 ∷ []) slots) k (stay_struct_at name (named 0 ∷ []) slots k hs) Writer (λ κs. (T.the_type (named_lft 1 0 tt κs)).to) (λ κs. (T.the_type (named_lft 1 0 tt κs)).to_one)
+      (Goes-struct_at 𝓛 1 name (named 0 ∷ []) slots k hs gs)
+
+  pub writer-goes : Goes 𝓛 1 WriterS yes writer-stay
+  writer-goes = held-goes yes stays (Goes-slice 𝓛 1 0 tt (plain (λ _. u64)), (Goes-none 𝓛 1 (λ _. usize) yes (λ κs x f. refl), tt))
+
+  pub writer-gave-goes : Goes 𝓛 1 WriterS yes writer-gave
+  writer-gave-goes = held-goes yes gives (Goes-gave_slice 𝓛 1 0 tt (plain (λ _. u64)), (Goes-none 𝓛 1 (λ _. usize) yes (λ κs x f. refl), tt))
+
+  pub writer-spent-goes : Goes 𝓛 1 WriterS no writer-spent
+  writer-spent-goes = held-goes no spends (Goes-spent_slice 𝓛 1 (0 ∷ []) tt (plain (λ _. u64)), (Goes-none 𝓛 1 (λ _. usize) no (λ κs x f. refl), tt))
