@@ -53,6 +53,23 @@ def clauses(top):
                 CLAUSES[f"{crate}::{m[1]}"] = (re.findall(r"^\s*requires (\w+) \{", sig, re.M), re.findall(r"^\s*ensures (\w+) \{", sig, re.M))
 
 
+def clause_at(rest, names):
+    """The path rest begins in a fact of several clauses, which were pairs within pairs: the same path by the clause's name."""
+    k = at = 0
+    while at < len(rest) and rest[at] == "1" and k < len(names) - 1:
+        k += 1
+        at += 1
+    if k < len(names) - 1 and at < len(rest) and rest[at] == "0":
+        at += 1
+    return [names[k]] + rest[at:]
+
+
+def clauses_of(callee):
+    """The names of a function's requires and of its ensures; callee is crate::..::fn."""
+    parts = callee.split("::")
+    return CLAUSES.get(parts[0] + "::" + parts[-1], ([], []))
+
+
 def tuple_parts(body):
     """The parts of a body that is one tuple, with what stands before it (lets), or None."""
     s = body.strip()
@@ -161,7 +178,7 @@ class Fn:
         return None
 
 
-def turn_body(fn, place, wrapped, body):
+def turn_body(fn, place, body):
     # aliases of the record of facts
     aliases = {"c": 0}
     while True:
@@ -180,7 +197,7 @@ def turn_body(fn, place, wrapped, body):
             rest.pop(0)
             n += 1
         if not rest:
-            return "c" + ".before" * (n + (1 if wrapped and n else 0))
+            return "c" + ".before" * n
         head = rest[0]
         head = rest[0] = {"well-formed": "well_formed", "pre": "requires"}.get(head, head)
         if head == "args" and len(rest) > 1:
@@ -188,13 +205,7 @@ def turn_body(fn, place, wrapped, body):
         if head in FLAT and head != "requires":
             return ".".join(["c"] + rest)
         if head == "requires" and len(rest) > 1 and rest[1].isdigit() and len(fn.own[0]) > 1:
-            ns, k, k2 = fn.own[0], 0, 1
-            while k2 < len(rest) and rest[k2] == "1" and k < len(ns) - 1:
-                k += 1
-                k2 += 1
-            if k < len(ns) - 1:
-                k2 += k2 < len(rest) and rest[k2] == "0"
-            rest[1:k2] = [ns[k]]
+            rest[1:] = clause_at(rest[1:], fn.own[0])
         got = None if head in FLAT else fn.arm(place, rest)
         if got:
             return ".".join(["c"] + got)
@@ -218,38 +229,21 @@ def turn_body(fn, place, wrapped, body):
         if rest[:1] == ["ensures"] and re.fullmatch(r"wrapping_(add|sub|mul)_u64(-.*)?", new) and rest[1:] != ["value"]:
             rest.insert(1, "value")
         if fn.last and len(rest) > 1 and rest[0] in ("ensures", "requires") and rest[1].isdigit():
-            parts = fn.last.split("::")
-            ns = CLAUSES.get(parts[0] + "::" + parts[-1], ([], []))[rest[0] == "ensures"]
-            if len(ns) > 1:
-                k, at = 0, 1
-                while at < len(rest) and rest[at] == "1" and k < len(ns) - 1:
-                    k += 1
-                    at += 1
-                if k < len(ns) - 1:
-                    at += at < len(rest) and rest[at] == "0"
-                rest[1:at] = [ns[k]]
+            names = clauses_of(fn.last)[rest[0] == "ensures"]
+            if len(names) > 1:
+                rest[1:] = clause_at(rest[1:], names)
         return ".".join(["c", new] + rest)
 
     body = PATH.sub(path, body)
     # a let that holds what a call ensures
     for m in re.finditer(r"let ([a-z][A-Za-z0-9_']*) = c\.(%s)\.ensures in" % ID, body):
         c = next((fn.callee.get(p) for p, (_, s) in fn.place.items() if s and s[1] == m[2] and fn.callee.get(p)), None)
-        ns = CLAUSES.get(c.split("::")[0] + "::" + c.split("::")[-1], ([], []))[1] if c else []
-        if len(ns) > 1:
-
-            def named(k, ns=ns, v=m[1]):
-                rest, n, at = k[1].split(".")[1:], 0, 0
-                while at < len(rest) and rest[at] == "1" and n < len(ns) - 1:
-                    n += 1
-                    at += 1
-                if n < len(ns) - 1:
-                    at += at < len(rest) and rest[at] == "0"
-                return ".".join([v, ns[n]] + rest[at:])
-
-            body = re.sub(r"(?<![A-Za-z0-9_'\-.])%s((?:\.[01])+)" % m[1], named, body)
+        names = clauses_of(c)[1] if c else []
+        if len(names) > 1:
+            body = re.sub(r"(?<![A-Za-z0-9_'\-.])%s((?:\.[01])+)" % m[1], lambda k: ".".join([m[1]] + clause_at(k[1].split(".")[1:], names)), body)
     for a, n in aliases.items():
         if a != "c":
-            body = re.sub(r"(?<!%s)(?<!\.)%s(?!%s)(?!\.)" % (WORDCH, a, WORDCH), "c" + ".before" * (n + (1 if wrapped and n else 0)), body)
+            body = re.sub(r"(?<!%s)(?<!\.)%s(?!%s)(?!\.)" % (WORDCH, a, WORDCH), "c" + ".before" * n, body)
     return body
 
 
@@ -273,7 +267,7 @@ def finish(fn, goal, body):
         for p, (_, s) in fn.place.items():
             c = fn.callee.get(p)
             if c and norm(m[1]) in (norm(c.split("::")[-1]), norm(s[1])):
-                return as_record(body, CLAUSES.get(c.split("::")[0] + "::" + c.split("::")[-1], ([], []))[0])
+                return as_record(body, clauses_of(c)[0])
     return body
 
 
@@ -329,7 +323,6 @@ def convert(folder, module, names):
     else:
         args = split_args(m[1])
     nloops = len(j["loops"])
-    extra = 0
     invs = args[: 2 * nloops]
     if not all(re.match(r"(invariant|decreases|Inv|μ)", a) for a in invs):
         invs = [a for a in args if re.match(r"(invariant|decreases|Inv|μ)-", a)]
@@ -388,9 +381,6 @@ def convert(folder, module, names):
     # answers
     at = j["asked_at"]
 
-    def wrapped(k):
-        return at[k][1] is not None and False
-
     byold = {norm(o): k for k, (o, _) in enumerate(needs)}
     for pos, a in enumerate(rest):
         k = pos if len(rest) == len(needs) else None
@@ -407,7 +397,7 @@ def convert(folder, module, names):
                 msgs.append(f"inline at {pos} not placed: {body[:60]}")
                 continue
             new = needs[k][1]
-            body = finish(fn, new, turn_body(fn, at[k][0], False, body))
+            body = finish(fn, new, turn_body(fn, at[k][0], body))
             out_ans.append(f"pub {new} : goal.{new}\n{new} c = {body}\n")
             continue
         b = decls.get(a)
@@ -445,7 +435,7 @@ def convert(folder, module, names):
             msgs.append(f"{a}: κs used")
         if re.fullmatch(r"\s*search (rules|needs)", body.strip()) and not unf:
             continue
-        body = finish(fn, k_name, turn_body(fn, place, False, body))
+        body = finish(fn, k_name, turn_body(fn, place, body))
         out_ans.append("\n".join(comments + [f"pub {k_name} : goal.{k_name}"] + unf + [f"{k_name} c ={body}"]) + "\n")
     helpers = [decls[n] for n in order if n not in used and n is not None]
     mod = module[len("Rattle-") :]
