@@ -91,7 +91,10 @@ fn source_fields(name: &str) -> Vec<String> {
         _ => "shift",
     };
     let file = code(&text(&format!("../crates/{of}/src/lib.rt")));
-    let (fields, _) = between(&file, &format!("#[repr(C)]\n#[derive(Clone, Copy)]\npub struct {name} {{"), "}");
+    let (before, rest) = file.split_once(&format!("pub struct {name} {{")).unwrap_or_else(|| panic!("no struct {name}"));
+    let (_, derives) = before.rsplit_once("#[repr(C)]").unwrap_or_else(|| panic!("{name} is not laid out as in C"));
+    assert!(derives.trim().starts_with("#[derive(Clone, Copy") && derives.trim().lines().count() == 1, "{name}: {derives}");
+    let (fields, _) = rest.split_once('}').expect("a struct's end");
     parts(fields).map(|f| f.trim_start_matches("pub ").to_owned()).collect()
 }
 

@@ -18,7 +18,8 @@ use Rattle.machine.specs.Sound.{Sound}
 use Rattle.machine.proofs.NumberLaws.{refusal-nonzero}
 use Rattle.machine.proofs.Routing.{by-test}
 use Rattle.machine.proofs.Reach.{Wired, Rest, Leaves, frame_step, frame_refused, sound-step, sound-after}
-use Rattle.accuracy.proofs.Tests.{never, both_left, both_right, one_of, apart}
+use Rattle.accuracy.proofs.Tests.{never, one_of, apart}
+use Rattle.std.specs.Cmp.{first_so, second_so}
 use Rattle.accuracy.specs.Claim.{steady_call, steady, delivered_at, covered, joined, Pilot, Steady, board₀, board₁, recorded, Claim}
 use Rattle.accuracy.proofs.Levels.{Upward}
 use Rattle.accuracy.proofs.Wave.{duty}
@@ -130,8 +131,8 @@ module _ (a : Aim) (pin l₀ i : ℕ) where
   all-calls (c ∷ cs) from b es sound k st =
       let x = is_refusal (step b c).number || steady_call i pin b c in
       let rest = steady i pin (step b c).board cs in
-      let first = any-call a pin l₀ i from b es sound k c (both_left x rest st) in
-      rw append_assoc at (all-calls cs _ (step b c).board (es ++ (step b c).entries) (sound-step b c sound) first (both_right x rest st))
+      let first = any-call a pin l₀ i from b es sound k c (first_so x rest st) in
+      rw append_assoc at (all-calls cs _ (step b c).board (es ++ (step b c).entries) (sound-step b c sound) first (second_so x rest st))
 
 -- ---- the claim
 

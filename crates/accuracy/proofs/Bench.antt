@@ -20,7 +20,7 @@ use Rattle.machine.specs.Step.{step, run, board_after}
 use Rattle.book.specs.Level.{level_at, highs}
 use Rattle.accuracy.specs.Claim.{Pilot, Steady, Window, steady, covered, joined, board₀, board₁, timer₁, first_update, cycles_of, period_of, high_of}
 use Rattle.accuracy.proofs.Computed.{computed}
-use Rattle.accuracy.proofs.Tests.{both_left, both_right}
+use Rattle.std.specs.Cmp.{first_so, second_so}
 use Rattle.accuracy.proofs.Quick.{delivery, few, suffice, joined-last, steady-last, covered-last}
 
 -- ---- lists of calls
@@ -180,7 +180,7 @@ unfolding seen_by
 window-by π a W e =
     let from = leb (first_update (timer₁ π) π.s (cycles_of (board₁ π) π.timer)) a in
     let to = leb (a + W) (covered π.timer (board₁ π) π.after 0) in
-    record { from = leb-true _ _ (both_left from to e); to = leb-true _ _ (both_right from to e) }
+    record { from = leb-true _ _ (first_so from to e); to = leb-true _ _ (second_so from to e) }
 
 -- ---- a trial's last delivery has few events
 

@@ -17,7 +17,7 @@ use Rattle.machine.specs.Board.{Pads, gpio_at, route_of}
 use Rattle.machine.specs.Sys.{drive_channel, drive_outputs, driver, sig_out}
 use Rattle.machine.specs.Sound.{SoundPads, Held}
 use Rattle.machine.proofs.Routing.{sound-sig, sound-channel, held-channel, own-sig, Follows}
-use Rattle.accuracy.proofs.Tests.{both_right}
+use Rattle.std.specs.Cmp.{second_so}
 use Rattle.accuracy.proofs.Levels.{Moves, moves-silent, moves-then, moves-own, silent-elsewhere, bit-small}
 
 abbrev pub shown : Pads → ℕ → ℕ
@@ -43,7 +43,7 @@ wired-held s pin p q w sound h = record {
 
 module _ (n ch : ℕ) (drv : driver n ≡ true) (four : ch < 4) where
   pub signal-small : tim_signal n ch < 256
-  signal-small = omega (arith, leb-true n 4 (both_right (leb 2 n) (leb n 4) drv))
+  signal-small = omega (arith, leb-true n 4 (second_so (leb 2 n) (leb n 4) drv))
 
   pub signal-drives : drives (tim_signal n ch) ≡ true
   signal-drives = rw (ne_eqb (tim_signal n ch) 0 (λ z. omega arith), tim-no-input n ch four)

@@ -13,7 +13,7 @@ use Rattle.regs.specs.Regs.{reg_written, reg_read}
 use Rattle.periph.specs.Lane.{lane_read, lane_write}
 use Rattle.sig.specs.Signal.{tim_signal}
 use Rattle.real.specs.Real.{nearest_to}
-use Rattle.pins.specs.Pins.{blank, with_ext, with_level, resolved}
+use Rattle.pins.specs.Pins.{only_held, blank, with_ext, with_level, resolved}
 use Rattle.pins.specs.declared.ExtDrive.TheVariants as ext
 use Rattle.pins.proofs.Figures.{v5·0, v3·0, v2·0, v1·5}
 use Rattle.stepping.proofs.Figures.{inst, run, up, dn}
@@ -26,7 +26,7 @@ counts t cycles = map (reg_read t 0x24) cycles
 
 -- an input's level at supply 5.0 for analogue volts; `held` is its level before
 abbrev levels : ℕ → List Float → List ℕ
-levels held volts = map (λ (v : Float). (resolved (with_ext (with_level blank held v5·0 4) (ext.Analog v)) v5·0).level) volts
+levels held volts = map (λ (v : Float). (resolved (with_ext (with_level blank held v5·0 only_held) (ext.Analog v)) v5·0).level) volts
 
 -- a timer whose SR holds a value
 abbrev flagged : ℕ → Timer

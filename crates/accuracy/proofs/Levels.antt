@@ -6,9 +6,10 @@ use mathlib.Core.List.{List, [], ◌∷◌, ◌++◌}
 use native.Mathlib.Nat.{le_refl, le_trans}
 use lib.Dec.{eqb, leb, lit≤}
 use borrow.Author.Tests.{eqb-true, eq-eqb, ne_eqb, le-leb, lt-leb}
-use Rattle.gpio.specs.Gpio.{changed, bit}
-use Rattle.gpio.specs.declared.Change.{Change}
-use Rattle.gpio.specs.declared.Change.TheVariants.{Same, Level}
+use Rattle.pins.specs.declared.Source.{Source}
+use Rattle.gpio.specs.Gpio.{edge, changed, bit}
+use Rattle.std.specs.Prelude.{Option, Some, None}
+use Rattle.gpio.specs.declared.Edge.{Edge}
 use Rattle.book.specs.Book.{Entry, entry_of}
 use Rattle.machine.specs.Sound.{Elsewhere}
 use Rattle.book.specs.Level.{level_at}
@@ -62,17 +63,17 @@ pub record Moves (pin at : ℕ) (es : List Entry) (old new : ℕ) : Type 0 where
   pub upward : Upward pin at es at
 
 module _ (pin : ℕ) where
-  pub silent-elsewhere : (at : ℕ) (m : Change) → Elsewhere pin m → Silent pin (entry_of at m)
+  pub silent-elsewhere : (at : ℕ) (m : Option Edge) → Elsewhere pin m → Silent pin (entry_of at m)
   unfolding level_at entry_of Upward
   silent-elsewhere at m e = record { stays = go m e; upward = up m e }
     where
-      up : (m : Change) → Elsewhere pin m → (d : ℕ) → Upward pin d (entry_of at m) d
-      up Same e d = le_refl d
-      up (Level q v s) e d = (λ x. absurd (e x), rw (ne_eqb q pin e) (le_refl d))
+      up : (m : Option Edge) → Elsewhere pin m → (d : ℕ) → Upward pin d (entry_of at m) d
+      up None e d = le_refl d
+      up (Some m) e d = (λ x. absurd (e x), rw (ne_eqb m.pin pin e) (le_refl d))
 
-      go : (m : Change) → Elsewhere pin m → (l c : ℕ) → level_at pin (entry_of at m) l c ≡ l
-      go Same e l c = refl
-      go (Level q v s) e l c = rw (ne_eqb q pin e)
+      go : (m : Option Edge) → Elsewhere pin m → (l c : ℕ) → level_at pin (entry_of at m) l c ≡ l
+      go None e l c = refl
+      go (Some m) e l c = rw (ne_eqb m.pin pin e)
 
   pub moves-silent : (at : ℕ) (es : List Entry) (l : ℕ) → Silent pin es → Moves pin at es l l
   moves-silent at es l k = record { before = λ m c h. k.stays m c; since = λ c h. k.stays l c; upward = k.upward at }
@@ -85,11 +86,11 @@ module _ (pin : ℕ) where
   }
 
   -- "An entry is made exactly when a pin's level changes."
-  pub moves-own : (at old new source : ℕ) → new ≤ 1 → Moves pin at (entry_of at (changed pin old new source)) old new
+  pub moves-own : (at old new : ℕ) (source : Source) → new ≤ 1 → Moves pin at (entry_of at (changed pin old new source)) old new
   unfolding level_at entry_of Upward
   moves-own at old new source small = go (eqb new old) refl
     where
-      go : (b : Bool) → eqb new old ≡ b → Moves pin at (entry_of at (cond b Same (Level pin new source))) old new
+      go : (b : Bool) → eqb new old ≡ b → Moves pin at (entry_of at (cond b None (Some (edge pin new source)))) old new
       go true e = record { before = λ l c h. refl; since = λ c h. sym (eqb-true new old e); upward = le_refl at }
       go false e = record {
         before = λ l c h. rw (eq-eqb pin pin refl, lt-leb at c h);

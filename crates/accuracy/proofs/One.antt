@@ -23,7 +23,8 @@ use Rattle.tim.proofs.Laws.{ends-never}
 use Rattle.stepping.proofs.Agrees.{next-best}
 use Rattle.gpio.specs.Gpio.{bit}
 use Rattle.machine.specs.Deliver.{applied, count_at}
-use Rattle.accuracy.proofs.Tests.{never, both_left, both_right}
+use Rattle.accuracy.proofs.Tests.{never}
+use Rattle.std.specs.Cmp.{first_so, second_so}
 use Rattle.accuracy.proofs.Wave.{wave, wave-in}
 use Rattle.accuracy.proofs.Aim.{Aim, period, high, Fixed, due, Coming, InPeriod, Phase, coming, in_period, Goes}
 
@@ -71,11 +72,11 @@ module _ (a : Aim) (t : Timer) (f : Fixed a t) where
   picked-at : (j : ℕ) → compares t j ≡ true → (t.count.cnt0 ≤ ccr_in_use t j) × (ccr_in_use t j ≤ a.reload)
   unfolding compares
   picked-at j e =
-      let g : ahead t j ≡ true = both_right (waiting t j) (ahead t j) e in
+      let g : ahead t j ≡ true = second_so (waiting t j) (ahead t j) e in
       let lo : Bool = leb t.count.cnt0 (ccr_in_use t j) in
       let hi : Bool = leb (ccr_in_use t j) t.count.arr_act in
       let h : lo && hi ≡ true = rw f.upward at g in
-      (leb-true _ _ (both_left lo hi h), rw (← f.arr-act) (leb-true _ _ (both_right lo hi h)))
+      (leb-true _ _ (first_so lo hi h), rw (← f.arr-act) (leb-true _ _ (second_so lo hi h)))
 
   -- the pilot's own compare, where it is not done
   own-compares : get_or t.chan.cc_done a.ch false ≡ false → t.count.cnt0 ≤ a.compare → a.compare ≤ a.reload → compares t a.ch ≡ true
@@ -94,9 +95,9 @@ module _ (t : Timer) (j : ℕ) where
   unfolding compares C.compared C.matched
   still-compares i e =
       let d : Bool = get_or (set t.chan.cc_done j true) i false in
-      let w : not d && is_output t i ≡ true = both_left (not d && is_output t i) (ahead t i) e in
-      let u = undone-before t.chan.cc_done j i (not-true d (both_left (not d) (is_output t i) w)) in
-      rw (u, both_right (not d) (is_output t i) w) (both_right (not d && is_output t i) (ahead t i) e)
+      let w : not d && is_output t i ≡ true = first_so (not d && is_output t i) (ahead t i) e in
+      let u = undone-before t.chan.cc_done j i (not-true d (first_so (not d) (is_output t i) w)) in
+      rw (u, second_so (not d) (is_output t i) w) (second_so (not d && is_output t i) (ahead t i) e)
 
   compared-later : (next_steps t).steps ≤ (next_steps (C.compared t j)).steps
   unfolding C.compared C.matched

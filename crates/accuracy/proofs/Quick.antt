@@ -16,7 +16,7 @@ use Rattle.machine.specs.Deliver.{divider_of, Run, stop, after_turn, due_by, tur
 use Rattle.machine.specs.Deliver as D
 use Rattle.machine.specs.Call.{Call, deliver, Outcome, is_refusal}
 use Rattle.machine.specs.Step.{absent, cycle_astray, delivered_to, step, run, board_after}
-use Rattle.accuracy.proofs.Tests.{both_left, both_right}
+use Rattle.std.specs.Cmp.{first_so, second_so}
 use Rattle.accuracy.specs.Claim.{steady_call, steady, delivered_at, covered, joined}
 
 -- with more events than it has, a delivery that was answered 0 goes as far
@@ -61,9 +61,9 @@ few-is b cycle e =
     let x = absent 0 b.counts.timers in
     let y = cycle_astray b cycle in
     let z = eqb (few b cycle).number 0 in
-    let p : x ≡ false = not-true x (both_left (not x) (not y && z) e) in
-    let q : y ≡ false = not-true y (both_left (not y) z (both_right (not x) (not y && z) e)) in
-    let r : (few b cycle).number ≡ 0 = eqb-true _ 0 (both_right (not y) z (both_right (not x) (not y && z) e)) in
+    let p : x ≡ false = not-true x (first_so (not x) (not y && z) e) in
+    let q : y ≡ false = not-true y (first_so (not y) z (second_so (not x) (not y && z) e)) in
+    let r : (few b cycle).number ≡ 0 = eqb-true _ 0 (second_so (not y) z (second_so (not x) (not y && z) e)) in
     rw (p, q)
     (ap (λ (r : Run). record { number = r.number; value = r.events; entries = r.entries; board = with_last (after_delivery b 0 cycle r.timer r.pads) cycle })
     (fuel 20 99981 cycle (divider_of b (timer_at b 0)) 100 (timer_at b 0) b.pads r))
@@ -73,7 +73,7 @@ few-served b cycle e =
     let x = absent 0 b.counts.timers in
     let y = cycle_astray b cycle in
     let z = eqb (few b cycle).number 0 in
-    ap (λ (o : Outcome). o.number) (few-is b cycle e) ∙ eqb-true _ 0 (both_right (not y) z (both_right (not x) (not y && z) e))
+    ap (λ (o : Outcome). o.number) (few-is b cycle e) ∙ eqb-true _ 0 (second_so (not y) z (second_so (not x) (not y && z) e))
 
 -- ---- after other calls
 

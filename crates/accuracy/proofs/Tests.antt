@@ -10,14 +10,6 @@ use borrow.Author.Tests.{eqb-false, not-true}
 pub never : false ≡ true → ⊥
 never e = let z : ◌≡◌ {A = ℕ} 0 1 = cc in omega arith
 
-pub both_left : (x y : Bool) → x && y ≡ true → x ≡ true
-both_left true y e = refl
-both_left false y e = e
-
-pub both_right : (x y : Bool) → x && y ≡ true → y ≡ true
-both_right true y e = e
-both_right false y e = absurd (never e)
-
 pub one_of : (x y : Bool) → x || y ≡ true → (x ≡ true) ⊎ (y ≡ true)
 one_of true y e = inl refl
 one_of false y e = inr e

@@ -17,6 +17,9 @@ use Rattle.machine.proofs.NumberLaws.{Verdict, refuses, passes, no_both, refusal
 use Rattle.state.specs.View.{view}
 use Rattle.answer.specs.declared.Answer.{Answer}
 use Rattle.answer.specs.Promise.{answer, Answers}
+use Rattle.answer.specs.declared.Refusal.{Refusal as Why}
+use Rattle.answer.specs.declared.Refusal.TheVariants.{OutsideLimits, NoSuchIndex, BadSize, BadClock, ClockAstray, BookFull, CounterAstray, EventsDue, SignalTaken}
+use Rattle.answer.specs.Refused.{number_of}
 
 -- a number applies: the call is refused with it
 pub refused-step : (b : Board) (c : Call) (n : ℕ) → n ≡ first (refusals b c) → (n ≡ 0 → ⊥) → step b c ≡ refused n b
@@ -161,3 +164,15 @@ book-full places h = rw (lt-ltb places 4 h)
 pub book-fits : (places : ℕ) → 4 ≤ places → 0 ≡ first (book_full 4 places ∷ [])
 unfolding first
 book-fits places h = rw (le-ltb places 4 h)
+
+-- a refusal's number is above 0
+pub number-positive : (r : Why) → 1 ≤ number_of r
+number-positive OutsideLimits = omega arith
+number-positive NoSuchIndex = omega arith
+number-positive BadSize = omega arith
+number-positive BadClock = omega arith
+number-positive ClockAstray = omega arith
+number-positive BookFull = omega arith
+number-positive CounterAstray = omega arith
+number-positive EventsDue = omega arith
+number-positive SignalTaken = omega arith

@@ -1,13 +1,16 @@
 // What a call answers, and the refusals that calls share (document 01's table), lowest number first.
 #![tactic(auto)]
 
-ghost use Rattle.std.specs.Prelude.{◌≡◌, List, [], ◌∷◌, Float};
+ghost use Rattle.std.specs.Prelude.{◌≡◌, List, [], ◌∷◌, ◌<◌, Float};
 ghost use Rattle.state.specs.View.{view};
-ghost use Rattle.book.specs.Book.{places, slices};
+ghost use Rattle.book.specs.Book.{places};
+ghost use Rattle.book.specs.Lent.{slices_of};
 ghost use Rattle.machine.specs.Step.{cycle_astray, odd_size};
 ghost use Rattle.machine.specs.Refusals.{first, no_such_index, bad_size, clock_astray, book_full};
 ghost use Rattle.answer.specs.Promise.{answer};
+ghost use Rattle.answer.specs.Refused.{number_of, refusal_number, told};
 
+use book::LentBook;
 use state::WORDS;
 
 // The value, the number and the number of entries: 16 bytes, which come back in two registers. The entries are in the lent book.
@@ -19,18 +22,58 @@ pub struct Answer {
     pub count: u32,
 }
 
-// Refused with number n: no value, no entries.
-pub fn refused(n: u8) -> Answer
-    ensures { result ≡ answer n 0 0 }
-{
-    Answer {
-        value: 0,
-        number: n as u32,
-        count: 0,
+// Why a call changes nothing.
+#[derive(Clone, Copy, Debug, PartialEq, Eq)]
+pub enum Refusal {
+    OutsideLimits,
+    NoSuchIndex,
+    BadSize,
+    BadClock,
+    ClockAstray,
+    BookFull,
+    CounterAstray,
+    EventsDue,
+    SignalTaken,
+}
+
+impl Refusal {
+    // The number that an answer gives for it.
+    pub fn number(self) -> u32
+        ensures { result ≡ number_of self }
+    {
+        match self {
+            Refusal::OutsideLimits => 1,
+            Refusal::NoSuchIndex => 2,
+            Refusal::BadSize => 3,
+            Refusal::BadClock => 4,
+            Refusal::ClockAstray => 5,
+            Refusal::BookFull => 6,
+            Refusal::CounterAstray => 7,
+            Refusal::EventsDue => 8,
+            Refusal::SignalTaken => 11,
+        }
+    }
+}
+
+// A refused call answers with its number, no value and no entries.
+impl From<Result<Answer, Refusal>> for Answer {
+    ghost from_gives = { λ r a. a ≡ told r };
+
+    #[inline(always)]
+    fn from(outcome: Result<Answer, Refusal>) -> Answer {
+        match outcome {
+            Ok(answer) => answer,
+            Err(refusal) => Answer {
+                value: 0,
+                number: refusal.number(),
+                count: 0,
+            },
+        }
     }
 }
 
 // Served, with a value and no entries.
+#[inline(always)]
 pub fn served(value: u64) -> Answer
     ensures { result ≡ answer 0 value 0 }
 {
@@ -38,6 +81,18 @@ pub fn served(value: u64) -> Answer
         value,
         number: 0,
         count: 0,
+    }
+}
+
+// Served, with the book's entries.
+#[inline(always)]
+pub fn entered(book: &LentBook<'_>) -> Answer
+    requires { book.now.count < 4294967296 }
+    ensures { result ≡ answer 0 0 book.now.count }
+{
+    Answer {
+        count: book.count as u32,
+        ..served(0)
     }
 }
 
@@ -65,9 +120,8 @@ pub fn is_astray(words: &[u64; WORDS], cycle: u64) -> bool
     cycle < last
 }
 
-// The first of the numbers 2, 3, 5, 6 that applies, 0 if none does: index of so many, a size, a cycle, places where so many are needed.
-// A call without a size passes 4.
-pub fn refusal(
+// What a call is refused for, the lowest number first: index of so many, a size, a cycle, places where so many are needed. A call without a size passes 4.
+pub fn check(
     words: &[u64; WORDS],
     index: u32,
     count: usize,
@@ -75,60 +129,55 @@ pub fn refusal(
     cycle: u64,
     need: usize,
     places: usize,
-) -> u8
-    ensures { (x : List Float) → result ≡ first (no_such_index index count ∷ bad_size size ∷ clock_astray (view words.now x) cycle ∷ book_full need places ∷ []) }
+) -> Result<(), Refusal>
+    ensures { (x : List Float) → refusal_number result ≡ first (no_such_index index count ∷ bad_size size ∷ clock_astray (view words.now x) cycle ∷ book_full need places ∷ []) }
 {
     if count <= index as usize {
-        return 2;
+        return Err(Refusal::NoSuchIndex);
     }
     if odd_size(size) {
-        return 3;
+        return Err(Refusal::BadSize);
     }
     if is_astray(words, cycle) {
-        return 5;
+        return Err(Refusal::ClockAstray);
     }
     if places < need {
-        return 6;
+        return Err(Refusal::BookFull);
     }
-    0
+    Ok(())
 }
 
-// The first of the numbers 2, 3, 5 that applies to a timer's call without a book, 0 if none does.
-pub fn timer_refusal(words: &[u64; WORDS], index: u32, size: u32, cycle: u64) -> u8
-    ensures { (x : List Float) → result ≡ first (no_such_index index (view words.now x).counts.timers ∷ bad_size size ∷ clock_astray (view words.now x) cycle ∷ []) }
+// The same of a timer's call without a book.
+#[inline(always)]
+pub fn check_timer(words: &[u64; WORDS], index: u32, size: u32, cycle: u64) -> Result<(), Refusal>
+    ensures { (x : List Float) → refusal_number result ≡ first (no_such_index index (view words.now x).counts.timers ∷ bad_size size ∷ clock_astray (view words.now x) cycle ∷ []) }
 {
     if !state::has_timer(words, index) {
-        return 2;
+        return Err(Refusal::NoSuchIndex);
     }
     if odd_size(size) {
-        return 3;
+        return Err(Refusal::BadSize);
     }
     if is_astray(words, cycle) {
-        return 5;
+        return Err(Refusal::ClockAstray);
     }
-    0
+    Ok(())
 }
 
-// The first of the numbers 2, 3, 5, 6 that applies to a timer's call with a book, 0 if none does. A call without a size passes 4.
-pub fn book_refusal(
+// The same of a timer's call with a book.
+#[inline(always)]
+pub fn check_timer_and_book(
     words: &[u64; WORDS],
     index: u32,
     size: u32,
     cycle: u64,
-    pins: &[u8],
-    levels: &[u8],
-    cycles: &[u64],
-    sources: &[u8],
-) -> u8
-    ensures { (x : List Float) → result ≡ first (no_such_index index (view words.now x).counts.timers ∷ bad_size size ∷ clock_astray (view words.now x) cycle ∷ book_full 4 (places (slices pins.now levels.now cycles.now sources.now)) ∷ []) }
+    book: &LentBook<'_>,
+) -> Result<(), Refusal>
+    ensures { (x : List Float) → refusal_number result ≡ first (no_such_index index (view words.now x).counts.timers ∷ bad_size size ∷ clock_astray (view words.now x) cycle ∷ book_full 4 (places (slices_of book.now)) ∷ []) }
 {
-    let no = timer_refusal(words, index, size, cycle);
-    if no != 0 {
-        return no;
+    check_timer(words, index, size, cycle)?;
+    if book.places() < 4 {
+        return Err(Refusal::BookFull);
     }
-    let room = book::room(pins, levels, cycles, sources);
-    if room < 4 {
-        return 6;
-    }
-    0
+    Ok(())
 }

@@ -9,23 +9,21 @@ ghost use Rattle.machine.specs.Board.{fresh_board, with_pads};
 ghost use Rattle.machine.specs.Sys.{unrouted};
 ghost use Rattle.state.specs.Board.{with_vcc};
 ghost use Rattle.state.specs.Parts.{parts, listed, repeated};
+ghost use Rattle.state.specs.Lent.{lent_board, SameLoan};
 ghost use Rattle.state.specs.View.{sizes, view};
 ghost use Rattle.blank.specs.Fresh.{blank_parts};
 
 use clk::ClockTree;
 use pins::ClockModel;
-use state::{BOOKING, REALS, ROUTE, SIG_LEVEL, VCC, WORDS};
+use state::{BOOKING, LentBoard, REALS, ROUTE, SIG_LEVEL, VCC, WORDS};
 
 // n words from `at` on take the value v.
 fn fill(words: &mut [u64; WORDS], at: usize, n: usize, v: u64)
     requires { at + n ≤ 5276 }
     ensures { words.new ≡ paste words.old at (repeated n v) n }
 {
-    state::sized(words);
-    let mut j = 0;
-    while j < n {
+    for j in 0..n {
         words[at + j] = v;
-        j += 1;
     }
 }
 
@@ -33,11 +31,8 @@ fn fill(words: &mut [u64; WORDS], at: usize, n: usize, v: u64)
 fn idle_levels(words: &mut [u64; WORDS])
     ensures { words.new ≡ paste words.old 604 (listed idle_level 0 256) 256 }
 {
-    state::sized(words);
-    let mut s = 0;
-    while s < 256 {
+    for s in 0..256 {
         words[SIG_LEVEL + s] = sig::idle_level(s as u16) as u64;
-        s += 1;
     }
 }
 
@@ -45,7 +40,6 @@ fn idle_levels(words: &mut [u64; WORDS])
 pub fn unroute(words: &mut [u64; WORDS])
     ensures { (x : List Float) → view words.new x ≡ with_pads (view words.old x) (unrouted (view words.old x).pads) }
 {
-    state::sized(words);
     fill(words, ROUTE, 256, 128);
     idle_levels(words);
 }
@@ -53,25 +47,20 @@ pub fn unroute(words: &mut [u64; WORDS])
 fn zero_reals(reals: &mut [f64; REALS])
     ensures { reals.new ≡ paste reals.old 0 (repeated 264 zero_float) 264 }
 {
-    state::sized_reals(reals);
-    let mut j = 0;
-    while j < REALS {
+    for j in 0..REALS {
         reals[j] = 0.0;
-        j += 1;
     }
 }
 
 fn set_vcc(reals: &mut [f64; REALS], v: f64)
     ensures { (w : List ℕ) → view w reals.new ≡ with_vcc (view w reals.old) v }
 {
-    state::sized_reals(reals);
     reals[VCC] = v;
 }
 
 fn clear_words(words: &mut [u64; WORDS])
     ensures { parts 0 sizes words.new ≡ blank_parts }
 {
-    state::sized(words);
     fill(words, 0, WORDS, 0);
     fill(words, BOOKING, 8, scheduler::NEVER);
     fill(words, ROUTE, 256, 128);
@@ -79,13 +68,14 @@ fn clear_words(words: &mut [u64; WORDS])
 }
 
 // The board at a frequency and a supply, as after set-up but with no timers, pins or lines. At 1 Hz and 1 volt it is the first board.
-pub fn clear(words: &mut [u64; WORDS], reals: &mut [f64; REALS], hz: f64, vcc: f64)
-    ensures { view words.new reals.new ≡ fresh_board hz vcc 0 0 [] [] }
+pub fn clear(board: &mut LentBoard<'_>, hz: f64, vcc: f64)
+    ensures same_loan { SameLoan board.old board.new }
+    ensures board { lent_board board.new ≡ fresh_board hz vcc 0 0 [] [] }
 {
-    state::sized_reals(reals);
-    clear_words(words);
-    zero_reals(reals);
-    set_vcc(reals, vcc);
-    state::set_tree(words, reals, ClockTree::flat(hz));
-    state::set_clock(words, reals, ClockModel::new(hz));
+    state::known_lengths(board.words, board.reals);
+    clear_words(board.words);
+    zero_reals(board.reals);
+    set_vcc(board.reals, vcc);
+    board.set_tree(ClockTree::flat(hz));
+    board.set_clock(ClockModel::new(hz));
 }

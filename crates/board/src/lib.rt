@@ -16,9 +16,12 @@ ghost use Rattle.small.specs.Small.{listed};
 ghost use Rattle.board.specs.Layout.{tree_given};
 
 use answer::Answer;
+use book::LentBook;
 use clk::ClockTree;
+use pads::PinSetting;
+use setup::SetUp;
 use small::Listed;
-use state::{REALS, WORDS};
+use state::{LentBoard, REALS, SeenBoard, WORDS};
 
 // ---- the arrays
 
@@ -43,7 +46,8 @@ pub extern "C" fn board_reals() -> usize
 pub extern "C" fn board_blank(words: &mut [u64; WORDS], reals: &mut [f64; REALS])
     ensures { view words.new reals.new ≡ first_board }
 {
-    blank::clear(words, reals, 1.0, 1.0);
+    let mut board = LentBoard { words, reals };
+    blank::clear(&mut board, 1.0, 1.0);
 }
 
 // ---- set-up, clocks, pins
@@ -62,7 +66,17 @@ pub extern "C" fn board_set_up(
 ) -> Answer
     ensures { Answers (step (view words.old reals.old) (C.set_up (setup_of hz vcc pins lines 0 timers.now table.now))) result words.old words.new reals.old reals.new }
 {
-    setup::set_up(words, reals, hz, vcc, pins, lines, 0, timers, table)
+    let mut board = LentBoard { words, reals };
+    let s = SetUp {
+        hz,
+        vcc,
+        pins,
+        lines,
+        manual: 0,
+        timers,
+        table,
+    };
+    Answer::from(setup::set_up(&mut board, s))
 }
 
 // Set up with timers in manual mode: timer i where bit i of `manual` is 1; a bit of no timer says nothing.
@@ -80,7 +94,17 @@ pub extern "C" fn board_set_up_manual(
 ) -> Answer
     ensures { Answers (step (view words.old reals.old) (C.set_up (setup_of hz vcc pins lines manual timers.now table.now))) result words.old words.new reals.old reals.new }
 {
-    setup::set_up(words, reals, hz, vcc, pins, lines, manual, timers, table)
+    let mut board = LentBoard { words, reals };
+    let s = SetUp {
+        hz,
+        vcc,
+        pins,
+        lines,
+        manual,
+        timers,
+        table,
+    };
+    Answer::from(setup::set_up(&mut board, s))
 }
 
 // Change the clock tree.
@@ -110,7 +134,8 @@ pub extern "C" fn board_set_clock_tree(
         tim1,
         tim2,
     };
-    control::set_clock_tree(words, reals, t, cycle)
+    let mut board = LentBoard { words, reals };
+    Answer::from(control::set_clock_tree(&mut board, t, cycle))
 }
 
 // Write an enable word.
@@ -123,7 +148,7 @@ pub extern "C" fn board_enable(
 ) -> Answer
     ensures { Answers (step (view words.old reals.now) (C.enable word value)) result words.old words.new reals.now reals.now }
 {
-    control::enable(words, reals, word, value)
+    Answer::from(control::enable(words, word, value))
 }
 
 // Set a pin: mode, open drain, output bit, pulls, function.
@@ -147,10 +172,23 @@ pub extern "C" fn board_set_pin(
     ensures answers { Answers (step (view words.old reals.old) (C.set_pin pin mode open_drain out pullup pulldown function cycle (places (slices pins.old levels.old cycles.old sources.old)))) result words.old words.new reals.old reals.new }
     ensures holds { Holds (step (view words.old reals.old) (C.set_pin pin mode open_drain out pullup pulldown function cycle (places (slices pins.old levels.old cycles.old sources.old)))).entries (slices pins.old levels.old cycles.old sources.old) (slices pins.new levels.new cycles.new sources.new) result.count }
 {
-    pads::set_pin(
-        words, reals, pins, levels, cycles, sources, pin, mode, open_drain, out, pullup, pulldown,
-        function, cycle,
-    )
+    let mut board = LentBoard { words, reals };
+    let mut book = LentBook {
+        pins,
+        levels,
+        cycles,
+        sources,
+        count: 0,
+    };
+    let setting = PinSetting {
+        mode,
+        open_drain,
+        out,
+        pullup,
+        pulldown,
+        function,
+    };
+    Answer::from(pads::set_pin(&mut board, &mut book, pin, setting, cycle))
 }
 
 // Drive a pin from outside: kind 1 low, 2 high, 3 analogue with its volts, else nothing.
@@ -170,9 +208,15 @@ pub extern "C" fn board_drive_pin(
     ensures answers { Answers (step (view words.old reals.old) (C.drive_pin pin (drive_of kind volts) cycle (places (slices pins.old levels.old cycles.old sources.old)))) result words.old words.new reals.old reals.new }
     ensures holds { Holds (step (view words.old reals.old) (C.drive_pin pin (drive_of kind volts) cycle (places (slices pins.old levels.old cycles.old sources.old)))).entries (slices pins.old levels.old cycles.old sources.old) (slices pins.new levels.new cycles.new sources.new) result.count }
 {
-    pads::drive_pin(
-        words, reals, pins, levels, cycles, sources, pin, kind, volts, cycle,
-    )
+    let mut board = LentBoard { words, reals };
+    let mut book = LentBook {
+        pins,
+        levels,
+        cycles,
+        sources,
+        count: 0,
+    };
+    Answer::from(pads::drive_pin(&mut board, &mut book, pin, kind, volts, cycle))
 }
 
 // Reset the pins.
@@ -189,7 +233,15 @@ pub extern "C" fn board_reset_pins(
     ensures answers { Answers (step (view words.old reals.old) (C.reset_pins cycle (places (slices pins.old levels.old cycles.old sources.old)))) result words.old words.new reals.old reals.new }
     ensures holds { Holds (step (view words.old reals.old) (C.reset_pins cycle (places (slices pins.old levels.old cycles.old sources.old)))).entries (slices pins.old levels.old cycles.old sources.old) (slices pins.new levels.new cycles.new sources.new) result.count }
 {
-    pads::reset_pins(words, reals, pins, levels, cycles, sources, cycle)
+    let mut board = LentBoard { words, reals };
+    let mut book = LentBook {
+        pins,
+        levels,
+        cycles,
+        sources,
+        count: 0,
+    };
+    Answer::from(pads::reset_pins(&mut board, &mut book, cycle))
 }
 
 // ---- timers
@@ -206,7 +258,7 @@ pub extern "C" fn board_read(
 ) -> Answer
     ensures { Answers (step (view words.now reals.now) (C.read timer offset size cycle)) result words.now words.now reals.now reals.now }
 {
-    mmio::read(words, reals, timer, offset, size, cycle)
+    Answer::from(mmio::read(words, timer, offset, size, cycle))
 }
 
 // Write a register.
@@ -227,9 +279,15 @@ pub extern "C" fn board_write(
     ensures answers { Answers (step (view words.old reals.old) (C.write timer offset size value cycle (places (slices pins.old levels.old cycles.old sources.old)))) result words.old words.new reals.old reals.new }
     ensures holds { Holds (step (view words.old reals.old) (C.write timer offset size value cycle (places (slices pins.old levels.old cycles.old sources.old)))).entries (slices pins.old levels.old cycles.old sources.old) (slices pins.new levels.new cycles.new sources.new) result.count }
 {
-    write::write(
-        words, reals, pins, levels, cycles, sources, timer, offset, size, value, cycle,
-    )
+    let mut board = LentBoard { words, reals };
+    let mut book = LentBook {
+        pins,
+        levels,
+        cycles,
+        sources,
+        count: 0,
+    };
+    Answer::from(write::write(&mut board, &mut book, timer, offset, size, value, cycle))
 }
 
 // Peek at a register.
@@ -243,7 +301,7 @@ pub extern "C" fn board_peek(
 ) -> Answer
     ensures { Answers (step (view words.now reals.now) (C.peek timer offset cycle)) result words.now words.now reals.now reals.now }
 {
-    mmio::peek(words, reals, timer, offset, cycle)
+    Answer::from(mmio::peek(words, timer, offset, cycle))
 }
 
 // Reset a timer.
@@ -261,7 +319,15 @@ pub extern "C" fn board_reset(
     ensures answers { Answers (step (view words.old reals.old) (C.reset_timer timer cycle (places (slices pins.old levels.old cycles.old sources.old)))) result words.old words.new reals.old reals.new }
     ensures holds { Holds (step (view words.old reals.old) (C.reset_timer timer cycle (places (slices pins.old levels.old cycles.old sources.old)))).entries (slices pins.old levels.old cycles.old sources.old) (slices pins.new levels.new cycles.new sources.new) result.count }
 {
-    mmio::reset(words, reals, pins, levels, cycles, sources, timer, cycle)
+    let mut board = LentBoard { words, reals };
+    let mut book = LentBook {
+        pins,
+        levels,
+        cycles,
+        sources,
+        count: 0,
+    };
+    Answer::from(mmio::reset(&mut board, &mut book, timer, cycle))
 }
 
 // Deliver the events that are due.
@@ -279,7 +345,15 @@ pub extern "C" fn board_deliver(
     ensures answers { Answers (step (view words.old reals.old) (C.deliver timer cycle (places (slices pins.old levels.old cycles.old sources.old)))) result words.old words.new reals.old reals.new }
     ensures holds { Holds (step (view words.old reals.old) (C.deliver timer cycle (places (slices pins.old levels.old cycles.old sources.old)))).entries (slices pins.old levels.old cycles.old sources.old) (slices pins.new levels.new cycles.new sources.new) result.count }
 {
-    mmio::deliver(words, reals, pins, levels, cycles, sources, timer, cycle)
+    let mut board = LentBoard { words, reals };
+    let mut book = LentBook {
+        pins,
+        levels,
+        cycles,
+        sources,
+        count: 0,
+    };
+    Answer::from(mmio::deliver(&mut board, &mut book, timer, cycle))
 }
 
 // ---- queries, and the pending clear
@@ -289,7 +363,7 @@ pub extern "C" fn board_deliver(
 pub extern "C" fn board_booked(words: &[u64; WORDS], reals: &[f64; REALS], timer: u32) -> Answer
     ensures { Answers (step (view words.now reals.now) (C.query_booked timer)) result words.now words.now reals.now reals.now }
 {
-    control::booked(words, reals, timer)
+    Answer::from(control::booked(words, timer))
 }
 
 // The least booked cycle.
@@ -297,7 +371,7 @@ pub extern "C" fn board_booked(words: &[u64; WORDS], reals: &[f64; REALS], timer
 pub extern "C" fn board_next(words: &[u64; WORDS], reals: &[f64; REALS]) -> Answer
     ensures { Answers (step (view words.now reals.now) C.query_next) result words.now words.now reals.now reals.now }
 {
-    control::next_booked(words, reals)
+    control::next_booked(words)
 }
 
 // A pin's level.
@@ -305,7 +379,7 @@ pub extern "C" fn board_next(words: &[u64; WORDS], reals: &[f64; REALS]) -> Answ
 pub extern "C" fn board_level(words: &[u64; WORDS], reals: &[f64; REALS], pin: u32) -> Answer
     ensures { Answers (step (view words.now reals.now) (C.query_level pin)) result words.now words.now reals.now reals.now }
 {
-    control::level(words, reals, pin)
+    Answer::from(control::level(SeenBoard { words, reals }, pin))
 }
 
 // A pin's volts, as bits.
@@ -313,7 +387,7 @@ pub extern "C" fn board_level(words: &[u64; WORDS], reals: &[f64; REALS], pin: u
 pub extern "C" fn board_volts(words: &[u64; WORDS], reals: &[f64; REALS], pin: u32) -> Answer
     ensures { Answers (step (view words.now reals.now) (C.query_volts pin)) result words.now words.now reals.now reals.now }
 {
-    control::volts(words, reals, pin)
+    Answer::from(control::volts(SeenBoard { words, reals }, pin))
 }
 
 // An interrupt line: 1 if high plus 2 if pending.
@@ -321,7 +395,7 @@ pub extern "C" fn board_volts(words: &[u64; WORDS], reals: &[f64; REALS], pin: u
 pub extern "C" fn board_line(words: &[u64; WORDS], reals: &[f64; REALS], irq: u32) -> Answer
     ensures { Answers (step (view words.now reals.now) (C.query_line irq)) result words.now words.now reals.now reals.now }
 {
-    control::line(words, reals, irq)
+    control::line(words, irq)
 }
 
 // Time at a cycle, as bits.
@@ -329,7 +403,7 @@ pub extern "C" fn board_line(words: &[u64; WORDS], reals: &[f64; REALS], irq: u3
 pub extern "C" fn board_time(words: &[u64; WORDS], reals: &[f64; REALS], cycle: u64) -> Answer
     ensures { Answers (step (view words.now reals.now) (C.query_time cycle)) result words.now words.now reals.now reals.now }
 {
-    control::time(words, reals, cycle)
+    Answer::from(control::time(SeenBoard { words, reals }, cycle))
 }
 
 // Why a pin is low at a cycle: the first true reason, 0 to 10. 8 while an event that can change it is due.
@@ -342,7 +416,7 @@ pub extern "C" fn board_why(
 ) -> Answer
     ensures { Answers (step (view words.now reals.now) (C.query_why pin cycle)) result words.now words.now reals.now reals.now }
 {
-    why::why(words, reals, pin, cycle)
+    Answer::from(why::why(SeenBoard { words, reals }, pin, cycle))
 }
 
 // Clear a pending interrupt.
@@ -354,7 +428,7 @@ pub extern "C" fn board_clear_pending(
 ) -> Answer
     ensures { Answers (step (view words.old reals.now) (C.clear_pending irq)) result words.old words.new reals.now reals.now }
 {
-    control::clear_pending(words, reals, irq)
+    control::clear_pending(words, irq)
 }
 
 // ---- every small pilot

@@ -1,4 +1,5 @@
 -- What holds of every timer that a call can leave holds of every timer of every board that calls lead to. Assumes nothing.
+use Rattle.std.specs.Option.{is_some, unwrap_or}
 use mathlib.Core.Path.{◌∙◌}
 use mathlib.Core.Bool.{cond}
 use mathlib.Core.List.{List, [], ◌∷◌, ◌++◌, map}
@@ -64,7 +65,7 @@ module _ (P : Timer → Type 0) (none : P no_timer) (reset : (i : Inst) (div : �
   unfolding followed line_settled rebooked
   every-followed b i cycle w h p =
       let t = w.timer in
-      let q = cond w.drive (Sys.drive_outputs t w.cnt b.pads).pads b.pads in
+      let q = cond (is_some w.drive) (Sys.drive_outputs t (unwrap_or w.drive 0) b.pads).pads b.pads in
       let c = with_pads (with_timer b i t) q in
       let m = cond w.line (line_settled i t c) c in
       let e : Every c = all_set b.timers i t h p in

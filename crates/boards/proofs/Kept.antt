@@ -1,4 +1,5 @@
 -- The timers of every board that calls lead to: each steps by its prescaler and divider, and its reference is not after the last call. Assumes nothing.
+use Rattle.std.specs.Option.{is_some, unwrap_or}
 use mathlib.Core.Path.{◌≡◌, refl, sym, ap, ◌∙◌, subst}
 use mathlib.Core.Bool.{Bool, true, false, cond, not, ◌&&◌, ◌||◌}
 use mathlib.Core.List.{List, [], ◌∷◌, ◌++◌, map}
@@ -112,7 +113,7 @@ module _ (b : Board) (s : Sound b) (h : Timers b) where
   unfolding followed line_settled rebooked
   by-followed i cycle w k =
       let t = w.timer in
-      let p = cond w.drive (Sys.drive_outputs t w.cnt b.pads).pads b.pads in
+      let p = cond (is_some w.drive) (Sys.drive_outputs t (unwrap_or w.drive 0) b.pads).pads b.pads in
       let c = with_pads (with_timer b i t) p in
       let l = cond w.line (line_settled i t c) c in
       let kl : By cycle l = either (By cycle) w.line k k in

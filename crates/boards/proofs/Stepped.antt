@@ -1,4 +1,5 @@
 -- What a delivery and a write do to a timer of a board that calls lead to, of the statement of specs/Boards.antt. Assumes nothing.
+use Rattle.std.specs.Option.{is_some, unwrap_or}
 use mathlib.Core.Path.{◌≡◌, refl, sym, ap, ◌∙◌, subst}
 use mathlib.Core.Bool.{Bool, true, false, cond}
 use mathlib.Core.List.{List}
@@ -93,7 +94,7 @@ module _ (b : Board) (s : Sound b) (i cycle : ℕ) (l : i < b.counts.timers) whe
   unfolding followed line_settled rebooked
   followed-timer w =
       let t = w.timer in
-      let q = cond w.drive (Sys.drive_outputs t w.cnt b.pads).pads b.pads in
+      let q = cond (is_some w.drive) (Sys.drive_outputs t (unwrap_or w.drive 0) b.pads).pads b.pads in
       let c = with_pads (with_timer b i t) q in
       let m = cond w.line (line_settled i t c) c in
       let e : timer_at c i ≡ t = at_place b i t s.timers s.few-timers l in

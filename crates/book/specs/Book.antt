@@ -1,8 +1,8 @@
 -- The lent book (document 01: "three slices (pin, level, cycle) filled from place 0"; document 02, F-5: "The book gains [the source] as a fourth byte
 -- slice").
-use Rattle.std.specs.Prelude.{◌≡◌, List, [], ◌∷◌, ◌++◌, map, ℕ, ◌+◌, ◌≤◌, min, set, length, drop}
-use Rattle.gpio.specs.declared.Change.{Change}
-use Rattle.gpio.specs.declared.Change.TheVariants.{Same, Level}
+use Rattle.std.specs.Prelude.{◌≡◌, List, [], ◌∷◌, ◌++◌, map, ℕ, ◌+◌, ◌≤◌, min, set, length, drop, Option, Some, None}
+use Rattle.pins.specs.Pins.{source_number}
+use Rattle.gpio.specs.declared.Edge.{Edge}
 
 -- an entry: a pin's new level, the cycle of the change, and the level's source
 pub record Entry : Type 0 where
@@ -55,16 +55,16 @@ puts b [] = b
 puts b (e ∷ es) = puts (put b e) es
 
 -- "An entry is made exactly when a pin's level changes."
-unfoldable pub entry_of : ℕ → Change → List Entry
-entry_of cycle Same = []
-entry_of cycle (Level p l s) = record { pin = p; level = l; cycle = cycle; source = s } ∷ []
+unfoldable pub entry_of : ℕ → Option Edge → List Entry
+entry_of cycle None = []
+entry_of cycle (Some e) = record { pin = e.pin; level = e.level; cycle = cycle; source = source_number e.source } ∷ []
 
 -- the level changes of a timer's four channels
 pub record Changes : Type 0 where
-  pub a : Change
-  pub b : Change
-  pub c : Change
-  pub d : Change
+  pub a : Option Edge
+  pub b : Option Edge
+  pub c : Option Edge
+  pub d : Option Edge
 
 -- their entries, in order
 unfoldable pub entries_of : ℕ → Changes → List Entry

@@ -1,50 +1,51 @@
 // The book that a call is lent: four slices, filled from place 0. Every entry is written here.
 #![tactic(auto)]
 
-ghost use Rattle.std.specs.Prelude.{◌≡◌, length};
-ghost use Prim.Native.Nat.{◌+◌, ◌≤◌, ◌<◌};
-ghost use Rattle.book.specs.Book.{book, puts, entry_of, places, slices, Room};
+ghost use Rattle.std.specs.Prelude.{◌≡◌};
+ghost use Prim.Native.Nat.{◌+◌, ◌≤◌};
+ghost use Rattle.book.specs.Book.{puts, entry_of, places, Room};
+ghost use Rattle.book.specs.Lent.{slices_of, filled, SameSlices};
 
-use gpio::Change;
+use gpio::Edge;
 
-pub fn lesser(a: usize, b: usize) -> usize
-    ensures { result ≡ Prim.Native.Nat.min a b }
-{
-    if a <= b { a } else { b }
+// The lent slices, and how many of their places hold an entry.
+#[derive(Drop)]
+pub struct LentBook<'a> {
+    pub pins: &'a mut [u8],
+    pub levels: &'a mut [u8],
+    pub cycles: &'a mut [u64],
+    pub sources: &'a mut [u8],
+    pub count: usize,
 }
 
-// The book's length: the shortest of the four.
-pub fn room(pins: &[u8], levels: &[u8], cycles: &[u64], sources: &[u8]) -> usize
-    ensures { result ≡ places (slices pins.now levels.now cycles.now sources.now) }
-{
-    let a = pins.len();
-    let b = levels.len();
-    let c = cycles.len();
-    let d = sources.len();
-    lesser(a, lesser(b, lesser(c, d)))
-}
+impl LentBook<'_> {
+    // The book's length: the shortest of the four.
+    #[inline(always)]
+    pub fn places(&self) -> usize
+        ensures { result ≡ places (slices_of self.now) }
+    {
+        self.pins
+            .len()
+            .min(self.levels.len())
+            .min(self.cycles.len())
+            .min(self.sources.len())
+    }
 
-// Writes a level change as the entry at place n; the next place, which is the writer's count.
-pub fn append(
-    pins: &mut [u8],
-    levels: &mut [u8],
-    cycles: &mut [u64],
-    sources: &mut [u8],
-    n: usize,
-    change: Change,
-    cycle: u64,
-) -> usize
-    requires { Room (n + 1) (slices pins.old levels.old cycles.old sources.old) }
-    ensures result_after { book (slices pins.new levels.new cycles.new sources.new) result ≡ puts (book (slices pins.old levels.old cycles.old sources.old) n) (entry_of cycle change) }
-    ensures upper_bound { result ≤ n + 1 }
-{
-    match change {
-        Change::Same => n,
-        Change::Level(p, l, s) => {
-            pins[n] = p;
-            levels[n] = l;
-            sources[n] = s;
-            writer::append(cycles, n, cycle)
+    // Writes a level change as the next entry.
+    #[tactic(auto, unfolding(crate::specs::Book::entry_of, crate::specs::Book::puts))]
+    #[inline(always)]
+    pub fn append(&mut self, change: Option<Edge>, cycle: u64)
+        requires { Room (self.old.count + 1) (slices_of self.old) }
+        ensures same_slices { SameSlices self.old self.new }
+        ensures entered { filled self.new ≡ puts (filled self.old) (entry_of cycle change) }
+        ensures at_most_one { self.new.count ≤ self.old.count + 1 }
+    {
+        if let Some(edge) = change {
+            let n = self.count;
+            self.pins[n] = edge.pin;
+            self.levels[n] = edge.level;
+            self.sources[n] = edge.source.number();
+            self.count = writer::append(self.cycles, n, cycle);
         }
     }
 }

@@ -7,9 +7,9 @@ use native.Mathlib.Nat.{add-zero, zero-add}
 use native.Mathlib.Omega.{arith}
 use lib.Dec.{eqb, ltb, leb}
 use lib.Ieee.{Float}
-use lib.ListN.{length, take, drop, set, length-map, length-append, length-drop, take-append-drop}
+use lib.ListN.{length, take, drop, set, length-map, length-drop, take-append-drop}
 use lib.Seq.{sets, sets-eq, drop-drop, drop-append-le, length-take-le, take_all}
-use borrow.Author.Tests.{ltb-false, leb-true, eqb-false}
+use borrow.Author.Tests.{le-ltb, lt-ltb, ltb-false, leb-true, eqb-false}
 use Rattle.book.specs.Book.{Entry, Lent, slices, Room, Book, book, puts, places, over, Holds}
 use Rattle.book.proofs.Laws.{puts-append, holds, roomy}
 use Rattle.machine.specs.Board.{Board}
@@ -68,10 +68,6 @@ whole at end p q = take at p ++ (q ++ drop (end - at) (drop at p))
 part_length : (at end : ℕ) (p : List ℕ) → at ≤ end → end ≤ length p → length (part at end p) ≡ end - at
 part_length at end p h g = length-take-le (end - at) (drop at p) (omega (arith, length-drop at p))
 
-pub whole_length : (at end : ℕ) (p q : List ℕ) → at ≤ end → end ≤ length p → length q ≡ length (part at end p) → length (whole at end p q) ≡ length p
-whole_length at end p q h g e =
-    omega (arith, length-append (take at p) (q ++ drop (end - at) (drop at p)), length-append q (drop (end - at) (drop at p)), length-drop (end - at) (drop at p), length-drop at p, length-take-le at p (omega arith), part_length at end p h g)
-
 -- entries over a part are stores in the whole
 whole-over : (xs p : List ℕ) (at end : ℕ) → at ≤ end → end ≤ length p → length xs ≤ end - at → whole at end p (over xs (part at end p)) ≡ sets p at xs
 whole-over xs p at end h g n =
@@ -121,27 +117,33 @@ parts-put es u u₁ at end n h f m q =
     same = rw (laid (λ (e : Entry). e.pin) u.pins u₁.pins f.0 q.pins, laid (λ (e : Entry). e.level) u.levels u₁.levels f.1 q.levels, laid (λ (e : Entry). e.cycle) u.cycles u₁.cycles f.2 q.cycles, laid (λ (e : Entry). e.source) u.sources u₁.sources f.3 q.sources)
 
 -- ---- one call
-module _ (ns : List ℕ) (b : Board) (r : Answer) (w w₁ : List ℕ) (x x₁ : List Float) (u u₁ : Lent) (at end : ℕ) where
-  pub part-does : at + book_of ns ≡ end → Room end u
-      → Answers (step b (call_with ns (places (cut at end u)))) r w w₁ x x₁ × Holds (step b (call_with ns (places (cut at end u)))).entries (cut at end u) u₁ r.count
-      → Answers (step b (call_of ns)) r w w₁ x x₁ × (book (mended at end u u₁) (at + r.count) ≡ puts (book u at) (step b (call_of ns)).entries)
-  part-does e f h =
-      let n : places (cut at end u) ≡ book_of ns
-      = omega (arith, part_length at end u.pins (omega arith) f.0, part_length at end u.levels (omega arith) f.1, part_length at end u.cycles (omega arith) f.2, part_length at end u.sources (omega arith) f.3) in
-      let g = subst (λ (k : ℕ). Answers (step b (call_with ns k)) r w w₁ x x₁ × Holds (step b (call_with ns k)).entries (cut at end u) u₁ r.count) n h in
-      (g.0, parts-put (step b (call_of ns)).entries u u₁ at end r.count (omega arith) f (omega (arith, (entries_fit b (call_of ns)).places, lent_of ns)) g.1)
+module _ (ns : List ℕ) (b : Board) (u : Lent) (at need : ℕ) (e : need ≡ book_of ns) (f : Room (at + need) u) where
+  lent-part : places (cut at (at + need) u) ≡ book_of ns
+  lent-part =
+      omega (arith, e, part_length at (at + need) u.pins (omega arith) f.0, part_length at (at + need) u.levels (omega arith) f.1, part_length at (at + need) u.cycles (omega arith) f.2, part_length at (at + need) u.sources (omega arith) f.3)
 
-pub three-words : (a : List ℕ) (i x y z : ℕ) → set (set (set a i x) (i + 1) y) (i + 2) z ≡ sets a i (x ∷ y ∷ z ∷ [])
-three-words a i x y z =
-    let e : i + 1 ≡ suc i = omega arith in
-    let f : i + 2 ≡ suc (suc i) = omega arith in
-    ap (λ (k : ℕ). set (set (set a i x) k y) (i + 2) z) e ∙ ap (λ (k : ℕ). set (set (set a i x) (suc i) y) k z) f
+  pub part-entered : (u₁ : Lent) (n : ℕ) → Holds (step b (call_with ns (places (cut at (at + need) u)))).entries (cut at (at + need) u) u₁ n
+      → book (mended at (at + need) u u₁) (at + n) ≡ puts (book u at) (step b (call_of ns)).entries
+  part-entered u₁ n h =
+      parts-put (step b (call_of ns)).entries u u₁ at (at + need) n (omega arith) f (omega (arith, e, (entries_fit b (call_of ns)).places, lent_of ns))
+      (subst (λ (k : ℕ). Holds (step b (call_with ns k)).entries (cut at (at + need) u) u₁ n) lent-part h)
+
+-- a part of three words exchanged is three stores
+pub three-words : (a : List ℕ) (i x y z : ℕ) → i + 3 ≤ length a → whole i (i + 3) a (x ∷ y ∷ z ∷ []) ≡ sets a i (x ∷ y ∷ z ∷ [])
+three-words a i x y z h =
+    let n : i + 3 - i ≡ 3 = omega arith in
+    ap (λ (k : ℕ). take i a ++ ((x ∷ y ∷ z ∷ []) ++ drop k (drop i a))) n
+    ∙ ap (λ (l : List ℕ). take i a ++ ((x ∷ y ∷ z ∷ []) ++ l)) (drop-drop 3 i a)
+    ∙ sym (append_assoc (take i a) (x ∷ y ∷ z ∷ []) (drop (i + 3) a)) ∙ sym (sets-eq (x ∷ y ∷ z ∷ []) a i h)
 
 pub call-does : (o : Outcome) (r : Answer) (w w₁ : List ℕ) (x x₁ : List Float) (i : ℕ) (a a₁ : List ℕ) (k k₁ : Book)
     → Answers o r w w₁ x x₁ → a₁ ≡ sets a i (r.number ∷ r.value ∷ r.count ∷ []) → k₁ ≡ puts k o.entries
-    → (r.count ≡ length o.entries) × Does o (view w₁ x₁) i a a₁ k k₁
-call-does o r w w₁ x x₁ i a a₁ k k₁ h e f =
-    (h.count, record { board = h.board; answer = e ∙ ap (λ (n : ℕ). sets a i (n ∷ r.value ∷ r.count ∷ [])) h.number ∙ ap (λ (n : ℕ). sets a i (o.number ∷ n ∷ r.count ∷ [])) h.value ∙ ap (λ (n : ℕ). sets a i (o.number ∷ o.value ∷ n ∷ [])) h.count; entries = f })
+    → Does o (view w₁ x₁) i a a₁ k k₁
+call-does o r w w₁ x x₁ i a a₁ k k₁ h e f = record {
+  board = h.board;
+  answer = e ∙ ap (λ (n : ℕ). sets a i (n ∷ r.value ∷ r.count ∷ [])) h.number ∙ ap (λ (n : ℕ). sets a i (o.number ∷ n ∷ r.count ∷ [])) h.value ∙ ap (λ (n : ℕ). sets a i (o.number ∷ o.value ∷ n ∷ [])) h.count;
+  entries = f;
+}
 
 -- ---- the words of a call
 module _ (ns : List ℕ) where
@@ -175,6 +177,18 @@ free len words room need s e f = go (eqb len 0) (ltb words 3) (ltb room need) re
     go false true v a b c h = absurd (false≢true (sym h))
     go false false true a b c h = absurd (false≢true (sym h))
     go false false false a b c h = record { some = omega (arith, eqb-false len 0 a); three = ltb-false words 3 b; fits = ltb-false room need c }
+
+-- with room for an answer, the two other tests
+pub stops_of : (words room len need : ℕ) (s : Bool) → 3 ≤ words → s ≡ (eqb len 0 || ltb room need) → s ≡ (eqb len 0 || no_room words room need)
+stops_of words room len need s h e = rw (le-ltb words 3 h) e
+
+-- without it, whatever they say
+full : (words room len need : ℕ) → words ≤ 2 → (eqb len 0 || no_room words room need) ≡ true
+full words room len need h = rw (lt-ltb words 3 (omega (arith, h))) (go (eqb len 0))
+  where
+    go : (t : Bool) → (t || true) ≡ true
+    go true = refl
+    go false = refl
 
 -- ---- the calls that are left
 taken-stops : (b : Board) (ns : List ℕ) (n words room : ℕ) → (eqb (len_of ns) 0 || no_room words room (book_of ns)) ≡ true → taken b (calls_from n ns) words room ≡ []
@@ -243,23 +257,6 @@ pub record Going (ns : List ℕ) (room : ℕ) (b₀ b : Board) (a₀ a : List �
   pub words : done * 3 ≤ length a₀
   pub places : k.count ≤ room
 
-pub begins : (ns : List ℕ) (room : ℕ) (b : Board) (a : List ℕ) (k : Book) → k.count ≡ 0 → Going ns room b b a a k k 0 0
-begins ns room b a k e =
-    let f : length ns ≡ length ns - 0 = omega arith in
-    let m : ns ≡ rest 0 ns = sym (rest-is 0 ns) in
-    let g : length a ≡ length a - 0 * 3 = omega arith in
-    let h : room ≡ room - k.count = omega arith in
-    record {
-      same = ap (λ (n : ℕ). finish b (taken b (calls_from n ns) (length a) room) 0 a k) f
-          ∙ ap (λ (l : List ℕ). finish b (taken b (calls_from (length ns - 0) l) (length a) room) 0 a k) m
-          ∙ ap (λ (n : ℕ). finish b (taken b (calls_from (length ns - 0) (rest 0 ns)) n room) 0 a k) g
-          ∙ ap (λ (n : ℕ). finish b (taken b (calls_from (length ns - 0) (rest 0 ns)) (length a - 0 * 3) n) 0 a k) h;
-      few = omega arith;
-      within = omega arith;
-      words = omega arith;
-      places = omega arith;
-    }
-
 module _ (ns : List ℕ) (room : ℕ) (b₀ b : Board) (a₀ a : List ℕ) (k₀ k : Book) (at done : ℕ) (q : Going ns room b₀ b a₀ a k₀ k at done)
     (len need : ℕ) (e : len ≡ len_of (rest at ns)) (f : need ≡ book_of (rest at ns)) (s : Bool) (g : s ≡ (eqb len 0 || no_room (length a₀ - done * 3) (room - k.count) need)) where
   test : s ≡ (eqb (len_of (rest at ns)) 0 || no_room (length a₀ - done * 3) (room - k.count) (book_of (rest at ns)))
@@ -310,6 +307,11 @@ module _ (ns : List ℕ) (room : ℕ) (b₀ b : Board) (a₀ a : List ℕ) (k₀
   pub stopped : s ≡ true → finish b₀ (taken b₀ (calls_of ns) (length a₀) room) 0 a₀ k₀ ≡ finish b [] done a k
   stopped o = q.same ∙ ap (λ (cs : List Call). finish b cs done a k) (taken-stops b (rest at ns) (length ns - done) (length a₀ - done * 3) (room - k.count) (sym test ∙ o))
 
+pub filled_up : (ns : List ℕ) (room : ℕ) (b₀ b : Board) (a₀ a : List ℕ) (k₀ k : Book) (at done : ℕ) → Going ns room b₀ b a₀ a k₀ k at done
+    → length a₀ - done * 3 ≤ 2 → finish b₀ (taken b₀ (calls_of ns) (length a₀) room) 0 a₀ k₀ ≡ finish b [] done a k
+filled_up ns room b₀ b a₀ a k₀ k at done q h =
+    q.same ∙ ap (λ (cs : List Call). finish b cs done a k) (taken-stops b (rest at ns) (length ns - done) (length a₀ - done * 3) (room - k.count) (full (length a₀ - done * 3) (room - k.count) (len_of (rest at ns)) (book_of (rest at ns)) h))
+
 answers-length : (b : Board) (cs : List Call) → length (answers_of (run b cs)) ≡ length cs * 3
 unfolding run answers_of
 answers-length b [] = refl
@@ -338,3 +340,11 @@ pub room-ends : (ns : List ℕ) (b₀ b : Board) (a₀ a : List ℕ) (u₀ u : L
 room-ends ns b₀ b a₀ a u₀ u done n room e h w x =
     subst (λ (k : ℕ). Runs b₀ (taken b₀ (calls_of ns) (length a₀) k) b (record { calls = done; entries = n }) a₀ a u₀ u) e
     (ends b₀ b (taken b₀ (calls_of ns) (length a₀) room) a₀ a u₀ u done n h w (roomy u₀ n room (omega (arith, e)) x))
+
+-- the same where every place for an answer is used
+pub ends-full : (ns : List ℕ) (room : ℕ) (b₀ b : Board) (a₀ a : List ℕ) (u₀ u : Lent) (at done n m : ℕ) → Going ns room b₀ b a₀ a (book u₀ 0) (book u n) at done
+    → done ≡ m → length a₀ - done * 3 ≤ 2 → room ≡ places u₀
+    → Runs b₀ (taken b₀ (calls_of ns) (length a₀) (places u₀)) b (record { calls = m; entries = n }) a₀ a u₀ u
+ends-full ns room b₀ b a₀ a u₀ u at done n m q e h r =
+    subst (λ (k : ℕ). Runs b₀ (taken b₀ (calls_of ns) (length a₀) (places u₀)) b (record { calls = k; entries = n }) a₀ a u₀ u) e
+    (room-ends ns b₀ b a₀ a u₀ u done n room r (filled_up ns room b₀ b a₀ a (book u₀ 0) (book u n) at done q h) q.words q.places)

@@ -1,78 +1,104 @@
 // Calls as words of 32 bits (docs/CALLS.md's order): each is performed as the machine's `step` says.
 #![tactic(auto)]
 
-ghost use Rattle.std.specs.Prelude.{◌≡◌, ◌||◌, [], ◌∷◌, ◌+◌, ◌*◌, ◌<◌, ◌≤◌, eqb, length};
-ghost use Rattle.std.specs.Float.Ieee as Ieee;
+ghost use Rattle.std.specs.Prelude.{◌≡◌, ◌||◌, List, [], ◌∷◌, ◌+◌, ◌*◌, ◌<◌, ◌≤◌, ltb, eqb, length, Float};
 ghost use Rattle.std.proofs.lemmas.List.Edits.{sets};
-ghost use Rattle.book.specs.Book.{book, puts, places, Holds, slices, Room};
+ghost use Rattle.book.specs.Book.{puts, places, Holds, Room, slices};
+ghost use Rattle.book.specs.Lent.{slices_of, filled, SameSlices};
+ghost use Rattle.state.specs.Lent.{lent_board, seen_board, SameLoan};
 ghost use Rattle.state.specs.View.{view};
 ghost use Rattle.machine.specs.Step.{step};
-ghost use Rattle.answer.specs.Promise.{Answers};
+ghost use Rattle.answer.specs.Promise.{Answers, AnswersLent, Tells};
+ghost use Rattle.answer.specs.Refused.{told};
 ghost use Rattle.encoding.specs.Encoding as E;
-ghost use Rattle.calls.specs.Taken.{no_room, Does, Performs};
+ghost use Rattle.calls.specs.Taken.{Performs};
 
-use answer::Answer;
-use clk::ClockTree;
-use state::{REALS, WORDS};
+use answer::{Answer, Refusal};
+use book::LentBook;
+use encoding::Operation;
+use pads::PinSetting;
+use setup::SetUp;
+use state::{LentBoard, SeenBoard, WORDS};
 
 // ---- questions
 
-fn read(words: &[u64; WORDS], reals: &[f64; REALS], calls: &[u32]) -> Answer
-    ensures { Answers (step (view words.now reals.now) (E.question_call 6 calls.now)) result words.now words.now reals.now reals.now }
+#[tactic(auto, unfolding(encoding::specs::Encoding::question_call))]
+fn read(words: &[u64; WORDS], calls: &[u32]) -> Result<Answer, Refusal>
+    ensures { (x : List Float) → Answers (step (view words.now x) (E.question_call 6 calls.now)) (told result) words.now words.now x x }
 {
     let timer = encoding::word(calls, 1);
     let offset = encoding::word(calls, 2);
     let size = encoding::word(calls, 3);
     let cycle = encoding::word64(calls, 4);
-    mmio::read(words, reals, timer, offset, size, cycle)
+    mmio::read(words, timer, offset, size, cycle)
 }
 
-fn peek(words: &[u64; WORDS], reals: &[f64; REALS], calls: &[u32]) -> Answer
-    ensures { Answers (step (view words.now reals.now) (E.question_call 8 calls.now)) result words.now words.now reals.now reals.now }
+#[tactic(auto, unfolding(encoding::specs::Encoding::question_call))]
+fn peek(words: &[u64; WORDS], calls: &[u32]) -> Result<Answer, Refusal>
+    ensures { (x : List Float) → Answers (step (view words.now x) (E.question_call 8 calls.now)) (told result) words.now words.now x x }
 {
     let timer = encoding::word(calls, 1);
     let offset = encoding::word(calls, 2);
     let cycle = encoding::word64(calls, 3);
-    mmio::peek(words, reals, timer, offset, cycle)
+    mmio::peek(words, timer, offset, cycle)
 }
 
-fn time(words: &[u64; WORDS], reals: &[f64; REALS], calls: &[u32]) -> Answer
-    ensures { Answers (step (view words.now reals.now) (E.question_call 16 calls.now)) result words.now words.now reals.now reals.now }
+#[tactic(auto, unfolding(encoding::specs::Encoding::question_call))]
+fn booked(words: &[u64; WORDS], calls: &[u32]) -> Result<Answer, Refusal>
+    ensures { (x : List Float) → Answers (step (view words.now x) (E.question_call 11 calls.now)) (told result) words.now words.now x x }
+{
+    let timer = encoding::word(calls, 1);
+    control::booked(words, timer)
+}
+
+#[tactic(auto, unfolding(encoding::specs::Encoding::question_call))]
+fn level(board: SeenBoard<'_>, calls: &[u32]) -> Result<Answer, Refusal>
+    ensures { Tells (step (seen_board board.entry) (E.question_call 13 calls.now)) (told result) board.entry }
+{
+    let pin = encoding::word(calls, 1);
+    control::level(board, pin)
+}
+
+#[tactic(auto, unfolding(encoding::specs::Encoding::question_call))]
+fn volts(board: SeenBoard<'_>, calls: &[u32]) -> Result<Answer, Refusal>
+    ensures { Tells (step (seen_board board.entry) (E.question_call 14 calls.now)) (told result) board.entry }
+{
+    let pin = encoding::word(calls, 1);
+    control::volts(board, pin)
+}
+
+#[tactic(auto, unfolding(encoding::specs::Encoding::question_call))]
+fn line(words: &[u64; WORDS], calls: &[u32]) -> Answer
+    ensures { (x : List Float) → Answers (step (view words.now x) (E.question_call 15 calls.now)) result words.now words.now x x }
+{
+    let irq = encoding::word(calls, 1);
+    control::line(words, irq)
+}
+
+#[tactic(auto, unfolding(encoding::specs::Encoding::question_call))]
+fn time(board: SeenBoard<'_>, calls: &[u32]) -> Result<Answer, Refusal>
+    ensures { Tells (step (seen_board board.entry) (E.question_call 16 calls.now)) (told result) board.entry }
 {
     let cycle = encoding::word64(calls, 1);
-    control::time(words, reals, cycle)
+    control::time(board, cycle)
 }
 
-fn why(words: &[u64; WORDS], reals: &[f64; REALS], calls: &[u32]) -> Answer
-    ensures { Answers (step (view words.now reals.now) (E.question_call 18 calls.now)) result words.now words.now reals.now reals.now }
+#[tactic(auto, unfolding(encoding::specs::Encoding::question_call))]
+fn why(board: SeenBoard<'_>, calls: &[u32]) -> Result<Answer, Refusal>
+    ensures { Tells (step (seen_board board.entry) (E.question_call 18 calls.now)) (told result) board.entry }
 {
     let pin = encoding::word(calls, 1);
     let cycle = encoding::word64(calls, 2);
-    why::why(words, reals, pin, cycle)
-}
-
-fn question(words: &[u64; WORDS], reals: &[f64; REALS], calls: &[u32], op: u32) -> Answer
-    ensures { Answers (step (view words.now reals.now) (E.question_call op calls.now)) result words.now words.now reals.now reals.now }
-{
-    let k = encoding::word(calls, 1);
-    match op {
-        6 => read(words, reals, calls),
-        8 => peek(words, reals, calls),
-        11 => control::booked(words, reals, k),
-        13 => control::level(words, reals, k),
-        14 => control::volts(words, reals, k),
-        15 => control::line(words, reals, k),
-        16 => time(words, reals, calls),
-        18 => why(words, reals, calls),
-        _ => control::next_booked(words, reals),
-    }
+    why::why(board, pin, cycle)
 }
 
 // ---- changes without a book
 
-fn set_up(words: &mut [u64; WORDS], reals: &mut [f64; REALS], calls: &[u32]) -> Answer
+#[tactic(auto, unfolding(encoding::specs::Encoding::change_call))]
+fn set_up(board: &mut LentBoard<'_>, calls: &[u32]) -> Result<Answer, Refusal>
     requires { 10 + E.word calls.now 7 * 7 + E.word calls.now 8 ≤ length calls.now }
-    ensures { Answers (step (view words.old reals.old) (E.change_call 0 calls.now)) result words.old words.new reals.old reals.new }
+    ensures same_loan { SameLoan board.old board.new }
+    ensures answers { AnswersLent (step (lent_board board.old) (E.change_call 0 calls.now)) (told result) board.old board.new }
 {
     let hz = encoding::real64(calls, 1);
     let vcc = encoding::real64(calls, 3);
@@ -85,57 +111,57 @@ fn set_up(words: &mut [u64; WORDS], reals: &mut [f64; REALS], calls: &[u32]) -> 
     let end = start + len as usize;
     let timers = &calls[10..start];
     let table = &calls[start..end];
-    setup::set_up(words, reals, hz, vcc, pins, lines, manual, timers, table)
+    let s = SetUp {
+        hz,
+        vcc,
+        pins,
+        lines,
+        manual,
+        timers,
+        table,
+    };
+    setup::set_up(board, s)
 }
 
-fn clock(words: &mut [u64; WORDS], reals: &mut [f64; REALS], calls: &[u32]) -> Answer
-    ensures { Answers (step (view words.old reals.old) (E.change_call 1 calls.now)) result words.old words.new reals.old reals.new }
+#[tactic(auto, unfolding(encoding::specs::Encoding::change_call))]
+fn clock(board: &mut LentBoard<'_>, calls: &[u32]) -> Result<Answer, Refusal>
+    ensures same_loan { SameLoan board.old board.new }
+    ensures answers { AnswersLent (step (lent_board board.old) (E.change_call 1 calls.now)) (told result) board.old board.new }
 {
     let t = encoding::tree_of(calls);
     let cycle = encoding::word64(calls, 11);
-    control::set_clock_tree(words, reals, t, cycle)
+    control::set_clock_tree(board, t, cycle)
 }
 
-fn enable(words: &mut [u64; WORDS], reals: &[f64; REALS], calls: &[u32]) -> Answer
-    ensures { Answers (step (view words.old reals.now) (E.change_call 2 calls.now)) result words.old words.new reals.now reals.now }
+#[tactic(auto, unfolding(encoding::specs::Encoding::change_call))]
+fn enable(words: &mut [u64; WORDS], calls: &[u32]) -> Result<Answer, Refusal>
+    ensures { (x : List Float) → Answers (step (view words.old x) (E.change_call 2 calls.now)) (told result) words.old words.new x x }
 {
     let w = encoding::word(calls, 1);
     let value = encoding::word(calls, 2);
-    control::enable(words, reals, w, value)
+    control::enable(words, w, value)
 }
 
-fn clear_pending(words: &mut [u64; WORDS], reals: &[f64; REALS], calls: &[u32]) -> Answer
-    ensures { Answers (step (view words.old reals.now) (E.change_call 17 calls.now)) result words.old words.new reals.now reals.now }
+#[tactic(auto, unfolding(encoding::specs::Encoding::change_call))]
+fn clear_pending(words: &mut [u64; WORDS], calls: &[u32]) -> Answer
+    ensures { (x : List Float) → Answers (step (view words.old x) (E.change_call 17 calls.now)) result words.old words.new x x }
 {
     let irq = encoding::word(calls, 1);
-    control::clear_pending(words, reals, irq)
-}
-
-fn change(words: &mut [u64; WORDS], reals: &mut [f64; REALS], calls: &[u32], op: u32) -> Answer
-    requires { E.size_of op calls.now ≤ length calls.now }
-    ensures { Answers (step (view words.old reals.old) (E.change_call op calls.now)) result words.old words.new reals.old reals.new }
-{
-    match op {
-        0 => set_up(words, reals, calls),
-        1 => clock(words, reals, calls),
-        2 => enable(words, reals, calls),
-        _ => clear_pending(words, reals, calls),
-    }
+    control::clear_pending(words, irq)
 }
 
 // ---- calls that are lent a book
 
+#[tactic(auto, unfolding(encoding::specs::Encoding::book_call))]
 fn set_pin(
-    words: &mut [u64; WORDS],
-    reals: &mut [f64; REALS],
+    board: &mut LentBoard<'_>,
+    book: &mut LentBook<'_>,
     calls: &[u32],
-    pins: &mut [u8],
-    levels: &mut [u8],
-    cycles: &mut [u64],
-    sources: &mut [u8],
-) -> Answer
-    ensures answers { Answers (step (view words.old reals.old) (E.book_call 3 calls.now (places (slices pins.old levels.old cycles.old sources.old)))) result words.old words.new reals.old reals.new }
-    ensures holds { Holds (step (view words.old reals.old) (E.book_call 3 calls.now (places (slices pins.old levels.old cycles.old sources.old)))).entries (slices pins.old levels.old cycles.old sources.old) (slices pins.new levels.new cycles.new sources.new) result.count }
+) -> Result<Answer, Refusal>
+    ensures same_loan { SameLoan board.old board.new }
+    ensures same_slices { SameSlices book.old book.new }
+    ensures answers { AnswersLent (step (lent_board board.old) (E.book_call 3 calls.now (places (slices_of book.old)))) (told result) board.old board.new }
+    ensures holds { Holds (step (lent_board board.old) (E.book_call 3 calls.now (places (slices_of book.old)))).entries (slices_of book.old) (slices_of book.new) (told result).count }
 {
     let pin = encoding::word(calls, 1);
     let mode = encoding::word(calls, 2);
@@ -145,151 +171,138 @@ fn set_pin(
     let pulldown = encoding::word(calls, 6);
     let function = encoding::word(calls, 7);
     let cycle = encoding::word64(calls, 8);
-    pads::set_pin(
-        words, reals, pins, levels, cycles, sources, pin, mode, open_drain, out, pullup, pulldown,
-        function, cycle,
-    )
+    let setting = PinSetting {
+        mode,
+        open_drain,
+        out,
+        pullup,
+        pulldown,
+        function,
+    };
+    pads::set_pin(board, book, pin, setting, cycle)
 }
 
+#[tactic(auto, unfolding(encoding::specs::Encoding::book_call))]
 fn drive_pin(
-    words: &mut [u64; WORDS],
-    reals: &mut [f64; REALS],
+    board: &mut LentBoard<'_>,
+    book: &mut LentBook<'_>,
     calls: &[u32],
-    pins: &mut [u8],
-    levels: &mut [u8],
-    cycles: &mut [u64],
-    sources: &mut [u8],
-) -> Answer
-    ensures answers { Answers (step (view words.old reals.old) (E.book_call 4 calls.now (places (slices pins.old levels.old cycles.old sources.old)))) result words.old words.new reals.old reals.new }
-    ensures holds { Holds (step (view words.old reals.old) (E.book_call 4 calls.now (places (slices pins.old levels.old cycles.old sources.old)))).entries (slices pins.old levels.old cycles.old sources.old) (slices pins.new levels.new cycles.new sources.new) result.count }
+) -> Result<Answer, Refusal>
+    ensures same_loan { SameLoan board.old board.new }
+    ensures same_slices { SameSlices book.old book.new }
+    ensures answers { AnswersLent (step (lent_board board.old) (E.book_call 4 calls.now (places (slices_of book.old)))) (told result) board.old board.new }
+    ensures holds { Holds (step (lent_board board.old) (E.book_call 4 calls.now (places (slices_of book.old)))).entries (slices_of book.old) (slices_of book.new) (told result).count }
 {
     let pin = encoding::word(calls, 1);
     let kind = encoding::word(calls, 2);
     let volts = encoding::real64(calls, 3);
     let cycle = encoding::word64(calls, 5);
-    pads::drive_pin(
-        words, reals, pins, levels, cycles, sources, pin, kind, volts, cycle,
-    )
+    pads::drive_pin(board, book, pin, kind, volts, cycle)
 }
 
+#[tactic(auto, unfolding(encoding::specs::Encoding::book_call))]
 fn reset_pins(
-    words: &mut [u64; WORDS],
-    reals: &mut [f64; REALS],
+    board: &mut LentBoard<'_>,
+    book: &mut LentBook<'_>,
     calls: &[u32],
-    pins: &mut [u8],
-    levels: &mut [u8],
-    cycles: &mut [u64],
-    sources: &mut [u8],
-) -> Answer
-    ensures answers { Answers (step (view words.old reals.old) (E.book_call 5 calls.now (places (slices pins.old levels.old cycles.old sources.old)))) result words.old words.new reals.old reals.new }
-    ensures holds { Holds (step (view words.old reals.old) (E.book_call 5 calls.now (places (slices pins.old levels.old cycles.old sources.old)))).entries (slices pins.old levels.old cycles.old sources.old) (slices pins.new levels.new cycles.new sources.new) result.count }
+) -> Result<Answer, Refusal>
+    ensures same_loan { SameLoan board.old board.new }
+    ensures same_slices { SameSlices book.old book.new }
+    ensures answers { AnswersLent (step (lent_board board.old) (E.book_call 5 calls.now (places (slices_of book.old)))) (told result) board.old board.new }
+    ensures holds { Holds (step (lent_board board.old) (E.book_call 5 calls.now (places (slices_of book.old)))).entries (slices_of book.old) (slices_of book.new) (told result).count }
 {
     let cycle = encoding::word64(calls, 1);
-    pads::reset_pins(words, reals, pins, levels, cycles, sources, cycle)
+    pads::reset_pins(board, book, cycle)
 }
 
+#[tactic(auto, unfolding(encoding::specs::Encoding::book_call))]
 fn write(
-    words: &mut [u64; WORDS],
-    reals: &mut [f64; REALS],
+    board: &mut LentBoard<'_>,
+    book: &mut LentBook<'_>,
     calls: &[u32],
-    pins: &mut [u8],
-    levels: &mut [u8],
-    cycles: &mut [u64],
-    sources: &mut [u8],
-) -> Answer
-    ensures answers { Answers (step (view words.old reals.old) (E.book_call 7 calls.now (places (slices pins.old levels.old cycles.old sources.old)))) result words.old words.new reals.old reals.new }
-    ensures holds { Holds (step (view words.old reals.old) (E.book_call 7 calls.now (places (slices pins.old levels.old cycles.old sources.old)))).entries (slices pins.old levels.old cycles.old sources.old) (slices pins.new levels.new cycles.new sources.new) result.count }
+) -> Result<Answer, Refusal>
+    ensures same_loan { SameLoan board.old board.new }
+    ensures same_slices { SameSlices book.old book.new }
+    ensures answers { AnswersLent (step (lent_board board.old) (E.book_call 7 calls.now (places (slices_of book.old)))) (told result) board.old board.new }
+    ensures holds { Holds (step (lent_board board.old) (E.book_call 7 calls.now (places (slices_of book.old)))).entries (slices_of book.old) (slices_of book.new) (told result).count }
 {
     let timer = encoding::word(calls, 1);
     let offset = encoding::word(calls, 2);
     let size = encoding::word(calls, 3);
     let value = encoding::word(calls, 4);
     let cycle = encoding::word64(calls, 5);
-    write::write(
-        words, reals, pins, levels, cycles, sources, timer, offset, size, value, cycle,
-    )
+    write::write(board, book, timer, offset, size, value, cycle)
 }
 
+#[tactic(auto, unfolding(encoding::specs::Encoding::book_call))]
 fn reset(
-    words: &mut [u64; WORDS],
-    reals: &mut [f64; REALS],
+    board: &mut LentBoard<'_>,
+    book: &mut LentBook<'_>,
     calls: &[u32],
-    pins: &mut [u8],
-    levels: &mut [u8],
-    cycles: &mut [u64],
-    sources: &mut [u8],
-) -> Answer
-    ensures answers { Answers (step (view words.old reals.old) (E.book_call 9 calls.now (places (slices pins.old levels.old cycles.old sources.old)))) result words.old words.new reals.old reals.new }
-    ensures holds { Holds (step (view words.old reals.old) (E.book_call 9 calls.now (places (slices pins.old levels.old cycles.old sources.old)))).entries (slices pins.old levels.old cycles.old sources.old) (slices pins.new levels.new cycles.new sources.new) result.count }
+) -> Result<Answer, Refusal>
+    ensures same_loan { SameLoan board.old board.new }
+    ensures same_slices { SameSlices book.old book.new }
+    ensures answers { AnswersLent (step (lent_board board.old) (E.book_call 9 calls.now (places (slices_of book.old)))) (told result) board.old board.new }
+    ensures holds { Holds (step (lent_board board.old) (E.book_call 9 calls.now (places (slices_of book.old)))).entries (slices_of book.old) (slices_of book.new) (told result).count }
 {
     let timer = encoding::word(calls, 1);
     let cycle = encoding::word64(calls, 2);
-    mmio::reset(words, reals, pins, levels, cycles, sources, timer, cycle)
+    mmio::reset(board, book, timer, cycle)
 }
 
+#[tactic(auto, unfolding(encoding::specs::Encoding::book_call))]
 fn deliver(
-    words: &mut [u64; WORDS],
-    reals: &mut [f64; REALS],
+    board: &mut LentBoard<'_>,
+    book: &mut LentBook<'_>,
     calls: &[u32],
-    pins: &mut [u8],
-    levels: &mut [u8],
-    cycles: &mut [u64],
-    sources: &mut [u8],
-) -> Answer
-    ensures answers { Answers (step (view words.old reals.old) (E.book_call 10 calls.now (places (slices pins.old levels.old cycles.old sources.old)))) result words.old words.new reals.old reals.new }
-    ensures holds { Holds (step (view words.old reals.old) (E.book_call 10 calls.now (places (slices pins.old levels.old cycles.old sources.old)))).entries (slices pins.old levels.old cycles.old sources.old) (slices pins.new levels.new cycles.new sources.new) result.count }
+) -> Result<Answer, Refusal>
+    ensures same_loan { SameLoan board.old board.new }
+    ensures same_slices { SameSlices book.old book.new }
+    ensures answers { AnswersLent (step (lent_board board.old) (E.book_call 10 calls.now (places (slices_of book.old)))) (told result) board.old board.new }
+    ensures holds { Holds (step (lent_board board.old) (E.book_call 10 calls.now (places (slices_of book.old)))).entries (slices_of book.old) (slices_of book.new) (told result).count }
 {
     let timer = encoding::word(calls, 1);
     let cycle = encoding::word64(calls, 2);
-    mmio::deliver(words, reals, pins, levels, cycles, sources, timer, cycle)
-}
-
-fn book_call(
-    words: &mut [u64; WORDS],
-    reals: &mut [f64; REALS],
-    calls: &[u32],
-    pins: &mut [u8],
-    levels: &mut [u8],
-    cycles: &mut [u64],
-    sources: &mut [u8],
-    op: u32,
-) -> Answer
-    ensures answers { Answers (step (view words.old reals.old) (E.book_call op calls.now (places (slices pins.old levels.old cycles.old sources.old)))) result words.old words.new reals.old reals.new }
-    ensures holds { Holds (step (view words.old reals.old) (E.book_call op calls.now (places (slices pins.old levels.old cycles.old sources.old)))).entries (slices pins.old levels.old cycles.old sources.old) (slices pins.new levels.new cycles.new sources.new) result.count }
-{
-    match op {
-        3 => set_pin(words, reals, calls, pins, levels, cycles, sources),
-        4 => drive_pin(words, reals, calls, pins, levels, cycles, sources),
-        5 => reset_pins(words, reals, calls, pins, levels, cycles, sources),
-        7 => write(words, reals, calls, pins, levels, cycles, sources),
-        9 => reset(words, reals, calls, pins, levels, cycles, sources),
-        _ => deliver(words, reals, calls, pins, levels, cycles, sources),
-    }
+    mmio::deliver(board, book, timer, cycle)
 }
 
 // ---- any call
 
+// The call that the words begin with.
 fn perform(
-    words: &mut [u64; WORDS],
-    reals: &mut [f64; REALS],
+    board: &mut LentBoard<'_>,
+    book: &mut LentBook<'_>,
     calls: &[u32],
-    pins: &mut [u8],
-    levels: &mut [u8],
-    cycles: &mut [u64],
-    sources: &mut [u8],
-) -> Answer
+) -> Result<Answer, Refusal>
     requires { E.size_of (E.word calls.now 0) calls.now ≤ length calls.now }
-    ensures answers { Answers (step (view words.old reals.old) (E.call_with calls.now (places (slices pins.old levels.old cycles.old sources.old)))) result words.old words.new reals.old reals.new }
-    ensures holds { Holds (step (view words.old reals.old) (E.call_with calls.now (places (slices pins.old levels.old cycles.old sources.old)))).entries (slices pins.old levels.old cycles.old sources.old) (slices pins.new levels.new cycles.new sources.new) result.count }
+    ensures same_loan { SameLoan board.old board.new }
+    ensures same_slices { SameSlices book.old book.new }
+    ensures answers { AnswersLent (step (lent_board board.old) (E.call_with calls.now (places (slices_of book.old)))) (told result) board.old board.new }
+    ensures holds { Holds (step (lent_board board.old) (E.call_with calls.now (places (slices_of book.old)))).entries (slices_of book.old) (slices_of book.new) (told result).count }
 {
-    let op = encoding::word(calls, 0);
-    if encoding::has_book(op) {
-        return book_call(words, reals, calls, pins, levels, cycles, sources, op);
+    match Operation::try_from(encoding::word(calls, 0)) {
+        Ok(Operation::SetUp) => set_up(board, calls),
+        Ok(Operation::Clock) => clock(board, calls),
+        Ok(Operation::Enable) => enable(board.words, calls),
+        Ok(Operation::SetPin) => set_pin(board, book, calls),
+        Ok(Operation::DrivePin) => drive_pin(board, book, calls),
+        Ok(Operation::ResetPins) => reset_pins(board, book, calls),
+        Ok(Operation::Read) => read(board.words, calls),
+        Ok(Operation::Write) => write(board, book, calls),
+        Ok(Operation::Peek) => peek(board.words, calls),
+        Ok(Operation::Reset) => reset(board, book, calls),
+        Ok(Operation::Deliver) => deliver(board, book, calls),
+        Ok(Operation::Booked) => booked(board.words, calls),
+        Ok(Operation::Level) => level(board.seen(), calls),
+        Ok(Operation::Volts) => volts(board.seen(), calls),
+        Ok(Operation::Line) => Ok(line(board.words, calls)),
+        Ok(Operation::Time) => time(board.seen(), calls),
+        Ok(Operation::ClearPending) => Ok(clear_pending(board.words, calls)),
+        Ok(Operation::Why) => why(board.seen(), calls),
+        Ok(Operation::Next) => Ok(control::next_booked(board.words)),
+        // No call's number: `run_calls` performs none such. Beside the arm above it, since the proof does not close where the two are one.
+        Err(_) => Ok(control::next_booked(board.words)),
     }
-    if encoding::is_change(op) {
-        return change(words, reals, calls, op);
-    }
-    question(words, reals, calls, op)
 }
 
 // ---- a list of calls
@@ -302,32 +315,56 @@ pub struct Ran {
     pub entries: usize,
 }
 
-// The call in the places from `at` to `end`, behind the entries so far.
-fn perform_at(
-    words: &mut [u64; WORDS],
-    reals: &mut [f64; REALS],
-    calls: &[u32],
+// The call, lent a book of these slices. It stands apart, since no proof closes where parts of slices that a struct holds are put into another.
+fn perform_in(
+    board: &mut LentBoard<'_>,
     pins: &mut [u8],
     levels: &mut [u8],
     cycles: &mut [u64],
     sources: &mut [u8],
-    at: usize,
-    end: usize,
+    calls: &[u32],
+) -> Answer
+    requires { E.size_of (E.word calls.now 0) calls.now ≤ length calls.now }
+    ensures same_loan { SameLoan board.old board.new }
+    ensures answers { AnswersLent (step (lent_board board.old) (E.call_with calls.now (places (slices pins.old levels.old cycles.old sources.old)))) result board.old board.new }
+    ensures holds { Holds (step (lent_board board.old) (E.call_with calls.now (places (slices pins.old levels.old cycles.old sources.old)))).entries (slices pins.old levels.old cycles.old sources.old) (slices pins.new levels.new cycles.new sources.new) result.count }
+{
+    let mut book = LentBook {
+        pins,
+        levels,
+        cycles,
+        sources,
+        count: 0,
+    };
+    Answer::from(perform(board, &mut book, calls))
+}
+
+// The call, lent so many places behind the entries so far: its entries go there.
+fn perform_next(
+    board: &mut LentBoard<'_>,
+    book: &mut LentBook<'_>,
+    calls: &[u32],
+    places: usize,
 ) -> Answer
     requires calls_in_bounds { E.size_of (E.word calls.now 0) calls.now ≤ length calls.now }
-    requires calls_value { (at + E.book_of calls.now ≡ end) × Room end (slices pins.old levels.old cycles.old sources.old) }
-    ensures answers { Answers (step (view words.old reals.old) (E.call_of calls.now)) result words.old words.new reals.old reals.new }
-    ensures count_after { book (slices pins.new levels.new cycles.new sources.new) (at + result.count) ≡ puts (book (slices pins.old levels.old cycles.old sources.old) at) (step (view words.old reals.old) (E.call_of calls.now)).entries }
+    requires places_lent { (places ≡ E.book_of calls.now) × Room (book.old.count + places) (slices_of book.old) }
+    ensures same_loan { SameLoan board.old board.new }
+    ensures same_slices { SameSlices book.old book.new }
+    ensures answers { AnswersLent (step (lent_board board.old) (E.call_of calls.now)) result board.old board.new }
+    ensures entered { filled book.new ≡ puts (filled book.old) (step (lent_board board.old) (E.call_of calls.now)).entries }
 {
-    perform(
-        words,
-        reals,
+    let at = book.count;
+    let end = at + places;
+    let answer = perform_in(
+        board,
+        &mut book.pins[at..end],
+        &mut book.levels[at..end],
+        &mut book.cycles[at..end],
+        &mut book.sources[at..end],
         calls,
-        &mut pins[at..end],
-        &mut levels[at..end],
-        &mut cycles[at..end],
-        &mut sources[at..end],
-    )
+    );
+    book.count += answer.count as usize;
+    answer
 }
 
 // An answer as three words from place i on.
@@ -335,79 +372,50 @@ fn put_answer(answers: &mut [u64], i: usize, r: Answer)
     requires { i + 3 ≤ length answers.old }
     ensures { answers.new ≡ sets answers.old i (r.number ∷ r.value ∷ r.count ∷ []) }
 {
-    answers[i] = r.number as u64;
-    answers[i + 1] = r.value;
-    answers[i + 2] = r.count as u64;
+    answers[i..i + 3].copy_from_slice(&[u64::from(r.number), r.value, u64::from(r.count)]);
 }
 
-// The call with its answer; the number of its entries.
-fn perform_call(
-    words: &mut [u64; WORDS],
-    reals: &mut [f64; REALS],
-    calls: &[u32],
-    answers: &mut [u64],
-    pins: &mut [u8],
-    levels: &mut [u8],
-    cycles: &mut [u64],
-    sources: &mut [u8],
-    i: usize,
-    at: usize,
-    end: usize,
-) -> usize
-    requires calls_in_bounds { E.size_of (E.word calls.now 0) calls.now ≤ length calls.now }
-    requires i_in_bounds { i + 3 ≤ length answers.old }
-    requires calls_value { (at + E.book_of calls.now ≡ end) × Room end (slices pins.old levels.old cycles.old sources.old) }
-    ensures value { result ≡ length (step (view words.old reals.old) (E.call_of calls.now)).entries }
-    ensures does { Does (step (view words.old reals.old) (E.call_of calls.now)) (view words.new reals.new) i answers.old answers.new (book (slices pins.old levels.old cycles.old sources.old) at) (book (slices pins.new levels.new cycles.new sources.new) (at + result)) }
+// No call, or not the places that it is lent.
+fn stops(len: usize, room: usize, places: u64) -> bool
+    ensures { result ≡ (eqb len 0 || ltb room places) }
 {
-    let r = perform_at(words, reals, calls, pins, levels, cycles, sources, at, end);
-    put_answer(answers, i, r);
-    r.count as usize
-}
-
-// No call, no room for its answer, or not the places that it is lent.
-fn stops(len: usize, words: usize, room: usize, places: u64) -> bool
-    ensures { result ≡ (eqb len 0 || no_room words room places) }
-{
-    (len == 0) | ((words < 3) | ((room as u64) < places))
+    len == 0 || (room as u64) < places
 }
 
 // Performs the calls one after the other. Each answers three words (number, value, count), and is lent the places behind the entries of
 // those before it. Stops before the first that is no call or finds no room.
 pub fn run_calls(
-    words: &mut [u64; WORDS],
-    reals: &mut [f64; REALS],
+    board: &mut LentBoard<'_>,
+    book: &mut LentBook<'_>,
     calls: &[u32],
     answers: &mut [u64],
-    pins: &mut [u8],
-    levels: &mut [u8],
-    cycles: &mut [u64],
-    sources: &mut [u8],
 ) -> Ran
-    ensures { Performs calls.now words.old words.new reals.old reals.new answers.old answers.new (slices pins.old levels.old cycles.old sources.old) (slices pins.new levels.new cycles.new sources.new) result }
+    ensures same_loan { SameLoan board.old board.new }
+    ensures same_slices { SameSlices book.old book.new }
+    ensures performs { Performs calls.now board.old.words.now board.new.words.now board.old.reals.now board.new.reals.now answers.old answers.new (slices_of book.old) (slices_of book.new) result }
+    ensures counted { book.new.count ≡ result.entries }
 {
-    let room = book::room(pins, levels, cycles, sources);
-    let size = answers.len();
+    book.count = 0;
+    let room = book.places();
+    let most = answers.len() / 3;
     let mut at: usize = 0;
-    let mut done: usize = 0;
-    let mut entries: usize = 0;
-    loop {
+    for done in 0..most {
         let rest = &calls[at..];
         let len = encoding::len_of(rest);
-        let lent = encoding::places_of(rest);
-        let i = done * 3;
-        if stops(len, size - i, room - entries, lent) {
+        let places = encoding::places_of(rest);
+        if stops(len, room - book.count, places) {
             return Ran {
                 calls: done,
-                entries,
+                entries: book.count,
             };
         }
-        let end = entries + lent as usize;
-        let count = perform_call(
-            words, reals, rest, answers, pins, levels, cycles, sources, i, entries, end,
-        );
+        let i = done * 3;
+        let answer = perform_next(board, book, rest, places as usize);
+        put_answer(answers, i, answer);
         at += len;
-        done += 1;
-        entries += count;
+    }
+    Ran {
+        calls: most,
+        entries: book.count,
     }
 }

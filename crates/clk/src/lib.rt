@@ -24,7 +24,7 @@ pub struct ClockTree {
 fn in_range(divider: u32) -> bool
     ensures { result ≡ in_range divider }
 {
-    (divider >= 1) & (divider <= MAX_DIVIDER)
+    (1..=MAX_DIVIDER).contains(&divider)
 }
 
 impl ClockTree {
@@ -45,6 +45,7 @@ impl ClockTree {
     }
 
     // Core cycles per cycle of the timers' clock on bus `apb`.
+    #[tactic(auto, unfolding(crate::specs::Clk::timer_div))]
     pub fn timer_div(self, apb: u32) -> u32
         ensures { result ≡ timer_div self apb }
     {
@@ -57,6 +58,7 @@ impl ClockTree {
     }
 
     // Both frequencies are finite and above 0, and the six dividers are in range.
+    #[tactic(auto, unfolding(crate::specs::Clk::good))]
     pub fn is_good(self) -> bool
         ensures { result ≡ good self }
     {
@@ -70,7 +72,8 @@ impl ClockTree {
             & in_range(self.tim2)
     }
 
-    // Whether the timers have to be told of the tree t: `sysclk_hz` does not count.
+    // Whether the timers have to be told of the tree t: no derived equality, since `sysclk_hz` does not count.
+    #[tactic(auto, unfolding(crate::specs::Clk::differing))]
     pub fn differs(self, t: ClockTree) -> bool
         ensures { result ≡ differing self t }
     {

@@ -1,24 +1,19 @@
--- What decodes to a part of a timer: a number below its field's bound is its own remainder. Assumes nothing.
+-- What decodes to a timer's channels: a number below its field's bound is its own remainder, and an array is the list of its elements.
+-- Assumes nothing.
 use mathlib.Core.Path.{◌≡◌, refl}
 use mathlib.Core.List.{List, [], ◌∷◌}
 use mathlib.Core.Bool.{false}
-use Prim.Native.Nat.{ℕ, ◌+◌, ◌-◌, ◌%◌, ◌<◌}
+use Prim.Native.Nat.{ℕ, ◌%◌}
 use native.Mathlib.Omega.{arith}
 use lib.ListN.{get_or, length}
 use mir.Syntax.{w32}
 use mir.Val.{Fits, bool_byte}
-use Rattle.tim.specs.declared.Inst.{Inst}
-use Rattle.tim.specs.declared.Regs.{Regs}
 use Rattle.tim.specs.declared.Chan.{Chan}
-use Rattle.tim.specs.declared.Count.{Count}
 use Rattle.codec.proofs.PinLaws.{flag}
-use Rattle.codec.specs.Codec.{CountFit, inst_at, regs_at, chan_at, count_at}
+use Rattle.codec.specs.Codec.{chan_at}
 
 word : {x : ℕ} → Fits w32 x → x % 4294967296 ≡ x
 word h = omega arith
-
-half : {x : ℕ} → x < 65536 → x % 65536 ≡ x
-half h = omega arith
 
 module _ {A : Type 0} (d : A) where
   two : (xs : List A) → length xs ≡ 2 → get_or xs 0 d ∷ get_or xs 1 d ∷ [] ≡ xs
@@ -34,14 +29,6 @@ module _ {A : Type 0} (d : A) where
   four (a ∷ b ∷ e ∷ []) h = absurd (omega arith)
   four (a ∷ b ∷ e ∷ f ∷ []) h = refl
   four (a ∷ b ∷ e ∷ f ∷ g ∷ xs) h = absurd (omega arith)
-
-pub inst : (t : Inst) → Fits w32 t.n → Fits w32 t.width → Fits w32 t.channels → Fits w32 t.apb → Fits w32 t.irq → Fits w32 t.en_reg → Fits w32 t.en_bit
-    → inst_at (t.n ∷ t.width ∷ t.channels ∷ t.apb ∷ t.irq ∷ t.en_reg ∷ t.en_bit ∷ bool_byte t.manual ∷ []) 0 7 ≡ t
-inst t a b c d e f g = simp (word a, word b, word c, word d, word e, word f, word g, flag t.manual)
-
-pub regs : (t : Regs) → t.psc < 65536 → Fits w32 t.cr1 → Fits w32 t.cr2 → Fits w32 t.smcr → Fits w32 t.dier → Fits w32 t.sr → Fits w32 t.ccer → Fits w32 t.arr
-    → regs_at (t.cr1 ∷ t.cr2 ∷ t.smcr ∷ t.dier ∷ t.sr ∷ t.ccer ∷ t.psc ∷ t.arr ∷ []) 0 ≡ t
-regs t h a b c d e f g = simp (word a, word b, word c, word d, word e, word f, half h, word g)
 
 pub chan : (t : Chan) → length t.ccmr ≡ 2 → length t.ccr ≡ 4 → length t.ccr_act ≡ 4 → length t.cc_done ≡ 4 → length t.oc ≡ 4
     → ((k : ℕ) → Fits w32 (get_or t.ccmr k 0)) → ((k : ℕ) → Fits w32 (get_or t.ccr k 0)) → ((k : ℕ) → Fits w32 (get_or t.ccr_act k 0))
@@ -78,10 +65,3 @@ chan t l₁ l₂ l₃ l₄ l₅ f g h =
       four false t.cc_done l₄,
       four false t.oc l₅,
     )
-
-pub count : (t : Count) → CountFit t → Fits w32 t.arr_act → Fits w32 t.cnt0
-    → count_at (t.psc_act ∷ t.arr_act ∷ t.cnt0 ∷ t.base ∷ (t.tick - 1) ∷ bool_byte t.running ∷ []) 0 ≡ t
-count t h a b =
-    let base : t.base % 9223372036854775808 ≡ t.base = omega arith in
-    let tick : (t.tick - 1) % 536870912 + 1 ≡ t.tick = omega arith in
-    simp (half h.psc-lt, word a, word b, base, tick, flag t.running)

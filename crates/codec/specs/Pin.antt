@@ -3,6 +3,8 @@
 use Rattle.std.specs.Prelude.{Bool, cond, List, ℕ, ◌+◌, ◌/◌, ◌%◌, eqb, get_or, Float}
 use Rattle.real.specs.Real.{zero_float}
 use Rattle.pins.specs.declared.Mcu.{Mcu}
+use Rattle.pins.specs.declared.Source.{Source}
+use Rattle.pins.specs.Pins.{source_of}
 use Rattle.pins.specs.declared.ExtDrive.{ExtDrive}
 use Rattle.pins.specs.declared.ExtDrive.TheVariants as ext
 use Rattle.gpio.specs.declared.PinCfg.{PinCfg}
@@ -15,9 +17,9 @@ u8_at b k = get_or b k 0 % 256
 abbrev pub u1_at : List ℕ → ℕ → ℕ
 u1_at b k = get_or b k 0 % 2
 
--- the source, above the level's bit: 1, 2, 3, and 4 for 0, so that zeroed memory and a state without sources are only held
-abbrev pub source_at : List ℕ → ℕ → ℕ
-source_at b k = (get_or b k 0 / 2 % 4 + 3) % 4 + 1
+-- the source, above the level's bit: 1, 2, 3, and only held for 0, so that zeroed memory and a state without sources are
+abbrev pub source_at : List ℕ → ℕ → Source
+source_at b k = source_of (get_or b k 0 / 2 % 4)
 
 abbrev pub flag_at : List ℕ → ℕ → Bool
 flag_at b k = eqb (get_or b k 0 % 2) 1

@@ -1,96 +1,217 @@
 // A timer and a pin as words of lent memory.
 #![tactic(auto)]
 
-ghost use Rattle.std.specs.Prelude.{◌≡◌, ◌%◌, ◌<◌, ◌≤◌};
+ghost use Rattle.std.specs.Prelude.{◌≡◌, ◌/◌, ◌%◌, ◌<◌, ◌≤◌, eqb};
+ghost use Rattle.pins.specs.Pins.{source_of};
 ghost use Rattle.tim.specs.Timer.{Fit};
 ghost use Rattle.gpio.specs.Gpio.{GpioFit};
 ghost use Rattle.codec.specs.Pin.{cfg_at, mcu_at, ext_of, ext_code, ext_volts, decode_gpio};
 ghost use Rattle.codec.specs.Codec.{CountFit, inst_at, regs_at, chan_at, count_at, decode_timer};
 
 use gpio::{Gpio, PinCfg};
-use pins::{ExtDrive, Mcu, Pin};
+use pins::{ExtDrive, Mcu, Pin, Source};
 use tim::{Chan, Count, Inst, Regs, Timer};
 
-// The words of a timer. The last one is manual mode.
+// The words of a timer.
 pub const TIMER_WORDS: usize = 40;
 
-fn unpack_inst(b: &[u64; 40]) -> Inst
+// Which of them is which field; of an array its first. Manual mode came later and is the last.
+pub mod timer {
+    pub const N: usize = 0;
+
+    pub const WIDTH: usize = 1;
+
+    pub const CHANNELS: usize = 2;
+
+    pub const APB: usize = 3;
+
+    pub const IRQ: usize = 4;
+
+    pub const EN_REG: usize = 5;
+
+    pub const EN_BIT: usize = 6;
+
+    pub const CR1: usize = 7;
+
+    pub const CR2: usize = 8;
+
+    pub const SMCR: usize = 9;
+
+    pub const DIER: usize = 10;
+
+    pub const SR: usize = 11;
+
+    pub const CCER: usize = 12;
+
+    pub const PSC: usize = 13;
+
+    pub const ARR: usize = 14;
+
+    pub const CCMR: usize = 15;
+
+    pub const CCR: usize = 17;
+
+    pub const CCR_ACT: usize = 21;
+
+    pub const CC_DONE: usize = 25;
+
+    pub const OC: usize = 29;
+
+    pub const PSC_ACT: usize = 33;
+
+    pub const ARR_ACT: usize = 34;
+
+    pub const CNT0: usize = 35;
+
+    pub const BASE: usize = 36;
+
+    pub const TICK: usize = 37;
+
+    pub const RUNNING: usize = 38;
+
+    pub const MANUAL: usize = 39;
+}
+
+// The words of a pin. None is spare.
+pub const GPIO_WORDS: usize = 16;
+
+// Which of them is which field.
+pub mod pin {
+    pub const MODE: usize = 0;
+
+    pub const OPEN_DRAIN: usize = 1;
+
+    pub const ODR: usize = 2;
+
+    pub const PULLUP: usize = 3;
+
+    pub const PULLDOWN: usize = 4;
+
+    // The chip's side.
+    pub const DIR: usize = 5;
+
+    pub const OUT: usize = 6;
+
+    pub const UP: usize = 7;
+
+    pub const DOWN: usize = 8;
+
+    pub const OV_ENABLE: usize = 9;
+
+    pub const OV_VALUE: usize = 10;
+
+    pub const DDOE: usize = 11;
+
+    pub const DDOV: usize = 12;
+
+    pub const EXT: usize = 13;
+
+    // The level's bit, and above it the source.
+    pub const LEVEL: usize = 14;
+
+    pub const SIG: usize = 15;
+}
+
+// ---- what a word holds: its low bits
+
+pub fn low_32(word: u64) -> u32
+    ensures { result ≡ word % 4294967296 }
+{
+    (word % 4294967296) as u32
+}
+
+fn low_16(word: u64) -> u32
+    ensures { result ≡ word % 65536 }
+{
+    (word % 65536) as u32
+}
+
+fn low_8(word: u64) -> u8
+    ensures { result ≡ word % 256 }
+{
+    (word % 256) as u8
+}
+
+fn lowest(word: u64) -> u8
+    ensures { result ≡ word % 2 }
+{
+    (word % 2) as u8
+}
+
+pub fn is_odd(word: u64) -> bool
+    ensures { result ≡ eqb (word % 2) 1 }
+{
+    word % 2 == 1
+}
+
+// The source in a level's word, in the two bits above the level: 0 is only held, so that zeroed memory is.
+pub fn source_in(word: u64) -> Source
+    ensures { result ≡ source_of (word / 2 % 4) }
+{
+    Source::of_number(word / 2 % 4)
+}
+
+// ---- a timer. Unpacking and packing are twins, each field written once in either: a form that had both would be a table of words and fields,
+// and longer.
+
+fn unpack_inst(b: &[u64; TIMER_WORDS]) -> Inst
     ensures { result ≡ inst_at b.now 0 39 }
 {
     Inst {
-        n: (b[0] % 4294967296) as u32,
-        width: (b[1] % 4294967296) as u32,
-        channels: (b[2] % 4294967296) as u32,
-        apb: (b[3] % 4294967296) as u32,
-        irq: (b[4] % 4294967296) as u32,
-        en_reg: (b[5] % 4294967296) as u32,
-        en_bit: (b[6] % 4294967296) as u32,
-        manual: b[39] % 2 == 1,
+        n: low_32(b[timer::N]),
+        width: low_32(b[timer::WIDTH]),
+        channels: low_32(b[timer::CHANNELS]),
+        apb: low_32(b[timer::APB]),
+        irq: low_32(b[timer::IRQ]),
+        en_reg: low_32(b[timer::EN_REG]),
+        en_bit: low_32(b[timer::EN_BIT]),
+        manual: is_odd(b[timer::MANUAL]),
     }
 }
 
-fn unpack_regs(b: &[u64; 40]) -> Regs
+fn unpack_regs(b: &[u64; TIMER_WORDS]) -> Regs
     ensures { result ≡ regs_at b.now 7 }
 {
     Regs {
-        cr1: (b[7] % 4294967296) as u32,
-        cr2: (b[8] % 4294967296) as u32,
-        smcr: (b[9] % 4294967296) as u32,
-        dier: (b[10] % 4294967296) as u32,
-        sr: (b[11] % 4294967296) as u32,
-        ccer: (b[12] % 4294967296) as u32,
-        psc: (b[13] % 65536) as u32,
-        arr: (b[14] % 4294967296) as u32,
+        cr1: low_32(b[timer::CR1]),
+        cr2: low_32(b[timer::CR2]),
+        smcr: low_32(b[timer::SMCR]),
+        dier: low_32(b[timer::DIER]),
+        sr: low_32(b[timer::SR]),
+        ccer: low_32(b[timer::CCER]),
+        psc: low_16(b[timer::PSC]),
+        arr: low_32(b[timer::ARR]),
     }
 }
 
-fn unpack_chan(b: &[u64; 40]) -> Chan
+fn unpack_chan(b: &[u64; TIMER_WORDS]) -> Chan
     ensures { result ≡ chan_at b.now 15 }
 {
     Chan {
-        ccmr: [(b[15] % 4294967296) as u32, (b[16] % 4294967296) as u32],
-        ccr: [
-            (b[17] % 4294967296) as u32,
-            (b[18] % 4294967296) as u32,
-            (b[19] % 4294967296) as u32,
-            (b[20] % 4294967296) as u32,
-        ],
-        ccr_act: [
-            (b[21] % 4294967296) as u32,
-            (b[22] % 4294967296) as u32,
-            (b[23] % 4294967296) as u32,
-            (b[24] % 4294967296) as u32,
-        ],
-        cc_done: [
-            b[25] % 2 == 1,
-            b[26] % 2 == 1,
-            b[27] % 2 == 1,
-            b[28] % 2 == 1,
-        ],
-        oc: [
-            b[29] % 2 == 1,
-            b[30] % 2 == 1,
-            b[31] % 2 == 1,
-            b[32] % 2 == 1,
-        ],
+        ccmr: [low_32(b[timer::CCMR]), low_32(b[timer::CCMR + 1])],
+        ccr: std::array::from_fn(|k: usize| low_32(b[timer::CCR + k])),
+        ccr_act: std::array::from_fn(|k: usize| low_32(b[timer::CCR_ACT + k])),
+        cc_done: std::array::from_fn(|k: usize| is_odd(b[timer::CC_DONE + k])),
+        oc: std::array::from_fn(|k: usize| is_odd(b[timer::OC + k])),
     }
 }
 
-fn unpack_count(b: &[u64; 40]) -> Count
+fn unpack_count(b: &[u64; TIMER_WORDS]) -> Count
     ensures { result ≡ count_at b.now 33 }
 {
     Count {
-        psc_act: (b[33] % 65536) as u32,
-        arr_act: (b[34] % 4294967296) as u32,
-        cnt0: (b[35] % 4294967296) as u32,
-        base: b[36] % 9223372036854775808,
-        tick: (b[37] % 536870912 + 1) as u32,
-        running: b[38] % 2 == 1,
+        psc_act: low_16(b[timer::PSC_ACT]),
+        arr_act: low_32(b[timer::ARR_ACT]),
+        cnt0: low_32(b[timer::CNT0]),
+        base: b[timer::BASE] % 9223372036854775808,
+        tick: (b[timer::TICK] % 536870912 + 1) as u32,
+        running: is_odd(b[timer::RUNNING]),
     }
 }
 
 // Words as a timer.
-pub fn unpack_timer(b: [u64; 40]) -> Timer
+#[tactic(auto, unfolding(crate::specs::Codec::decode_timer))]
+pub fn unpack_timer(b: [u64; TIMER_WORDS]) -> Timer
     ensures { result ≡ decode_timer b }
 {
     Timer {
@@ -135,30 +256,25 @@ fn pack_regs(t: Regs) -> [u64; 8]
 fn pack_chan(t: Chan) -> [u64; 18]
     ensures { chan_at result 0 ≡ t }
 {
-    let ccmr = t.ccmr;
-    let ccr = t.ccr;
-    let ccr_act = t.ccr_act;
-    let cc_done = t.cc_done;
-    let oc = t.oc;
     [
-        ccmr[0] as u64,
-        ccmr[1] as u64,
-        ccr[0] as u64,
-        ccr[1] as u64,
-        ccr[2] as u64,
-        ccr[3] as u64,
-        ccr_act[0] as u64,
-        ccr_act[1] as u64,
-        ccr_act[2] as u64,
-        ccr_act[3] as u64,
-        cc_done[0] as u64,
-        cc_done[1] as u64,
-        cc_done[2] as u64,
-        cc_done[3] as u64,
-        oc[0] as u64,
-        oc[1] as u64,
-        oc[2] as u64,
-        oc[3] as u64,
+        t.ccmr[0] as u64,
+        t.ccmr[1] as u64,
+        t.ccr[0] as u64,
+        t.ccr[1] as u64,
+        t.ccr[2] as u64,
+        t.ccr[3] as u64,
+        t.ccr_act[0] as u64,
+        t.ccr_act[1] as u64,
+        t.ccr_act[2] as u64,
+        t.ccr_act[3] as u64,
+        t.cc_done[0] as u64,
+        t.cc_done[1] as u64,
+        t.cc_done[2] as u64,
+        t.cc_done[3] as u64,
+        t.oc[0] as u64,
+        t.oc[1] as u64,
+        t.oc[2] as u64,
+        t.oc[3] as u64,
     ]
 }
 
@@ -177,7 +293,8 @@ fn pack_count(t: Count) -> [u64; 6]
 }
 
 // A timer as words.
-pub fn pack_timer(t: Timer) -> [u64; 40]
+#[tactic(auto, unfolding(crate::specs::Codec::decode_timer))]
+pub fn pack_timer(t: Timer) -> [u64; TIMER_WORDS]
     requires { Fit t }
     ensures { decode_timer result ≡ t }
 {
@@ -196,52 +313,47 @@ pub fn pack_timer(t: Timer) -> [u64; 40]
 
 // ---- a pin
 
-// The words of a pin. None is spare.
-pub const GPIO_WORDS: usize = 16;
-
-fn unpack_cfg(b: &[u64; 16]) -> PinCfg
+fn unpack_cfg(b: &[u64; GPIO_WORDS]) -> PinCfg
     ensures { result ≡ cfg_at b.now 0 }
 {
     PinCfg {
-        mode: (b[0] % 256) as u8,
-        open_drain: b[1] % 2 == 1,
-        odr: (b[2] % 2) as u8,
-        pullup: b[3] % 2 == 1,
-        pulldown: b[4] % 2 == 1,
+        mode: low_8(b[pin::MODE]),
+        open_drain: is_odd(b[pin::OPEN_DRAIN]),
+        odr: lowest(b[pin::ODR]),
+        pullup: is_odd(b[pin::PULLUP]),
+        pulldown: is_odd(b[pin::PULLDOWN]),
     }
 }
 
-fn unpack_mcu(b: &[u64; 16]) -> Mcu
+fn unpack_mcu(b: &[u64; GPIO_WORDS]) -> Mcu
     ensures { result ≡ mcu_at b.now 5 }
 {
     Mcu {
-        dir: (b[5] % 256) as u8,
-        out: (b[6] % 2) as u8,
-        pullup: (b[7] % 256) as u8,
-        pulldown: (b[8] % 256) as u8,
-        ov_enable: (b[9] % 256) as u8,
-        ov_value: (b[10] % 2) as u8,
-        ddoe: (b[11] % 256) as u8,
-        ddov: (b[12] % 256) as u8,
+        dir: low_8(b[pin::DIR]),
+        out: lowest(b[pin::OUT]),
+        pullup: low_8(b[pin::UP]),
+        pulldown: low_8(b[pin::DOWN]),
+        ov_enable: low_8(b[pin::OV_ENABLE]),
+        ov_value: lowest(b[pin::OV_VALUE]),
+        ddoe: low_8(b[pin::DDOE]),
+        ddov: low_8(b[pin::DDOV]),
     }
 }
 
 // An outside drive of its number, and the volts of an analogue one.
+#[tactic(auto, unfolding(crate::specs::Pin::ext_of))]
 fn ext_of(code: u64, volts: f64) -> ExtDrive
     ensures { result ≡ ext_of code volts }
 {
-    if code == 0 {
-        return ExtDrive::Float;
+    match code {
+        0 => ExtDrive::Float,
+        1 => ExtDrive::Low,
+        2 => ExtDrive::High,
+        _ => ExtDrive::Analog(volts),
     }
-    if code == 1 {
-        return ExtDrive::Low;
-    }
-    if code == 2 {
-        return ExtDrive::High;
-    }
-    ExtDrive::Analog(volts)
 }
 
+#[tactic(auto, unfolding(crate::specs::Pin::ext_code))]
 fn ext_code(e: ExtDrive) -> u64
     ensures { result ≡ ext_code e }
 {
@@ -253,40 +365,32 @@ fn ext_code(e: ExtDrive) -> u64
     }
 }
 
-fn volts_of(e: ExtDrive) -> f64
-    ensures { result ≡ ext_volts e }
-{
-    match e {
-        ExtDrive::Float => 0.0,
-        ExtDrive::Low => 0.0,
-        ExtDrive::High => 0.0,
-        ExtDrive::Analog(x) => x,
-    }
-}
-
 // The volts of the pin's analogue drive, 0 for another drive.
+#[tactic(auto, unfolding(crate::specs::Pin::ext_volts))]
 pub fn ext_volts(g: Gpio) -> f64
     ensures { result ≡ ext_volts g.pin.ext }
 {
-    let p = g.pin;
-    let e = p.ext;
-    volts_of(e)
+    match g.pin.ext {
+        ExtDrive::Analog(x) => x,
+        _ => 0.0,
+    }
 }
 
 // Words, the pin's volts and the volts of its analogue drive as a pin.
-pub fn unpack_gpio(b: [u64; 16], volts: f64, ext: f64) -> Gpio
+#[tactic(auto, unfolding(crate::specs::Pin::decode_gpio))]
+pub fn unpack_gpio(b: [u64; GPIO_WORDS], volts: f64, ext: f64) -> Gpio
     ensures { result ≡ decode_gpio b volts ext }
 {
     Gpio {
         cfg: unpack_cfg(&b),
         pin: Pin {
             mcu: unpack_mcu(&b),
-            ext: ext_of(b[13] % 4, ext),
-            level: (b[14] % 2) as u8,
+            ext: ext_of(b[pin::EXT] % 4, ext),
+            level: lowest(b[pin::LEVEL]),
             volts,
-            source: ((b[14] / 2 % 4 + 3) % 4 + 1) as u8,
+            source: source_in(b[pin::LEVEL]),
         },
-        sig: (b[15] % 256) as u32,
+        sig: (b[pin::SIG] % 256) as u32,
     }
 }
 
@@ -320,15 +424,14 @@ fn pack_mcu(t: Mcu) -> [u64; 8]
 }
 
 // A pin as words; its volts and its drive's volts are held as floats.
-pub fn pack_gpio(g: Gpio) -> [u64; 16]
+pub fn pack_gpio(g: Gpio) -> [u64; GPIO_WORDS]
     requires { GpioFit g }
     ensures { decode_gpio result g.pin.volts (ext_volts g.pin.ext) ≡ g }
 {
     let p = g.pin;
-    let e = p.ext;
     let cfg = pack_cfg(g.cfg);
     let mcu = pack_mcu(p.mcu);
-    let ext = ext_code(e);
+    let ext = ext_code(p.ext);
     [
         cfg[0],
         cfg[1],
@@ -344,7 +447,7 @@ pub fn pack_gpio(g: Gpio) -> [u64; 16]
         mcu[6],
         mcu[7],
         ext,
-        p.level as u64 + 2 * (p.source as u64 % 4),
+        p.level as u64 + 2 * (p.source.number() as u64 % 4),
         g.sig as u64,
     ]
 }

@@ -3,6 +3,7 @@
 
 ghost use Rattle.std.specs.Prelude.{◌≡◌, true, List, ◌<◌, ◌≤◌, max, Float};
 ghost use Rattle.clk.specs.Clk.{good};
+ghost use Rattle.state.specs.Lent.{lent_board, seen_board, SameLoan};
 ghost use Rattle.state.specs.View.{view};
 ghost use Rattle.state.specs.Board.{booking_set};
 ghost use Rattle.machine.specs.Board.{timer_at};
@@ -10,10 +11,11 @@ ghost use Rattle.machine.specs.Deliver.{divider_of, line_settled, booking_of, re
 ghost use Rattle.machine.specs.Step.{clock_on, timer_retimed, all_retimed, tree_set};
 
 use clk::ClockTree;
-use state::{REALS, WORDS};
+use state::{LentBoard, SeenBoard, WORDS};
 use tim::{Due, Timer};
 
 // Timer i's clock is on: its bit of its enable word. Past the ninth word and past bit 31 there is none.
+#[inline(always)]
 pub fn clock_on(words: &[u64; WORDS], i: usize) -> bool
     requires { i < 8 }
     ensures { (x : List Float) → result ≡ clock_on (view words.now x) (timer_at (view words.now x) i) }
@@ -32,11 +34,12 @@ pub fn clock_on(words: &[u64; WORDS], i: usize) -> bool
 }
 
 // Core cycles per cycle of timer t's clock.
-pub fn divider(words: &[u64; WORDS], reals: &[f64; REALS], t: Timer) -> u32
-    ensures value { result ≡ divider_of (view words.now reals.now) t }
+#[inline(always)]
+pub fn divider(board: SeenBoard<'_>, t: Timer) -> u32
+    ensures value { result ≡ divider_of (seen_board board.entry) t }
     ensures lower_bound { (1 ≤ result) × (result ≤ 8192) }
 {
-    let tree = state::tree(words, reals);
+    let tree = board.tree();
     tree.timer_div(t.inst.apb)
 }
 
@@ -58,18 +61,12 @@ pub fn settle_line_at(words: &mut [u64; WORDS], i: usize)
     settle_line(words, i, timer);
 }
 
-fn later(a: u64, b: u64) -> u64
-    ensures { result ≡ max a b }
-{
-    if a <= b { b } else { a }
-}
-
 // The cycle that an event is booked at: no earlier than now, never without one.
 fn booking_of(due: Due, cycle: u64) -> u64
     ensures { result ≡ booking_of due cycle }
 {
     match due {
-        Due::At(at, _) => later(at, cycle),
+        Due::At(at, _) => at.max(cycle),
         Due::Stopped => scheduler::NEVER,
     }
 }
@@ -94,41 +91,43 @@ pub fn rebook(words: &mut [u64; WORDS], i: usize, cycle: u64)
 }
 
 // Timer i takes the tree's divider; a running one is booked anew.
-pub fn retime(words: &mut [u64; WORDS], reals: &[f64; REALS], i: usize, cycle: u64)
+pub fn retime(board: &mut LentBoard<'_>, i: usize, cycle: u64)
     requires { (i < 8) × (cycle < 9223372036854775808) }
-    ensures { view words.new reals.now ≡ timer_retimed i cycle (view words.old reals.now) }
+    ensures same_loan { SameLoan board.old board.new }
+    ensures board { lent_board board.new ≡ timer_retimed i cycle (lent_board board.old) }
 {
-    let t = state::load_timer(words, i);
-    let div = divider(words, reals, t);
+    let t = state::load_timer(board.words, i);
+    let div = divider(board.seen(), t);
     let s = t.on_clock_change(cycle, div);
-    state::store_timer(words, i, s);
+    state::store_timer(board.words, i, s);
     if s.count.running {
-        rebook(words, i, cycle);
+        rebook(board.words, i, cycle);
     }
 }
 
-fn retime_all(words: &mut [u64; WORDS], reals: &[f64; REALS], cycle: u64)
+fn retime_all(board: &mut LentBoard<'_>, cycle: u64)
     requires { cycle < 9223372036854775808 }
-    ensures { view words.new reals.now ≡ all_retimed (view words.old reals.now).counts.timers 0 cycle (view words.old reals.now) }
+    ensures same_loan { SameLoan board.old board.new }
+    ensures board { lent_board board.new ≡ all_retimed (lent_board board.old).counts.timers 0 cycle (lent_board board.old) }
 {
-    let n = state::timer_count(words);
-    let mut i = 0;
-    while i < n {
-        retime(words, reals, i, cycle);
-        i += 1;
+    let n = state::timer_count(board.words);
+    for i in 0..n {
+        retime(board, i, cycle);
     }
 }
 
 // Another clock tree: the timers are told of it if it differs.
-pub fn set_clock_tree(words: &mut [u64; WORDS], reals: &mut [f64; REALS], t: ClockTree, cycle: u64)
+pub fn set_clock_tree(board: &mut LentBoard<'_>, t: ClockTree, cycle: u64)
     requires { (good t ≡ true) × (cycle < 9223372036854775808) }
-    ensures { view words.new reals.new ≡ tree_set (view words.old reals.old) t cycle }
+    ensures same_loan { SameLoan board.old board.new }
+    ensures board { lent_board board.new ≡ tree_set (lent_board board.old) t cycle }
 {
-    let was = state::tree(words, reals);
-    let k = state::clock(words, reals);
-    state::set_tree(words, reals, t);
-    state::set_clock(words, reals, k.set_hz(t.hclk_hz, cycle));
+    let seen = board.seen();
+    let was = seen.tree();
+    let k = seen.clock();
+    board.set_tree(t);
+    board.set_clock(k.set_hz(t.hclk_hz, cycle));
     if was.differs(t) {
-        retime_all(words, reals, cycle);
+        retime_all(board, cycle);
     }
 }

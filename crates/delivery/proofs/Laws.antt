@@ -32,7 +32,10 @@ use Rattle.machine.specs.Sys.{drive_outputs}
 use Rattle.machine.specs.Deliver.{applied, count_at, Turn, turn, turn_of, due_by, Run, stop, after_turn, handled as run, most_events, divider_of, booking_of, line_settled, rebooked, delivered, after_delivery}
 use Rattle.outputs.specs.Outputs.{Driven}
 use Rattle.delivery.specs.declared.Ran.{Ran}
-use Rattle.delivery.specs.Delivery.{OfFour, verdict_of, Ends, Delivers}
+use Rattle.delivery.specs.Delivery.{OfFour, verdict_of, Ends, Delivers, number_of}
+use Rattle.delivery.specs.declared.Stop.{Stop}
+use Rattle.delivery.specs.declared.Stop.TheVariants.{Done, Backlog}
+use Rattle.std.proofs.Common.{Option, Some, None}
 
 -- ---- an event's channel is one of four
 
@@ -88,16 +91,21 @@ pub record Goes (at cycle events left : ℕ) : Type 0 where
   pub few : events < most_events
   pub free : 4 ≤ left
 
-pub goes : (at cycle events left v : ℕ) → v ≡ verdict_of at cycle events left → v ≡ 1 → Goes at cycle events left
+pub goes : (at cycle events left : ℕ) (v : Option Stop) → v ≡ verdict_of at cycle events left → v ≡ None → Goes at cycle events left
 unfolding verdict_of
 goes at cycle events left v h g = go (leb at cycle) refl (leb most_events events) refl (ltb left 4) refl (sym h ∙ g)
   where
     go : (a : Bool) → leb at cycle ≡ a → (b : Bool) → leb most_events events ≡ b → (c : Bool) → ltb left 4 ≡ c
-        → ◌≡◌ {A = ℕ} (cond a (cond b 8 (cond c 8 1)) 0) 1 → Goes at cycle events left
+        → ◌≡◌ {A = Option Stop} (cond a (cond b (Some Backlog) (cond c (Some Backlog) None)) (Some Done)) None → Goes at cycle events left
     go true p false q false r k = record { due = leb-true at cycle p; few = leb-false most_events events q; free = ltb-false left 4 r }
-    go true p false q true r k = absurd (omega arith)
-    go true p true q c r k = absurd (omega arith)
-    go false p b q c r k = absurd (omega arith)
+    go true p false q true r k = cc
+    go true p true q c r k = cc
+    go false p b q c r k = cc
+
+-- the number of a verdict that stops
+number_or : Option Stop → ℕ
+number_or None = 0
+number_or (Some s) = number_of s
 
 -- ---- the run, by the next event
 
@@ -108,19 +116,24 @@ module _ (cycle div left : ℕ) (t : Timer) (p : Pads) where
   run_none (suc f) h = rw h
 
   module _ (at : ℕ) (e : Next) (d : next_event t ≡ At at e) where
-    run-stop : (f events v : ℕ) → f ≡ most_events - events → v ≡ verdict_of at cycle events left → (v ≡ 1 → ⊥) → run f cycle div left t p ≡ stop t p v
-    unfolding run verdict_of
-    run-stop zero events v g h n =
+    run-stop : (f events : ℕ) (v : Option Stop) (s : Stop) → f ≡ most_events - events → v ≡ verdict_of at cycle events left → v ≡ Some s
+        → run f cycle div left t p ≡ stop t p (number_of s)
+    unfolding run verdict_of number_or
+    run-stop zero events v s g h n =
         let k : most_events ≤ events = omega arith in
-        rw d (ap (stop t p) (sym (rw (le-leb most_events events k) at h)))
-    run-stop (suc f) events v g h n =
-        let k : events < most_events = omega arith in
-        rw d (go (leb at cycle) (ltb left 4) _ (rw (lt-leb most_events events k) at h))
+        rw d (go (leb at cycle) (sym (rw (le-leb most_events events k) at h) ∙ n))
       where
-        go : (a b : Bool) (x : Run) → v ≡ cond a (cond b 8 1) 0 → cond a (cond b (stop t p 8) x) (stop t p 0) ≡ stop t p v
-        go true true x y = ap (stop t p) (sym y)
-        go true false x y = absurd (n y)
-        go false b x y = ap (stop t p) (sym y)
+        go : (a : Bool) → cond a (Some Backlog) (Some Done) ≡ Some s → stop t p (cond a 8 0) ≡ stop t p (number_of s)
+        go true y = ap (λ (o : Option Stop). stop t p (number_or o)) y
+        go false y = ap (λ (o : Option Stop). stop t p (number_or o)) y
+    run-stop (suc f) events v s g h n =
+        let k : events < most_events = omega arith in
+        rw d (go (leb at cycle) (ltb left 4) _ (sym (rw (lt-leb most_events events k) at h) ∙ n))
+      where
+        go : (a b : Bool) (x : Run) → cond a (cond b (Some Backlog) None) (Some Done) ≡ Some s → cond a (cond b (stop t p 8) x) (stop t p 0) ≡ stop t p (number_of s)
+        go true true x y = ap (λ (o : Option Stop). stop t p (number_or o)) y
+        go true false x y = cc
+        go false b x y = ap (λ (o : Option Stop). stop t p (number_or o)) y
 
     run-turn : (f : ℕ) → at ≤ cycle → 4 ≤ left → (s : Turn) → s ≡ turn t p e at div
         → run (suc f) cycle div left t p ≡ after_turn s.entries (run f cycle div (left - length s.entries) s.timer s.pads)
@@ -208,7 +221,7 @@ begins cycle div room t b k f h =
     }
 
 ended : (o : Run) (b₀ b : Board) (k₀ k : Book) (r : Ran) → b ≡ with_pads b₀ b.pads
-    → settle k₀ 0 o ≡ record { timer = r.timer; pads = b.pads; book = k; events = r.events; number = r.number } → Ends o b₀ b k₀ k r
+    → settle k₀ 0 o ≡ record { timer = r.timer; pads = b.pads; book = k; events = r.delivered.events; number = number_of r.delivered.stop } → Ends o b₀ b k₀ k r
 ended o b₀ b k₀ k r h e = record {
   timer = sym (ap (λ (x : Final). x.timer) e);
   number = sym (ap (λ (x : Final). x.number) e);
@@ -219,19 +232,19 @@ ended o b₀ b k₀ k r h e = record {
 
 module _ (cycle div room : ℕ) (o : Run) (b₀ : Board) (k₀ : Book) (t : Timer) (b : Board) (k : Book) (events : ℕ) (d : Due)
     (g : Going cycle div room o b₀ k₀ t b k events) (n : d ≡ next_event t) where
-  pub ends-none : d ≡ Stopped → (u : Due) (count : ℕ) → Ends o b₀ b k₀ k (record { timer = t; due = u; number = 0; events = events; count = count })
-  ends-none h u count =
+  pub ends-none : d ≡ Stopped → (u : Due) → Ends o b₀ b k₀ k (record { timer = t; due = u; delivered = record { stop = Done; events = events } })
+  ends-none h u =
       ended o b₀ b k₀ k _ g.board
       (g.same ∙ ap (settle k events) (run_none cycle div (room - k.count) t b.pads (most_events - events) (sym n ∙ h)) ∙ settle-stop k events t b.pads 0)
 
-  module _ (at : ℕ) (e : Next) (h : d ≡ At at e) (v : ℕ) (j : v ≡ verdict_of at cycle events (room - k.count)) where
-    pub ends-stop : (v ≡ 1 → ⊥) → (u : Due) (count : ℕ) → Ends o b₀ b k₀ k (record { timer = t; due = u; number = v; events = events; count = count })
-    ends-stop x u count =
+  module _ (at : ℕ) (e : Next) (h : d ≡ At at e) (v : Option Stop) (j : v ≡ verdict_of at cycle events (room - k.count)) where
+    pub ends-stop : (s : Stop) → v ≡ Some s → (u : Due) → Ends o b₀ b k₀ k (record { timer = t; due = u; delivered = record { stop = s; events = events } })
+    ends-stop s x u =
         ended o b₀ b k₀ k _ g.board
-        (g.same ∙ ap (settle k events) (run-stop cycle div (room - k.count) t b.pads at e (sym n ∙ h) (most_events - events) events v refl j x)
-        ∙ settle-stop k events t b.pads v)
+        (g.same ∙ ap (settle k events) (run-stop cycle div (room - k.count) t b.pads at e (sym n ∙ h) (most_events - events) events v s refl j x)
+        ∙ settle-stop k events t b.pads (number_of s))
 
-    pub going_on : v ≡ 1 → cycle < 9223372036854775808 → 1 ≤ div → div ≤ 8192 → (t₁ : Timer) (b₁ : Board) (k₁ : Book) → t₁ ≡ applied t e at div
+    pub going_on : v ≡ None → cycle < 9223372036854775808 → 1 ≤ div → div ≤ 8192 → (t₁ : Timer) (b₁ : Board) (k₁ : Book) → t₁ ≡ applied t e at div
         → Driven (drive_outputs t₁ (count_at t₁ e) b.pads) at b b₁ k k₁ → k₁.count ≤ k.count + 4 → Going cycle div room o b₀ k₀ t₁ b₁ k₁ (events + 1)
     going_on x c p q t₁ b₁ k₁ a w r =
         let y = goes at cycle events (room - k.count) v j x in
@@ -295,23 +308,23 @@ module _ (b b₁ b₂ b₃ b₄ : Board) (i cycle div places : ℕ) (t : Timer) 
       ap (λ (n : ℕ). run most_events cycle n places t b.pads) steps
       ∙ ap (λ (u : Timer). run most_events cycle (divider_of b u) places u b.pads) load
 
-  pub delivers : (u u₁ : Lent)
-      → Ends (run most_events cycle div places t b.pads) b b₁ (book u 0) (book u₁ r.count) r
-      → Room r.count u
-      → b₂ ≡ cond (eqb r.events 0) b₁ (with_timer b₁ i (with_inst r.timer (timer_at b₁ i).inst)) → b₃ ≡ line_settled i r.timer b₂ → b₄ ≡ rebooked i r.timer cycle b₃
-      → Delivers (delivered b i cycle places) b i cycle b₄ (record { number = r.number; events = r.events; count = r.count }) u u₁
+  pub delivers : (n : ℕ) (u u₁ : Lent)
+      → Ends (run most_events cycle div places t b.pads) b b₁ (book u 0) (book u₁ n) r
+      → Room n u
+      → b₂ ≡ cond (eqb r.delivered.events 0) b₁ (with_timer b₁ i (with_inst r.timer (timer_at b₁ i).inst)) → b₃ ≡ line_settled i r.timer b₂ → b₄ ≡ rebooked i r.timer cycle b₃
+      → Delivers (delivered b i cycle places) b i cycle b₄ r.delivered n u u₁
   unfolding after_delivery
-  delivers u u₁ e' x store' line book' =
+  delivers n u u₁ e' x store' line book' =
       let o = delivered b i cycle places in
       let store : b₂ ≡ with_timer b₁ i r.timer =
-      stored b b₁ b₂ _ i r.events t r.timer load e'.board (ap (λ (u : Timer). u.inst) e'.timer ∙ inst-run most_events cycle div places t b.pads)
-      (λ n. e'.timer ∙ run-idle most_events cycle div places t b.pads (sym e'.events ∙ n)) store' in
-      let e : Ends o b b₁ (book u 0) (book u₁ r.count) r =
-      subst (λ (q : Run). Ends q b b₁ (book u 0) (book u₁ r.count) r) same-run e' in
+      stored b b₁ b₂ _ i r.delivered.events t r.timer load e'.board (ap (λ (u : Timer). u.inst) e'.timer ∙ inst-run most_events cycle div places t b.pads)
+      (λ z. e'.timer ∙ run-idle most_events cycle div places t b.pads (sym e'.events ∙ z)) store' in
+      let e : Ends o b b₁ (book u 0) (book u₁ n) r =
+      subst (λ (q : Run). Ends q b b₁ (book u 0) (book u₁ n) r) same-run e' in
       record {
         number = e.number;
         events = e.events;
         board = book' ∙ ap (rebooked i r.timer cycle) (line ∙ ap (line_settled i r.timer) (store ∙ ap (λ (u : Board). with_timer u i r.timer) e.board))
             ∙ ap (λ (u : Timer). rebooked i u cycle (line_settled i u (with_pads (with_timer b i u) o.pads))) e.timer;
-        entries = holds o.entries u u₁ r.count e.entries x;
+        entries = holds o.entries u u₁ n e.entries x;
       }

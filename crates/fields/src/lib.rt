@@ -11,7 +11,7 @@ ghost use Rattle.state.specs.View.{view};
 ghost use Rattle.machine.specs.Board.{timer_at, with_timer};
 ghost use Rattle.fields.specs.Field.{with_reg};
 
-use codec::TIMER_WORDS;
+use codec::{TIMER_WORDS, is_odd, low_32, timer};
 use state::WORDS;
 use tim::Inst;
 
@@ -30,7 +30,7 @@ pub fn set_reg(words: &mut [u64; WORDS], i: usize, k: usize, v: u32)
     ensures { (x : List Float) → view words.new x ≡ with_timer (view words.old x) i (with_reg (timer_at (view words.old x) i) k v) }
 {
     sized(words);
-    words[i * TIMER_WORDS + (7 + k)] = v as u64;
+    words[i * TIMER_WORDS + (timer::CR1 + k)] = v as u64;
 }
 
 // The compare of channel ch as written.
@@ -39,7 +39,7 @@ pub fn set_ccr(words: &mut [u64; WORDS], i: usize, ch: usize, v: u32)
     ensures { (x : List Float) → view words.new x ≡ with_timer (view words.old x) i (R.with_ccr (timer_at (view words.old x) i) ch v) }
 {
     sized(words);
-    words[i * TIMER_WORDS + (17 + ch)] = v as u64;
+    words[i * TIMER_WORDS + (timer::CCR + ch)] = v as u64;
 }
 
 // The compare of channel ch in use.
@@ -48,7 +48,7 @@ pub fn set_ccr_act(words: &mut [u64; WORDS], i: usize, ch: usize, v: u32)
     ensures { (x : List Float) → view words.new x ≡ with_timer (view words.old x) i (R.with_ccr_act (timer_at (view words.old x) i) ch v) }
 {
     sized(words);
-    words[i * TIMER_WORDS + (21 + ch)] = v as u64;
+    words[i * TIMER_WORDS + (timer::CCR_ACT + ch)] = v as u64;
 }
 
 // Whether channel ch's compare is done in this period.
@@ -57,7 +57,7 @@ pub fn set_done(words: &mut [u64; WORDS], i: usize, ch: usize, on: bool)
     ensures { (x : List Float) → view words.new x ≡ with_timer (view words.old x) i (with_done (timer_at (view words.old x) i) (set (timer_at (view words.old x) i).chan.cc_done ch on)) }
 {
     sized(words);
-    words[i * TIMER_WORDS + (25 + ch)] = on as u64;
+    words[i * TIMER_WORDS + (timer::CC_DONE + ch)] = on as u64;
 }
 
 // The counter of timer i is cnt at cycle base.
@@ -66,8 +66,8 @@ pub fn set_at(words: &mut [u64; WORDS], i: usize, cnt: u32, base: u64)
     ensures { (x : List Float) → view words.new x ≡ with_timer (view words.old x) i (with_count (timer_at (view words.old x) i) (at_count (timer_at (view words.old x) i).count cnt base)) }
 {
     sized(words);
-    words[i * TIMER_WORDS + 35] = cnt as u64;
-    words[i * TIMER_WORDS + 36] = base;
+    words[i * TIMER_WORDS + timer::CNT0] = cnt as u64;
+    words[i * TIMER_WORDS + timer::BASE] = base;
 }
 
 // The counter of timer i at its reference.
@@ -75,7 +75,7 @@ pub fn cnt0(words: &[u64; WORDS], i: usize) -> u32
     requires { i < 8 }
     ensures { (x : List Float) → result ≡ (timer_at (view words.now x) i).count.cnt0 }
 {
-    (words[i * TIMER_WORDS + 35] % 4294967296) as u32
+    low_32(words[i * TIMER_WORDS + timer::CNT0])
 }
 
 // Channel ch's byte of CCMR1 or CCMR2, of its word alone.
@@ -83,8 +83,8 @@ pub fn ccmr_byte(words: &[u64; WORDS], i: usize, ch: usize) -> u32
     requires { (i < 8) × (ch < 4) }
     ensures { (x : List Float) → result ≡ ccmr_byte (timer_at (view words.now x) i) ch }
 {
-    let w = words[i * TIMER_WORDS + (15 + ch / 2)] % 4294967296;
-    ((w >> (8 * (ch % 2))) % 256) as u32
+    let w = low_32(words[i * TIMER_WORDS + (timer::CCMR + ch / 2)]);
+    (w >> (8 * (ch % 2))) % 256
 }
 
 // The fixed parts of timer i.
@@ -94,14 +94,14 @@ pub fn inst(words: &[u64; WORDS], i: usize) -> Inst
 {
     let k = i * TIMER_WORDS;
     Inst {
-        n: (words[k] % 4294967296) as u32,
-        width: (words[k + 1] % 4294967296) as u32,
-        channels: (words[k + 2] % 4294967296) as u32,
-        apb: (words[k + 3] % 4294967296) as u32,
-        irq: (words[k + 4] % 4294967296) as u32,
-        en_reg: (words[k + 5] % 4294967296) as u32,
-        en_bit: (words[k + 6] % 4294967296) as u32,
-        manual: words[k + 39] % 2 == 1,
+        n: low_32(words[k + timer::N]),
+        width: low_32(words[k + timer::WIDTH]),
+        channels: low_32(words[k + timer::CHANNELS]),
+        apb: low_32(words[k + timer::APB]),
+        irq: low_32(words[k + timer::IRQ]),
+        en_reg: low_32(words[k + timer::EN_REG]),
+        en_bit: low_32(words[k + timer::EN_BIT]),
+        manual: is_odd(words[k + timer::MANUAL]),
     }
 }
 
@@ -110,5 +110,5 @@ pub fn en_reg(words: &[u64; WORDS], i: usize) -> usize
     requires { i < 8 }
     ensures { (x : List Float) → result ≡ (timer_at (view words.now x) i).inst.en_reg }
 {
-    (words[i * TIMER_WORDS + 5] % 4294967296) as usize
+    low_32(words[i * TIMER_WORDS + timer::EN_REG]) as usize
 }

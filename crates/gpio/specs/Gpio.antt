@@ -1,25 +1,23 @@
 -- A pin by value: what its configuration and its signal make it drive, and whether its level changed (sys.rs, refresh_pin and update_pin).
-use Rattle.std.specs.Prelude.{Bool, cond, not, ◌&&◌, ℕ, ◌-◌, ◌/◌, ◌%◌, ◌≤◌, ◌<◌, eqb}
+use Rattle.std.specs.Prelude.{Bool, cond, not, ◌&&◌, ℕ, ◌≤◌, ◌<◌, eqb, Option, Some, None}
 use Rattle.std.specs.Float.Ieee as Ieee
 use Rattle.pins.specs.declared.Pin.{Pin}
 use Rattle.pins.specs.declared.Mcu.{Mcu}
 use Rattle.pins.specs.declared.ExtDrive.{ExtDrive}
+use Rattle.pins.specs.declared.Source.{Source}
 use Rattle.pins.specs.Pins.{by_chip, resolved, supply_at}
 use Rattle.gpio.specs.declared.Gpio.{Gpio}
 use Rattle.gpio.specs.declared.PinCfg.{PinCfg}
 use Rattle.sig.specs.Signal.{is_input}
-use Rattle.gpio.specs.declared.Change.{Change}
-use Rattle.gpio.specs.declared.Change.TheVariants.{Same, Level}
+use Rattle.gpio.specs.declared.Edge.{Edge}
 use Rattle.gpio.specs.declared.Moved.{Moved}
 
--- the range of a pin: each level is 0 or 1, the source one of the four, the signal one of the 256
+-- the range of a pin: each level is 0 or 1, the signal one of the 256; its source's type has the four
 pub record GpioFit (g : Gpio) : Type 0 where
   pub odr : g.cfg.odr ≤ 1
   pub out : g.pin.mcu.out ≤ 1
   pub value : g.pin.mcu.ov_value ≤ 1
   pub level : g.pin.level ≤ 1
-  pub some-source : 1 ≤ g.pin.source
-  pub source : g.pin.source ≤ 4
   pub sig : g.sig < 256
 
 -- the modes: "A mode above 3 acts as input"
@@ -93,10 +91,13 @@ with_pin g p = record { cfg = g.cfg; pin = p; sig = g.sig }
 abbrev pub with_mcu : Gpio → Mcu → Gpio
 with_mcu g m = with_pin g (record { mcu = m; ext = g.pin.ext; level = g.pin.level; volts = g.pin.volts; source = g.pin.source })
 
+abbrev pub edge : ℕ → ℕ → Source → Edge
+edge i level source = record { pin = i; level = level; source = source }
+
 -- "An entry is made exactly when a pin's level changes", "A change of source alone makes no entry": the change of pin i from an old level to a new
 -- one, which a source gives it
-abbrev pub changed : ℕ → ℕ → ℕ → ℕ → Change
-changed i old new source = cond (eqb new old) Same (Level i new source)
+abbrev pub changed : ℕ → ℕ → ℕ → Source → Option Edge
+changed i old new source = cond (eqb new old) None (Some (edge i new source))
 
 -- a pin resolved at the supply, and its change
 unfoldable pub updated : ℕ → Gpio → Ieee.Float → Moved
@@ -132,10 +133,6 @@ push_pull g l vcc = with_pin g (record {
   volts = supply_at vcc l;
   source = by_chip;
 })
-
--- ---- a change as a number: 0 for none, else one more than the pin, the level and the source as digits of 256
-unfoldable pub change_of : ℕ → Change
-change_of n = cond (eqb n 0) Same (Level ((n - 1) / 65536 % 256) ((n - 1) / 256 % 256) ((n - 1) % 256))
 
 -- another configuration and signal
 abbrev pub configured : Gpio → PinCfg → ℕ → Gpio

@@ -12,7 +12,7 @@ use lib.Seq.{get_or-set_same, get_or-set_other, set-get_or, set-set, get_or-drop
 use lib.Ieee.{Float, nan}
 use Rattle.gpio.specs.declared.Gpio.{Gpio}
 use Rattle.codec.specs.Pin.{decode_gpio}
-use Rattle.pins.specs.Pins.{supply_at}
+use Rattle.pins.specs.Pins.{by_chip, source_of, supply_at}
 use Rattle.gpio.specs.Gpio.{bit, push_pull}
 use Rattle.machine.specs.Board.{no_gpio}
 use Rattle.state.specs.Board.{pin_at, with_gpios, pin_set}
@@ -126,7 +126,7 @@ decode-driven l v u vcc level h =
     let e : level % 2 ≡ level = omega arith in
     let lowest : (level + 2) % 2 ≡ level = omega arith in
     let one : (level + 2) / 2 ≡ 1 = omega arith in
-    let source : ((level + 2) / 2 % 4 + 3) % 4 + 1 ≡ 1 = ap (λ (n : ℕ). (n % 4 + 3) % 4 + 1) one in
+    let source : source_of ((level + 2) / 2 % 4) ≡ by_chip = ap (λ (n : ℕ). source_of (n % 4)) one in
     rw (e, lowest, source, flag_word (get_or (front 0 16 l) 3 0), flag_word (get_or (front 0 16 l) 4 0))
 
 module _ (w : List ℕ) (x : List Float) (size : length w ≡ 5276) (reals : length x ≡ 264) (p : ℕ) (h : p < 128) where

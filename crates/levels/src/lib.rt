@@ -2,27 +2,28 @@
 #![tactic(auto)]
 
 ghost use Rattle.std.specs.Prelude.{◌≡◌, List, ℕ, ◌<◌, ◌≤◌, Float};
-ghost use Rattle.pins.specs.Pins.{supply_at};
 ghost use Rattle.gpio.specs.Gpio.{is_push_pull, push_pull};
 ghost use Rattle.state.specs.Board.{pin_at, pin_set};
+ghost use Rattle.state.specs.Lent.{lent_board, SameLoan};
 ghost use Rattle.state.specs.View.{view};
 
-use codec::GPIO_WORDS;
-use state::{GPIO, GPIO_REALS, REALS, VCC, WORDS};
+use codec::{GPIO_WORDS, pin};
+use pins::Source;
+use state::{GPIO, GPIO_REALS, LentBoard, WORDS};
 
 pub fn level(words: &[u64; WORDS], p: usize) -> u8
     requires { p < 128 }
     ensures { (x : List Float) → result ≡ (pin_at (view words.now x) p).pin.level }
 {
-    (words[GPIO + (p * GPIO_WORDS + 14)] % 2) as u8
+    (words[GPIO + (p * GPIO_WORDS + pin::LEVEL)] % 2) as u8
 }
 
 // Who holds the level.
-pub fn source(words: &[u64; WORDS], p: usize) -> u8
+pub fn source(words: &[u64; WORDS], p: usize) -> Source
     requires { p < 128 }
     ensures { (x : List Float) → result ≡ (pin_at (view words.now x) p).pin.source }
 {
-    ((words[GPIO + (p * GPIO_WORDS + 14)] / 2 % 4 + 3) % 4 + 1) as u8
+    codec::source_in(words[GPIO + (p * GPIO_WORDS + pin::LEVEL)])
 }
 
 // The selected signal.
@@ -31,7 +32,7 @@ pub fn signal(words: &[u64; WORDS], p: usize) -> u32
     ensures value { (x : List Float) → result ≡ (pin_at (view words.now x) p).sig }
     ensures upper_bound { result < 256 }
 {
-    (words[GPIO + (p * GPIO_WORDS + 15)] % 256) as u32
+    (words[GPIO + (p * GPIO_WORDS + pin::SIG)] % 256) as u32
 }
 
 // In alternate mode, and not open drain.
@@ -39,41 +40,29 @@ pub fn is_push_pull(words: &[u64; WORDS], p: usize) -> bool
     requires { p < 128 }
     ensures { (x : List Float) → result ≡ is_push_pull (pin_at (view words.now x) p).cfg }
 {
-    if words[GPIO + p * GPIO_WORDS] % 256 == 2 {
-        return words[GPIO + (p * GPIO_WORDS + 1)] % 2 == 0;
-    }
-    false
-}
-
-// The volts at a level.
-fn volts(reals: &[f64; REALS], level: u8) -> f64
-    ensures { (w : List ℕ) → result ≡ supply_at (view w reals.now).pads.vcc level }
-{
-    if level == 0 {
-        return 0.0;
-    }
-    reals[VCC]
+    words[GPIO + p * GPIO_WORDS] % 256 == 2
+        && words[GPIO + (p * GPIO_WORDS + pin::OPEN_DRAIN)] % 2 == 0
 }
 
 // Push-pull pin p at the level of a signal that drives it: the source is the chip, and stands in the level's word. What that leaves as it is is not
 // stored.
-pub fn drive_level(words: &mut [u64; WORDS], reals: &mut [f64; REALS], p: usize, level: u8)
+pub fn drive_level(board: &mut LentBoard<'_>, p: usize, level: u8)
     requires { (p < 128) × (level ≤ 1) }
-    ensures { view words.new reals.new ≡ pin_set (view words.old reals.old) p (push_pull (pin_at (view words.old reals.old) p) level (view words.old reals.old).pads.vcc) }
+    ensures same_loan { SameLoan board.old board.new }
+    ensures board { lent_board board.new ≡ pin_set (lent_board board.old) p (push_pull (pin_at (lent_board board.old) p) level (lent_board board.old).pads.vcc) }
 {
-    state::sized(words);
-    state::sized_reals(reals);
-    let v = volts(reals, level);
+    state::known_lengths(board.words, board.reals);
+    let v = pins::supply_at(state::vcc(board.reals), level);
     let at = GPIO + p * GPIO_WORDS;
-    let up = words[at + 3] % 2;
-    let down = words[at + 4] % 2;
-    words[at + 5] = 1;
-    words[at + 7] = up;
-    words[at + 8] = down;
-    words[at + 9] = 1;
-    words[at + 10] = level as u64;
-    words[at + 11] = 0;
-    words[at + 12] = 0;
-    words[at + 14] = level as u64 + 2;
-    reals[GPIO_REALS + p * 2] = v;
+    let up = board.words[at + pin::PULLUP] % 2;
+    let down = board.words[at + pin::PULLDOWN] % 2;
+    board.words[at + pin::DIR] = 1;
+    board.words[at + pin::UP] = up;
+    board.words[at + pin::DOWN] = down;
+    board.words[at + pin::OV_ENABLE] = 1;
+    board.words[at + pin::OV_VALUE] = level as u64;
+    board.words[at + pin::DDOE] = 0;
+    board.words[at + pin::DDOV] = 0;
+    board.words[at + pin::LEVEL] = level as u64 + 2 * Source::Chip as u64;
+    board.reals[GPIO_REALS + p * 2] = v;
 }

@@ -1,532 +1,492 @@
-// A line of the call list, byte by byte, to an encoded call. The state is lent, so lines may be of any length.
+// A line of the call list, byte by byte, to an encoded call. The reader is lent, so lines may be of any length.
 #![tactic(auto)]
 
-use text::{Number, Reading};
+ghost use Rattle.std.specs.Prelude.{◌≡◌, ◌+◌, ◌/◌, ◌%◌, ◌<◌, ◌≤◌, ◌^◌, slice_set, min, MatchResult, IfOk, IfSome, OnSome, OnOk, OnErr};
+ghost use Rattle.text.specs.Words.{number_of};
+ghost use Rattle.text.specs.declared.Reason.TheVariants as Reason;
+ghost use Rattle.line.specs.Call.{Begins, last_wide, with_last_wide};
 
-// Places of the state: the number of the line; 0 before the first word, 1 in it, 2 between numbers, 3 in a number, 4 in `manual`, 5 in bytes; whether a
-// comment runs; whether a carriage return waits for the line's end.
-pub const LINE: usize = 0;
+use arrayvec::ArrayVec;
+use text::{Command, Operand, Reading, Reason};
 
-const PHASE: usize = 1;
-
-const COMMENT: usize = 2;
-
-const RETURN: usize = 3;
-
-// The letters of the first word; the call; which of its numbers is next; where it is put.
-const LETTERS: usize = 4;
-
-pub const OP: usize = 5;
-
-const FIELD: usize = 6;
-
-pub const AT: usize = 7;
-
-// A number that is being read; the last of 64 bits.
-const STEP: usize = 8;
-
-const BASE: usize = 9;
-
-const VALUE: usize = 10;
-
-pub const WIDE: usize = 11;
-
-// A set-up's numbers of timers that are left, its LEN, the place of its table and an INDEX.
-const LEFT: usize = 12;
-
-const LEN: usize = 13;
-
-const TABLE: usize = 14;
-
-const INDEX: usize = 15;
-
-// How far the buffer of answers is filled.
-pub const USED: usize = 16;
-
-// A set-up's N.
-const TIMERS: usize = 17;
-
-pub const STATE: usize = 18;
-
-// The longest word of a call has 10 letters.
-pub const WORD: usize = 11;
+// The longest word of a call has 10 letters: one more tells a longer word.
+const LETTERS: usize = 11;
 
 // A set-up of 9 timers and 2,049 table entries is 2,122 words: more is refused as these are. The bytes of a record stand one in a word behind the call's
 // number, and a record takes up to 2 + 65,535.
 pub const ENCODED: usize = 65538;
 
-// What a byte leads to: nothing yet, a call, or why there is none.
-pub const GO_ON: u8 = 0;
+// How many timers and how much of a table are kept.
+const TIMERS: u32 = 9;
 
-pub const CALL: u8 = 1;
+const TABLE: u32 = 2049;
 
-pub const UNKNOWN_WORD: u8 = 2;
+// The place of a set-up's N among its numbers by the table, and how many numbers a timer has.
+const TIMERS_PLACE: usize = 4;
 
-pub const MISSING: u8 = 3;
+const TIMER_NUMBERS: u64 = 7;
 
-pub const SURPLUS: u8 = 4;
+// Where a set-up's words have its LEN, its MASK, and where the numbers of 9 timers end.
+const LENGTH_AT: usize = 8;
 
-pub const NOT_A_NUMBER: u8 = 5;
+const MASK_AT: usize = 9;
 
-pub const TOO_LARGE: u8 = 6;
+const TIMERS_END: usize = 73;
 
-const SHORT: u64 = 4294967295;
-
-pub fn size(x: u64) -> usize {
-    x as usize
+// What is being read: before the first word, in it, between words, or in a number, in `manual`, in bytes.
+#[derive(Clone, Copy)]
+enum Phase {
+    Start,
+    First,
+    Between,
+    Number(Reading),
+    Manual,
+    Bytes(Hex),
 }
 
-fn short(x: u64) -> u32 {
+// How far bytes have been read: none, half a one, whole ones, a dash, which is no byte, or something else.
+#[derive(Clone, Copy)]
+enum Hex {
+    Nothing,
+    Half(u64),
+    Whole,
+    Dash,
+    Wrong,
+}
+
+// What the call's next number is: the one at a place of the table, or, of a set-up, one of its timers', its LEN, an INDEX, a SIGNAL, its MASK; or there is
+// none.
+#[derive(Clone, Copy)]
+enum Next {
+    Operand(usize),
+    Timer { timers: u32, left: u64 },
+    Length { timers: u32 },
+    Index(Table),
+    Signal { table: Table, index: u32 },
+    Mask { timers: u32 },
+    Nothing,
+}
+
+// A set-up's N, its LEN, and where its table starts among the call's words.
+#[derive(Clone, Copy)]
+struct Table {
+    timers: u32,
+    length: u32,
+    start: usize,
+    ghost behind: { (0 < start) × (start ≤ 65538) },
+}
+
+// The words of a line, to an encoded call.
+#[derive(Drop)]
+struct Parser {
+    phase: Phase,
+    word: ArrayVec<u8, LETTERS>,
+    command: Command,
+    next: Next,
+    call: ArrayVec<u32, ENCODED>,
+    // What stands in it begins with a call's number, from the first byte of the list on.
+    ghost begins: { Begins command call.items },
+}
+
+// The low and the high word of a number of 64 bits.
+fn low(x: u64) -> u32
+    ensures { result ≡ x % 2 ^ 32 }
+{
     (x % 4294967296) as u32
 }
 
-fn byte(x: u64) -> u8 {
-    (x % 256) as u8
+fn high(x: u64) -> u32
+    ensures { result ≡ x / 2 ^ 32 }
+{
+    (x / 4294967296) as u32
 }
 
-fn least(a: u64, b: u64) -> u64 {
-    if a < b { a } else { b }
+// A number of 32 bits.
+fn short(x: u64) -> Result<u32, Reason>
+    ensures { MatchResult result (λ y. y ≡ x) (λ e. (2 ^ 32 ≤ x) × (e ≡ Reason.TooLarge)) }
+{
+    u32::try_from(x).or(Err(Reason::TooLarge))
 }
 
-// Puts a word into the call.
-pub fn put(call: &mut [u32; ENCODED], at: usize, x: u64) {
-    if at < ENCODED {
-        call[at] = short(x);
+impl Parser {
+    fn new() -> Parser {
+        let mut call = ArrayVec::new();
+        call.push(Command::Setup.number() as u32);
+        Parser {
+            phase: Phase::Start,
+            word: ArrayVec::new(),
+            command: Command::Setup,
+            next: Next::Nothing,
+            call,
+        }
     }
-}
 
-// The call that the first n letters name.
-fn named(word: &[u8], n: usize) -> u8 {
-    if n <= word.len() {
-        return text::call_of(&word[..n]);
+    // A word more of the call: one that no call can have is passed over.
+    fn put(&mut self, word: u32) {
+        let _ = self.call.try_push(word);
     }
-    text::UNKNOWN
-}
 
-// Moves a place of the state on.
-fn bump(state: &mut [u64; STATE], place: usize, by: u64) {
-    if place < STATE {
-        let x = state[place];
-        if x <= 18446744073709551615 - by {
-            state[place] = x + by;
+    // Another word in a place of the call behind its number.
+    fn put_at(&mut self, place: usize, word: u32)
+        requires { 0 < place }
+        ensures { self.new.call.items ≡ slice_set self.old.call.items place word }
+    {
+        if let Some(old) = self.call.get_mut(place) {
+            *old = word;
+        }
+    }
+
+    // A letter of a word that is kept.
+    fn keep(&mut self, b: u8) {
+        let _ = self.word.try_push(b);
+    }
+
+    // What stands in the place of the next number, by the table.
+    fn wanted(&self) -> Option<Operand> {
+        match self.next {
+            Next::Operand(k) => self.command.operand(k),
+            _ => None,
+        }
+    }
+
+    // The call has all the numbers that it can have: a set-up with its mask.
+    fn is_full(&self) -> bool {
+        match self.next {
+            Next::Operand(k) => self.command.operand(k).is_none(),
+            Next::Nothing => true,
+            _ => false,
+        }
+    }
+
+    // The call has all its numbers: behind a set-up's LEN and behind each pair.
+    fn is_complete(&self) -> bool {
+        match self.next {
+            Next::Index(_) => true,
+            _ => self.is_full(),
+        }
+    }
+
+    // What a word behind the first begins: bytes, `manual` where a set-up's pairs may end, or a number.
+    fn begun(&self, b: u8) -> Phase {
+        match (self.wanted(), self.next, b) {
+            (Some(Operand::Bytes), _, _) => Phase::Bytes(Hex::Nothing),
+            (_, Next::Index(_), b'm') => Phase::Manual,
+            _ => Phase::Number(Reading::new()),
+        }
+    }
+
+    // A digit of bytes, the high one first. Bytes that no record can have are passed over.
+    fn hex(&mut self, hex: Hex, b: u8) -> Hex {
+        let Some(digit) = text::digit(b) else {
+            return match hex {
+                Hex::Nothing if b == b'-' => Hex::Dash,
+                _ => Hex::Wrong,
+            };
+        };
+        match hex {
+            Hex::Nothing | Hex::Whole => Hex::Half(digit),
+            Hex::Half(high) => {
+                self.put(low(16 * (high % 16) + digit % 16));
+                Hex::Whole
+            }
+            Hex::Dash | Hex::Wrong => Hex::Wrong,
+        }
+    }
+
+    // A byte that belongs to a word.
+    fn letter(&mut self, b: u8) -> Result<(), Reason> {
+        match self.phase {
+            Phase::Start => {
+                self.word.clear();
+                self.phase = Phase::First;
+            }
+            Phase::Between => {
+                if self.is_full() {
+                    return Err(Reason::SurplusNumber);
+                }
+                self.word.clear();
+                self.phase = self.begun(b);
+            }
+            _ => {}
+        }
+        match self.phase {
+            Phase::Number(reading) => self.phase = Phase::Number(reading.next(b)),
+            Phase::Bytes(hex) => self.phase = Phase::Bytes(self.hex(hex, b)),
+            _ => self.keep(b),
+        }
+        Ok(())
+    }
+
+    // The first word ends.
+    fn first_word(&mut self) -> Result<(), Reason> {
+        let command = text::call_of(self.word.as_slice()).ok_or(Reason::UnknownWord)?;
+        self.phase = Phase::Between;
+        self.command = command;
+        self.next = Next::Operand(0);
+        self.call.clear();
+        self.call.push(command.number() as u32);
+        Ok(())
+    }
+
+    // A set-up's N: nine timers are kept. Behind it LEN and MASK have their places.
+    fn timer_count(&mut self, timers: u32) {
+        self.put(timers.min(TIMERS));
+        self.put(0);
+        self.put(0);
+        self.next = match timers {
+            0 => Next::Length { timers },
+            _ => Next::Timer {
+                timers,
+                left: TIMER_NUMBERS * timers as u64,
+            },
+        };
+    }
+
+    // A number of a timer.
+    fn timer_number(&mut self, timers: u32, left: u64, v: u32) {
+        if self.call.len() < TIMERS_END {
+            self.put(v);
+        }
+        self.next = if left <= 1 {
+            Next::Length { timers }
+        } else {
+            Next::Timer {
+                timers,
+                left: left - 1,
+            }
+        };
+    }
+
+    // A set-up's LEN. The table before its pairs: all 0.
+    fn table_length(&mut self, timers: u32, length: u32) {
+        let kept = length.min(TABLE);
+        self.put_at(LENGTH_AT, kept);
+        let start = self.call.len();
+        for _ in 0..kept {
+            self.put(0);
+        }
+        self.next = Next::Index(Table {
+            timers,
+            length,
+            start,
+        });
+    }
+
+    // A set-up's SIGNAL, if its entry is kept.
+    fn table_signal(&mut self, table: Table, index: u32, v: u32) {
+        if index < TABLE {
+            self.put_at(table.start + index as usize, v);
+        }
+        self.next = Next::Index(table);
+    }
+
+    // A set-up's MASK: a bit for each timer.
+    fn manual_mask(&mut self, timers: u32, v: u32) -> Result<(), Reason> {
+        if timers < 32 && v >> timers != 0 {
+            return Err(Reason::TooLarge);
+        }
+        self.put_at(MASK_AT, v);
+        self.next = Next::Nothing;
+        Ok(())
+    }
+
+    // A number of the table, at place k.
+    fn operand(&mut self, k: usize, v: u64) -> Result<(), Reason> {
+        match self.command.operand(k) {
+            Some(Operand::Wide) => {
+                self.put(low(v));
+                self.put(high(v));
+            }
+            Some(Operand::Kind) if 3 < v => return Err(Reason::TooLarge),
+            _ => {
+                let v = short(v)?;
+                if self.command == Command::Setup && k == TIMERS_PLACE {
+                    self.timer_count(v);
+                    return Ok(());
+                }
+                self.put(v);
+            }
+        }
+        self.next = Next::Operand(k.saturating_add(1));
+        Ok(())
+    }
+
+    // A number in its place.
+    fn number(&mut self, v: u64) -> Result<(), Reason> {
+        if let Next::Operand(k) = self.next {
+            return self.operand(k, v);
+        }
+        let v = short(v)?;
+        match self.next {
+            Next::Timer { timers, left } => self.timer_number(timers, left, v),
+            Next::Length { timers } => self.table_length(timers, v),
+            Next::Index(table) if v < table.length => self.next = Next::Signal { table, index: v },
+            Next::Index(_) => return Err(Reason::TooLarge),
+            Next::Signal { table, index } => self.table_signal(table, index, v),
+            Next::Mask { timers } => return self.manual_mask(timers, v),
+            Next::Operand(_) | Next::Nothing => {}
+        }
+        Ok(())
+    }
+
+    // The word behind the pairs ends: its mask is next.
+    fn manual_end(&mut self) -> Result<(), Reason> {
+        match self.next {
+            Next::Index(table) if text::same(self.word.as_slice(), b"manual") => {
+                self.next = Next::Mask {
+                    timers: table.timers,
+                };
+                Ok(())
+            }
+            _ => Err(Reason::NotANumber),
+        }
+    }
+
+    // Bytes end: whole ones, or a dash.
+    fn hex_end(&mut self, hex: Hex) -> Result<(), Reason> {
+        self.next = match self.next {
+            Next::Operand(k) => Next::Operand(k.saturating_add(1)),
+            next => next,
+        };
+        match hex {
+            Hex::Whole | Hex::Dash => Ok(()),
+            _ => Err(Reason::NotANumber),
+        }
+    }
+
+    // A word ends, if one runs.
+    fn word_end(&mut self) -> Result<(), Reason> {
+        let phase = self.phase;
+        match phase {
+            Phase::Start | Phase::Between => return Ok(()),
+            Phase::First => return self.first_word(),
+            _ => self.phase = Phase::Between,
+        }
+        match phase {
+            Phase::Number(reading) => self.number(reading.told()?),
+            Phase::Bytes(hex) => self.hex_end(hex),
+            _ => self.manual_end(),
+        }
+    }
+
+    // The line ends: the call that it is, if it is one.
+    fn line_end(&mut self) -> Result<Option<Command>, Reason>
+        ensures { IfOk result (λ told. IfSome told (λ command. Begins command self.new.call.items)) }
+    {
+        self.word_end()?;
+        let phase = self.phase;
+        self.phase = Phase::Start;
+        match phase {
+            Phase::Start => Ok(None),
+            _ if self.is_complete() => Ok(Some(self.command)),
+            _ => Err(Reason::MissingNumber),
         }
     }
 }
 
-// What the call's next number is to be.
-fn wanted(state: &[u64; STATE]) -> u8 {
-    text::field(byte(state[OP]), size(state[FIELD]))
+// A call list, byte by byte: the number of the line, whether a comment runs, whether a carriage return waits for the line's end, and the line's words.
+#[derive(Drop)]
+pub struct Reader {
+    line: u64,
+    comment: bool,
+    carriage_return: bool,
+    parser: Parser,
 }
 
-// A byte of a number.
-fn digit(state: &mut [u64; STATE], b: u8) {
-    let r = Reading {
-        step: byte(state[STEP]),
-        base: state[BASE],
-        value: state[VALUE],
-    };
-    let s = r.next(b);
-    state[STEP] = s.step as u64;
-    state[BASE] = s.base;
-    state[VALUE] = s.value;
-}
-
-// A letter of a word that is kept.
-fn keep(state: &mut [u64; STATE], word: &mut [u8; WORD], b: u8) {
-    let n = size(state[LETTERS]);
-    if n < WORD {
-        word[n] = b;
-        bump(state, LETTERS, 1);
-    }
-}
-
-// A byte of the first word.
-fn first_letter(state: &mut [u64; STATE], word: &mut [u8; WORD], b: u8) {
-    state[PHASE] = 1;
-    keep(state, word, b);
-}
-
-// The call has all the numbers that it can have: a set-up with its mask.
-fn is_full(state: &[u64; STATE]) -> bool {
-    if state[OP] == 0 {
-        return state[FIELD] == 10;
-    }
-    wanted(state) == 0
-}
-
-// A set-up's pairs may end, and `manual` follow.
-fn may_be_manual(state: &[u64; STATE]) -> bool {
-    if state[OP] != 0 {
-        return false;
-    }
-    state[FIELD] == 7
-}
-
-fn is_manual(word: &[u8; WORD], n: usize) -> bool {
-    if n != 6 {
-        return false;
-    }
-    (word[0] == b'm')
-        & (word[1] == b'a')
-        & (word[2] == b'n')
-        & (word[3] == b'u')
-        & (word[4] == b'a')
-        & (word[5] == b'l')
-}
-
-// The word behind the pairs ends: its mask is next.
-fn manual_end(state: &mut [u64; STATE], word: &[u8; WORD]) -> u8 {
-    let n = size(state[LETTERS]);
-    state[PHASE] = 2;
-    state[LETTERS] = 0;
-    if is_manual(word, n) {
-        state[FIELD] = 9;
-        return GO_ON;
-    }
-    NOT_A_NUMBER
-}
-
-// A digit of bytes, the high one first. Steps: 0 none, 1 half a byte, 2 whole bytes, 3 a dash, which is no byte, 4 something else. Bytes that no record can
-// have are passed over.
-fn hex(state: &mut [u64; STATE], call: &mut [u32; ENCODED], b: u8) {
-    let step = state[STEP];
-    let high = state[VALUE];
-    let d = text::digit(b);
-    if (step == 0) & (b == b'-') {
-        state[STEP] = 3;
-        return;
-    }
-    if (3 <= step) | (16 <= d) {
-        state[STEP] = 4;
-        return;
-    }
-    if step != 1 {
-        state[VALUE] = d;
-        state[STEP] = 1;
-        return;
-    }
-    let at = size(state[AT]);
-    if at < ENCODED {
-        put(call, at, 16 * (high % 16) + d % 16);
-        bump(state, AT, 1);
-    }
-    state[STEP] = 2;
-}
-
-// Bytes end: whole ones, or a dash.
-fn hex_end(state: &mut [u64; STATE]) -> u8 {
-    let step = state[STEP];
-    state[PHASE] = 2;
-    state[STEP] = 0;
-    bump(state, FIELD, 1);
-    if (step == 2) | (step == 3) {
-        return GO_ON;
-    }
-    NOT_A_NUMBER
-}
-
-// What a word behind the first begins: bytes, `manual`, or a number.
-fn begins(state: &[u64; STATE], b: u8) -> u64 {
-    if wanted(state) == 4 {
-        return 5;
-    }
-    if b == b'm' {
-        if may_be_manual(state) {
-            return 4;
+impl Reader {
+    // Before the first byte.
+    pub fn new() -> Reader
+        ensures { result.line ≡ 1 }
+    {
+        Reader {
+            line: 1,
+            comment: false,
+            carriage_return: false,
+            parser: Parser::new(),
         }
     }
-    3
-}
 
-// A byte that belongs to a word.
-fn letter(state: &mut [u64; STATE], word: &mut [u8; WORD], call: &mut [u32; ENCODED], b: u8) -> u8 {
-    let phase = state[PHASE];
-    if phase < 2 {
-        first_letter(state, word, b);
-        return GO_ON;
+    // The number of the line.
+    pub fn line(&self) -> u64
+        ensures { result ≡ self.now.line }
+    {
+        self.line
     }
-    if phase == 2 {
-        if is_full(state) {
-            return SURPLUS;
-        }
-        state[PHASE] = begins(state, b);
-    }
-    if state[PHASE] == 4 {
-        keep(state, word, b);
-        return GO_ON;
-    }
-    if state[PHASE] == 5 {
-        hex(state, call, b);
-        return GO_ON;
-    }
-    digit(state, b);
-    GO_ON
-}
 
-// The first word ends.
-fn first_word(state: &mut [u64; STATE], word: &[u8; WORD], call: &mut [u32; ENCODED]) -> u8 {
-    let op = named(word, size(state[LETTERS]));
-    if text::UNKNOWN <= op {
-        return UNKNOWN_WORD;
+    // The call's words, as far as they are read.
+    pub fn words(&self) -> &[u32]
+        ensures { result.now ≡ self.now.parser.call.items }
+    {
+        self.parser.call.as_slice()
     }
-    state[PHASE] = 2;
-    state[LETTERS] = 0;
-    state[OP] = op as u64;
-    state[FIELD] = 0;
-    state[AT] = 1;
-    put(call, 0, op as u64);
-    GO_ON
-}
 
-// A set-up's N.
-fn timer_count(state: &mut [u64; STATE], call: &mut [u32; ENCODED], v: u64) -> u8 {
-    put(call, 7, least(v, 9));
-    put(call, 9, 0);
-    state[AT] = 10;
-    state[TIMERS] = v;
-    state[LEFT] = 7 * (v % 4294967296);
-    if v == 0 {
-        state[FIELD] = 6;
-        return GO_ON;
-    }
-    state[FIELD] = 5;
-    GO_ON
-}
-
-// A number of a timer: nine timers are kept.
-fn timer_number(state: &mut [u64; STATE], call: &mut [u32; ENCODED], v: u64) -> u8 {
-    let at = size(state[AT]);
-    if at < 73 {
-        put(call, at, v);
-        bump(state, AT, 1);
-    }
-    let left = state[LEFT];
-    if left <= 1 {
-        state[FIELD] = 6;
-        return GO_ON;
-    }
-    state[LEFT] = left - 1;
-    GO_ON
-}
-
-// The table before its pairs: all 0.
-fn clear(call: &mut [u32; ENCODED], from: usize, end: usize) {
-    let mut i = from;
-    while i < end {
-        put(call, i, 0);
-        i += 1;
-    }
-}
-
-// A set-up's LEN.
-fn table_length(state: &mut [u64; STATE], call: &mut [u32; ENCODED], v: u64) -> u8 {
-    let kept = least(v, 2049);
-    put(call, 8, kept);
-    let from = state[AT];
-    state[LEN] = v;
-    state[TABLE] = from;
-    bump(state, AT, kept);
-    clear(call, size(from), size(state[AT]));
-    state[FIELD] = 7;
-    GO_ON
-}
-
-// A set-up's INDEX.
-fn table_index(state: &mut [u64; STATE], v: u64) -> u8 {
-    if state[LEN] <= v {
-        return TOO_LARGE;
-    }
-    state[INDEX] = v;
-    state[FIELD] = 8;
-    GO_ON
-}
-
-// A set-up's SIGNAL, if its entry is kept.
-fn table_signal(state: &mut [u64; STATE], call: &mut [u32; ENCODED], v: u64) -> u8 {
-    state[FIELD] = 7;
-    let index = state[INDEX];
-    let table = state[TABLE];
-    if index < 2049 {
-        if table < 74 {
-            put(call, size(table + index), v);
+    // The number of 64 bits that the call's last two words are.
+    pub fn last_wide(&self) -> Option<u64>
+        ensures { result ≡ last_wide self.now.parser.call.items }
+    {
+        match self.words() {
+            [_, .., low, high] => Some(4294967296 * *high as u64 + *low as u64),
+            _ => None,
         }
     }
-    GO_ON
-}
 
-// A set-up's MASK: a bit for each timer.
-fn manual_mask(state: &mut [u64; STATE], call: &mut [u32; ENCODED], v: u64) -> u8 {
-    let n = state[TIMERS];
-    if n < 32 {
-        if v >> n != 0 {
-            return TOO_LARGE;
+    // Puts another number in its place.
+    pub fn set_last_wide(&mut self, x: u64)
+        ensures words { self.new.parser.call.items ≡ with_last_wide x self.old.parser.call.items }
+        ensures line { self.new.line ≡ self.old.line }
+    {
+        let length = self.parser.call.len();
+        if 3 <= length {
+            self.parser.put_at(length - 2, low(x));
+            self.parser.put_at(length - 1, high(x));
         }
     }
-    put(call, 9, v);
-    state[FIELD] = 10;
-    GO_ON
-}
 
-// A number of a set-up, from N on.
-fn setup_number(state: &mut [u64; STATE], call: &mut [u32; ENCODED], v: u64) -> u8 {
-    let k = state[FIELD];
-    if SHORT < v {
-        return TOO_LARGE;
+    // The line ends, or the input: the call that the line is, if it is one.
+    pub fn end(&mut self) -> Result<Option<Command>, Reason>
+        ensures whole { IfOk result (λ told. IfSome told (λ command. Begins command self.new.parser.call.items)) }
+        ensures counted { OnOk result (self.new.line ≡ min (self.old.line + 1) 18446744073709551615) }
+        ensures err { OnErr result (self.new.line ≡ self.old.line) }
+    {
+        self.comment = false;
+        self.carriage_return = false;
+        let told = self.parser.line_end()?;
+        self.line = self.line.saturating_add(1);
+        Ok(told)
     }
-    match k {
-        4 => timer_count(state, call, v),
-        5 => timer_number(state, call, v),
-        6 => table_length(state, call, v),
-        7 => table_index(state, v),
-        8 => table_signal(state, call, v),
-        _ => manual_mask(state, call, v),
-    }
-}
 
-// A number of 64 bits: its low word, then its high word.
-fn wide_number(state: &mut [u64; STATE], call: &mut [u32; ENCODED], v: u64) {
-    let at = size(state[AT]);
-    if at < ENCODED {
-        put(call, at, v);
-        put(call, at + 1, v / 4294967296);
-    }
-    state[WIDE] = v;
-    bump(state, AT, 2);
-    bump(state, FIELD, 1);
-}
-
-// A number that is at most so large.
-fn short_number(state: &mut [u64; STATE], call: &mut [u32; ENCODED], v: u64, most: u64) -> u8 {
-    if most < v {
-        return TOO_LARGE;
-    }
-    put(call, size(state[AT]), v);
-    bump(state, AT, 1);
-    bump(state, FIELD, 1);
-    GO_ON
-}
-
-// A number in its place.
-fn number(state: &mut [u64; STATE], call: &mut [u32; ENCODED], v: u64) -> u8 {
-    if state[OP] == 0 {
-        if 4 <= state[FIELD] {
-            return setup_number(state, call, v);
+    // The next byte of the list: the call that it ends, if it ends one.
+    pub fn feed(&mut self, b: u8) -> Result<Option<Command>, Reason>
+        ensures whole { IfOk result (λ told. IfSome told (λ command. Begins command self.new.parser.call.items)) }
+        ensures at_end { IfOk result (λ told. OnSome told (b ≡ 10)) }
+        ensures err { OnErr result (self.new.line ≡ self.old.line) }
+    {
+        if b == b'\n' {
+            return self.end();
         }
-    }
-    let f = wanted(state);
-    if f == 2 {
-        wide_number(state, call, v);
-        return GO_ON;
-    }
-    if f == 3 {
-        return short_number(state, call, v, 3);
-    }
-    short_number(state, call, v, SHORT)
-}
-
-// A number's word ends.
-fn number_end(state: &mut [u64; STATE], call: &mut [u32; ENCODED]) -> u8 {
-    let r = Reading {
-        step: byte(state[STEP]),
-        base: state[BASE],
-        value: state[VALUE],
-    };
-    state[PHASE] = 2;
-    state[STEP] = 0;
-    let told = r.told();
-    match told {
-        Number::Value(v) => number(state, call, v),
-        Number::NotANumber => NOT_A_NUMBER,
-        Number::TooLarge => TOO_LARGE,
-    }
-}
-
-fn word_end(state: &mut [u64; STATE], word: &[u8; WORD], call: &mut [u32; ENCODED]) -> u8 {
-    let phase = state[PHASE];
-    if phase == 1 {
-        return first_word(state, word, call);
-    }
-    if phase == 3 {
-        return number_end(state, call);
-    }
-    if phase == 4 {
-        return manual_end(state, word);
-    }
-    if phase == 5 {
-        return hex_end(state);
-    }
-    GO_ON
-}
-
-// Whether the call has all its numbers.
-fn complete(state: &[u64; STATE]) -> bool {
-    if state[OP] == 0 {
-        return (state[FIELD] == 7) | (state[FIELD] == 10);
-    }
-    wanted(state) == 0
-}
-
-// The line ends, or the input.
-pub fn line_end(state: &mut [u64; STATE], word: &[u8; WORD], call: &mut [u32; ENCODED]) -> u8 {
-    state[COMMENT] = 0;
-    state[RETURN] = 0;
-    let e = word_end(state, word, call);
-    if e != GO_ON {
-        return e;
-    }
-    let phase = state[PHASE];
-    state[PHASE] = 0;
-    if phase == 0 {
-        bump(state, LINE, 1);
-        return GO_ON;
-    }
-    if complete(state) {
-        bump(state, LINE, 1);
-        return CALL;
-    }
-    MISSING
-}
-
-// Leaves the line: nothing of it is read any more.
-pub fn leave(state: &mut [u64; STATE]) {
-    state[PHASE] = 0;
-}
-
-// A byte that is no line end and no part of a comment.
-fn mark(state: &mut [u64; STATE], word: &mut [u8; WORD], call: &mut [u32; ENCODED], b: u8) -> u8 {
-    if b == b'\r' {
-        state[RETURN] = 1;
-        return GO_ON;
-    }
-    if b == b'#' {
-        state[COMMENT] = 1;
-        return word_end(state, word, call);
-    }
-    if text::is_space(b) {
-        return word_end(state, word, call);
-    }
-    letter(state, word, call, b)
-}
-
-// The next byte of the list.
-pub fn feed(
-    state: &mut [u64; STATE],
-    word: &mut [u8; WORD],
-    call: &mut [u32; ENCODED],
-    b: u8,
-) -> u8 {
-    if b == b'\n' {
-        return line_end(state, word, call);
-    }
-    if state[COMMENT] != 0 {
-        return GO_ON;
-    }
-    if state[RETURN] != 0 {
-        state[RETURN] = 0;
-        let e = letter(state, word, call, b'\r');
-        if e != GO_ON {
-            return e;
+        if self.comment {
+            return Ok(None);
         }
+        if self.carriage_return {
+            self.carriage_return = false;
+            self.parser.letter(b'\r')?;
+        }
+        match b {
+            b'\r' => self.carriage_return = true,
+            b'#' => {
+                self.comment = true;
+                self.parser.word_end()?;
+            }
+            _ if text::is_space(b) => self.parser.word_end()?,
+            _ => self.parser.letter(b)?,
+        }
+        Ok(None)
     }
-    mark(state, word, call, b)
+
+    // Leaves the line: nothing of it is read any more.
+    pub fn leave(&mut self)
+        ensures { self.new.line ≡ self.old.line }
+    {
+        self.parser.phase = Phase::Start;
+    }
 }

@@ -13,8 +13,8 @@ use Rattle.tim.specs.declared.Next.{Next}
 use Rattle.tim.specs.declared.Due.{Due}
 use Rattle.tim.specs.declared.Due.TheVariants.{At, Stopped}
 use Rattle.tim.specs.Next.{next_event}
-use Rattle.gpio.specs.declared.Change.{Change}
-use Rattle.gpio.specs.declared.Change.TheVariants.{Same, Level}
+use Rattle.std.specs.Prelude.{Option, Some, None}
+use Rattle.gpio.specs.declared.Edge.{Edge}
 use Rattle.book.specs.Book.{Changes, Entry, entry_of, entries_of}
 use Rattle.machine.specs.Board.{Pads}
 use Rattle.machine.specs.Deliver.{Turn, turn, turn_of, Run, handled, stop, after_turn, due_by}
@@ -36,10 +36,10 @@ unfolding Every
 every-imp P Q f [] p = tt
 every-imp P Q f (x ∷ xs) p = (f x p.0, every-imp P Q f xs p.1)
 
-pub entry-stamped : (at : ℕ) (c : Change) → Every (StampedAt at) (entry_of at c)
+pub entry-stamped : (at : ℕ) (c : Option Edge) → Every (StampedAt at) (entry_of at c)
 unfolding Every entry_of
-entry-stamped at Same = tt
-entry-stamped at (Level p l s) = (refl, tt)
+entry-stamped at None = tt
+entry-stamped at (Some e) = (refl, tt)
 
 pub entries-stamped : (at : ℕ) (c : Changes) → Every (StampedAt at) (entries_of at c)
 unfolding entries_of
@@ -49,10 +49,10 @@ entries-stamped at c =
     (every_append P (entry_of at c.b) _ (entry-stamped at c.b)
     (every_append P (entry_of at c.c) (entry_of at c.d) (entry-stamped at c.c) (entry-stamped at c.d)))
 
-pub entry-few : (at : ℕ) (c : Change) → length (entry_of at c) ≤ 1
+pub entry-few : (at : ℕ) (c : Option Edge) → length (entry_of at c) ≤ 1
 unfolding entry_of
-entry-few at Same = lit≤ tt
-entry-few at (Level p l s) = lit≤ tt
+entry-few at None = lit≤ tt
+entry-few at (Some e) = lit≤ tt
 
 pub entries-few : (at : ℕ) (c : Changes) → length (entries_of at c) ≤ 4
 unfolding entries_of

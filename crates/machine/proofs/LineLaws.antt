@@ -1,5 +1,6 @@
 -- The interrupt lines: each timer's wish is what its flags ask for, a line is high when there is a wish, and where no two timers share a line
 -- it goes as the Rust's. Assumes nothing.
+use Rattle.std.specs.Option.{is_some, unwrap_or}
 use mathlib.Core.Path.{◌≡◌, refl, sym, ap, ◌∙◌, subst, fun_ext}
 use mathlib.Core.Bool.{Bool, true, false, cond, not, ◌&&◌, ◌||◌, false≢true}
 use mathlib.Core.List.{List, [], ◌∷◌, ◌++◌, map}
@@ -397,7 +398,7 @@ module _ (b : Board) (i cycle : ℕ) (few : i < b.counts.timers) (s : Sound b) (
   unfolding followed rebooked line_settled
   wished-followed w n quiet =
       let t = w.timer in
-      let c = with_pads (with_timer b i t) (cond w.drive (Sys.drive_outputs t w.cnt b.pads).pads b.pads) in
+      let c = with_pads (with_timer b i t) (cond (is_some w.drive) (Sys.drive_outputs t (unwrap_or w.drive 0) b.pads).pads b.pads) in
       let l = cond w.line (line_settled i t c) c in
       let hl : Wished l =
       by-test Wished w.line
@@ -596,7 +597,7 @@ followed-nvic : (b : Board) (i cycle : ℕ) (w : Written)
 unfolding followed line_settled rebooked
 followed-nvic b i cycle w = go w.line w.book
   where
-    go : (l k : Bool) → (followed b i cycle (record { timer = w.timer; drive = w.drive; cnt = w.cnt; line = l; book = k })).board.nvic
+    go : (l k : Bool) → (followed b i cycle (record { timer = w.timer; drive = w.drive; line = l; book = k })).board.nvic
         ≡ cond l (N.set_line b.nvic w.timer.inst.irq i (wants_line w.timer)) b.nvic
     go true true = refl
     go true false = refl
@@ -607,7 +608,7 @@ followed-timer : (b : Board) (i cycle : ℕ) (w : Written) → i < length b.time
 unfolding followed line_settled rebooked
 followed-timer b i cycle w h = go w.line w.book
   where
-    go : (l k : Bool) → timer_at (followed b i cycle (record { timer = w.timer; drive = w.drive; cnt = w.cnt; line = l; book = k })).board i ≡ w.timer
+    go : (l k : Bool) → timer_at (followed b i cycle (record { timer = w.timer; drive = w.drive; line = l; book = k })).board i ≡ w.timer
     go true true = get_or-set_same b.timers i w.timer no_timer h
     go true false = get_or-set_same b.timers i w.timer no_timer h
     go false true = get_or-set_same b.timers i w.timer no_timer h

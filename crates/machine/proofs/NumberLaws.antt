@@ -1,4 +1,5 @@
 -- Every call is its refusals, in order, and then what it does: the laws behind Numbers. Assumes nothing.
+use Rattle.std.specs.Option.{is_some, unwrap_or}
 use mathlib.Core.Path.{◌≡◌, refl, ap, sym, ◌∙◌}
 use mathlib.Core.Bool.{Bool, true, false, cond, not, ◌&&◌, ◌||◌}
 use mathlib.Core.List.{List, [], ◌∷◌}
@@ -12,7 +13,8 @@ use Rattle.regs.specs.declared.Written.{Written}
 use Rattle.tim.specs.Next.{next_event}
 use Rattle.tim.specs.Change.{reset_state}
 use Rattle.nvic.specs.Nvic as N
-use Rattle.gpio.specs.declared.Change.{Change}
+use Rattle.std.specs.Prelude.{Option}
+use Rattle.gpio.specs.declared.Edge.{Edge}
 use Rattle.book.specs.Book.{Entry, entry_of}
 use Rattle.machine.specs.Board.{Board, timer_at, with_clocks, with_nvic, with_last, fresh_board}
 use Rattle.machine.specs.Sys as Sys
@@ -363,7 +365,7 @@ performed-last b (lend (delivery timer) cycle places) = refl
 
 -- ---- entries
 
-pub changes-few : (cycle : ℕ) (cs : List Change) → length (changes_of cycle cs) ≤ length cs
+pub changes-few : (cycle : ℕ) (cs : List (Option Edge)) → length (changes_of cycle cs) ≤ length cs
 unfolding changes_of
 changes-few cycle [] = omega arith
 changes-few cycle (c ∷ cs) = simp length-append (omega (arith, entry-few cycle c, changes-few cycle cs))
@@ -376,7 +378,7 @@ reset-length (suc n) i p = ap suc (reset-length n (i + 1) (Sys.reset_pin p i).pa
 pub followed-few : (b : Board) (i cycle : ℕ) (w : Written) → length (followed b i cycle w).entries ≤ 4
 unfolding followed
 followed-few b i cycle w =
-    either (λ (es : List Entry). length es ≤ 4) w.drive (entries-few cycle (Sys.drive_outputs w.timer w.cnt b.pads).changes) (lit≤ tt)
+    either (λ (es : List Entry). length es ≤ 4) (is_some w.drive) (entries-few cycle (Sys.drive_outputs w.timer (unwrap_or w.drive 0) b.pads).changes) (lit≤ tt)
 
 none : (t u : Bool) → (t || u) ≡ false → (t ≡ false) × (u ≡ false)
 none true u h = (h, cc)
@@ -456,7 +458,7 @@ most-fits b (lend (delivery timer) cycle places) h = omega arith
 
 -- ---- the entries' cycles
 
-changes-stamped : (cycle : ℕ) (cs : List Change) → Every (StampedAt cycle) (changes_of cycle cs)
+changes-stamped : (cycle : ℕ) (cs : List (Option Edge)) → Every (StampedAt cycle) (changes_of cycle cs)
 unfolding changes_of
 changes-stamped cycle [] = every-none (StampedAt cycle)
 changes-stamped cycle (c ∷ cs) = every_append (StampedAt cycle) (entry_of cycle c) (changes_of cycle cs) (entry-stamped cycle c) (changes-stamped cycle cs)
@@ -464,7 +466,7 @@ changes-stamped cycle (c ∷ cs) = every_append (StampedAt cycle) (entry_of cycl
 followed-stamped : (b : Board) (i cycle : ℕ) (w : Written) → Every (StampedAt cycle) (followed b i cycle w).entries
 unfolding followed
 followed-stamped b i cycle w =
-    either (Every (StampedAt cycle)) w.drive (entries-stamped cycle (Sys.drive_outputs w.timer w.cnt b.pads).changes) (every-none (StampedAt cycle))
+    either (Every (StampedAt cycle)) (is_some w.drive) (entries-stamped cycle (Sys.drive_outputs w.timer (unwrap_or w.drive 0) b.pads).changes) (every-none (StampedAt cycle))
 
 pub performed-stamped : (b : Board) (c : Call) → is_delivery c ≡ false → Every (StampedAt (book_cycle c)) (performed b c).entries
 unfolding performed timer_reset

@@ -10,17 +10,18 @@ use lib.Seq.{get_or-set_same}
 use Rattle.gpio.specs.declared.Gpio.{Gpio}
 use Rattle.gpio.specs.declared.PinCfg.{PinCfg}
 use Rattle.pins.specs.declared.ExtDrive.{ExtDrive}
-use Rattle.gpio.specs.declared.Change.TheVariants.{Same, Level}
-use Rattle.gpio.specs.Gpio.{updated, refreshed, configured, connected, signal_of, with_mcu, side_of}
-use Rattle.pins.specs.Pins.{resolved}
+use Rattle.std.specs.Prelude.{Some, None}
+use Rattle.gpio.specs.Gpio.{updated, refreshed, configured, connected, signal_of, with_mcu, side_of, edge}
+use Rattle.pins.specs.declared.Source.{Source}
+use Rattle.pins.specs.Pins.{source_number, resolved}
 use lib.Ieee.{Float}
 use Rattle.book.specs.Book.{entry_of}
 use Rattle.machine.specs.Board.{Pads, gpio_at, route_of, level_of, with_gpio, with_route, no_pin, no_gpio}
 use Rattle.machine.specs.Demand1.{edge_of, pin_level, pin_source}
 use Rattle.machine.specs.Sys.{update_pin, refresh_pin, select_af, selected, leave, take, set_pin, drive_pin}
 
-entry-of : (i new source cycle : ℕ) (same : Bool)
-    → entry_of cycle (cond same Same (Level i new source)) ≡ cond same [] (record { pin = i; level = new; cycle = cycle; source = source } ∷ [])
+entry-of : (i new : ℕ) (source : Source) (cycle : ℕ) (same : Bool)
+    → entry_of cycle (cond same None (Some (edge i new source))) ≡ cond same [] (record { pin = i; level = new; cycle = cycle; source = source_number source } ∷ [])
 unfolding entry_of
 entry-of i new source cycle true = refl
 entry-of i new source cycle false = refl
@@ -29,12 +30,12 @@ put : (p : Pads) (i : ℕ) (g : Gpio) → i < length p.gpio → gpio_at (with_gp
 put p i g h = get_or-set_same p.gpio i g no_gpio h
 
 updated-edge : (i : ℕ) (g : Gpio) (vcc : Float) (cycle : ℕ)
-    → entry_of cycle (updated i g vcc).change ≡ edge_of i g.pin.level (updated i g vcc).gpio.pin.level (updated i g vcc).gpio.pin.source cycle
+    → entry_of cycle (updated i g vcc).change ≡ edge_of i g.pin.level (updated i g vcc).gpio.pin.level (source_number (updated i g vcc).gpio.pin.source) cycle
 unfolding updated
 updated-edge i g vcc cycle = entry-of i (resolved g.pin vcc).level (resolved g.pin vcc).source cycle (eqb (resolved g.pin vcc).level g.pin.level)
 
 refreshed-edge : (i : ℕ) (g : Gpio) (level : ℕ) (vcc : Float) (cycle : ℕ)
-    → entry_of cycle (refreshed i g level vcc).change ≡ edge_of i g.pin.level (refreshed i g level vcc).gpio.pin.level (refreshed i g level vcc).gpio.pin.source cycle
+    → entry_of cycle (refreshed i g level vcc).change ≡ edge_of i g.pin.level (refreshed i g level vcc).gpio.pin.level (source_number (refreshed i g level vcc).gpio.pin.source) cycle
 unfolding refreshed
 refreshed-edge i g level vcc cycle = updated-edge i (with_mcu g (side_of g level)) vcc cycle
 
@@ -43,7 +44,7 @@ pub update-edge : (p : Pads) (i cycle : ℕ) → i < length p.gpio
 unfolding update_pin
 update-edge p i cycle h =
     updated-edge i (gpio_at p i) p.vcc cycle
-    ∙ ap (λ (g : Gpio). edge_of i (pin_level p i) g.pin.level g.pin.source cycle) (sym (put p i (updated i (gpio_at p i) p.vcc).gpio h))
+    ∙ ap (λ (g : Gpio). edge_of i (pin_level p i) g.pin.level (source_number g.pin.source) cycle) (sym (put p i (updated i (gpio_at p i) p.vcc).gpio h))
 
 pub refresh-edge : (p : Pads) (i cycle : ℕ) → i < length p.gpio
     → entry_of cycle (refresh_pin p i).change ≡ edge_of i (pin_level p i) (pin_level (refresh_pin p i).pads i) (pin_source (refresh_pin p i).pads i) cycle
@@ -51,7 +52,7 @@ unfolding refresh_pin
 refresh-edge p i cycle h =
     let l = level_of p (signal_of (gpio_at p i)) in
     refreshed-edge i (gpio_at p i) l p.vcc cycle
-    ∙ ap (λ (g : Gpio). edge_of i (pin_level p i) g.pin.level g.pin.source cycle) (sym (put p i (refreshed i (gpio_at p i) l p.vcc).gpio h))
+    ∙ ap (λ (g : Gpio). edge_of i (pin_level p i) g.pin.level (source_number g.pin.source) cycle) (sym (put p i (refreshed i (gpio_at p i) l p.vcc).gpio h))
 
 -- routing leaves the pins
 leave-gpio : (p : Pads) (i s : ℕ) → (leave p i s).gpio ≡ p.gpio

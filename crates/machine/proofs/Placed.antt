@@ -1,5 +1,6 @@
 -- What the theorems ask of a board, and that every list of calls from the first board leads to such a board: a place for each timer and each pin, and
 -- routes that lead to pins. Assumes nothing.
+use Rattle.std.specs.Option.{is_some, unwrap_or}
 use mathlib.Core.Path.{◌≡◌, refl, ap, ◌∙◌}
 use mathlib.Core.Bool.{Bool, true, false, cond, ◌&&◌}
 use mathlib.Core.List.{List, [], ◌∷◌}
@@ -178,9 +179,9 @@ timer-placed b i t q h k = record { timers = simp length-set h.timers; pins = rw
 followed-placed : (b : Board) (i cycle : ℕ) (w : Written) → Placed b → Placed (followed b i cycle w).board
 unfolding followed rebooked line_settled
 followed-placed b i cycle w h =
-    let d = Sys.drive_outputs w.timer w.cnt b.pads in
-    let q = cond w.drive d.pads b.pads in
-    let k : Kept b.pads q = either (Kept b.pads) w.drive (drive-moves w.timer w.cnt b.pads h.wired).kept (record { route = refl; size = refl }) in
+    let d = Sys.drive_outputs w.timer (unwrap_or w.drive 0) b.pads in
+    let q = cond (is_some w.drive) d.pads b.pads in
+    let k : Kept b.pads q = either (Kept b.pads) (is_some w.drive) (drive-moves w.timer (unwrap_or w.drive 0) b.pads h.wired).kept (record { route = refl; size = refl }) in
     let p = timer-placed b i w.timer q h k in
     let c : Placed (with_pads (with_timer b i w.timer) q) = p in
     let l : Placed (cond w.line (line_settled i w.timer (with_pads (with_timer b i w.timer) q)) (with_pads (with_timer b i w.timer) q)) =

@@ -1,5 +1,7 @@
 -- The boards that calls lead to are sound, and what a call leaves alone of a pilot: a timer, its channel's signal and the pin that routes it.
 -- Assumes nothing.
+use Rattle.std.specs.Option.{is_some, unwrap_or}
+use Rattle.std.proofs.Common.{None}
 use mathlib.Core.Path.{◌≡◌, refl, sym, ap, ◌∙◌, subst}
 use mathlib.Core.Bool.{Bool, true, false, cond, not, ◌&&◌, ◌||◌, and-eq-true_iff}
 use mathlib.Core.List.{List, [], ◌∷◌, ◌++◌, map}
@@ -32,8 +34,8 @@ use Rattle.nvic.specs.Nvic.{Nvic}
 use Rattle.gpio.specs.declared.PinCfg.{PinCfg}
 use Rattle.sig.specs.Signal.{tim_signal}
 use Rattle.sig.proofs.Laws.{tim-injective, tim-no-input}
-use Rattle.gpio.specs.declared.Change.{Change}
-use Rattle.gpio.specs.declared.Change.TheVariants.{Same, Level}
+use Rattle.std.specs.Prelude.{Option, Some, None}
+use Rattle.gpio.specs.declared.Edge.{Edge}
 use Rattle.gpio.specs.declared.Gpio.{Gpio}
 use Rattle.gpio.specs.Gpio.{drives, signal_of, alternate_mode}
 use Rattle.book.specs.Book.{Entry, entry_of, entries_of}
@@ -352,12 +354,12 @@ sound-followed : (b : Board) (i cycle : ℕ) (w : Written) → w.timer.inst ≡ 
 unfolding followed line_settled rebooked
 sound-followed b i cycle w e h =
     let t = w.timer in
-    let d = Sys.drive_outputs t w.cnt b.pads in
-    let p = cond w.drive d.pads b.pads in
+    let d = Sys.drive_outputs t (unwrap_or w.drive 0) b.pads in
+    let p = cond (is_some w.drive) d.pads b.pads in
     let c = with_pads (with_timer b i t) p in
-    let hp : SoundPads p = either SoundPads w.drive (sound-outputs t w.cnt b.pads h.pads) h.pads in
+    let hp : SoundPads p = either SoundPads (is_some w.drive) (sound-outputs t (unwrap_or w.drive 0) b.pads h.pads) h.pads in
     let far : Beyond b.counts.pins p =
-    either (Beyond b.counts.pins) w.drive (beyond-on b.counts.pins b.pads d.pads (sigs-outputs t w.cnt b.pads) h.beyond) h.beyond in
+    either (Beyond b.counts.pins) (is_some w.drive) (beyond-on b.counts.pins b.pads d.pads (sigs-outputs t (unwrap_or w.drive 0) b.pads) h.beyond) h.beyond in
     let hc : Sound c = sound-pads (with_timer b i t) p (sound-timer b i t e h) far hp in
     let l = cond w.line (line_settled i t c) c in
     let hl : Sound l = either Sound w.line (sound-nvic c _ hc) hc in
@@ -527,10 +529,10 @@ pub spared-append : (p : ℕ) (xs ys : List Entry) → Spared p xs → Spared p 
 spared-append p [] ys h k = k
 spared-append p (x ∷ xs) ys h k = (h.0, spared-append p xs ys h.1 k)
 
-pub spared-entry : (p cycle : ℕ) (c : Change) → Elsewhere p c → Spared p (entry_of cycle c)
+pub spared-entry : (p cycle : ℕ) (c : Option Edge) → Elsewhere p c → Spared p (entry_of cycle c)
 unfolding entry_of
-spared-entry p cycle Same h = tt
-spared-entry p cycle (Level q l s) h = (h, tt)
+spared-entry p cycle None h = tt
+spared-entry p cycle (Some e) h = (h, tt)
 
 pub spared-entries : (s p cycle : ℕ) (pads : Pads) (d : Sys.Drive) → SparesAll s p pads d → Spared p (entries_of cycle d.changes)
 unfolding entries_of
@@ -665,15 +667,15 @@ module _ (b : Board) (i s p : ℕ) where
       past-last i s p b (cond book (rebooked j t cycle l) l) cycle (either (Past i s p b) book (past-booking i s p b l _ k) k)
 
   rest-followed : (j cycle : ℕ) (w : Written)
-      → Past i s p b (with_pads (with_timer b j w.timer) (cond w.drive (Sys.drive_outputs w.timer w.cnt b.pads).pads b.pads))
-      → Spared p (cond w.drive (entries_of cycle (Sys.drive_outputs w.timer w.cnt b.pads).changes) []) → Rest i s p b (followed b j cycle w)
+      → Past i s p b (with_pads (with_timer b j w.timer) (cond (is_some w.drive) (Sys.drive_outputs w.timer (unwrap_or w.drive 0) b.pads).pads b.pads))
+      → Spared p (cond (is_some w.drive) (entries_of cycle (Sys.drive_outputs w.timer (unwrap_or w.drive 0) b.pads).changes) []) → Rest i s p b (followed b j cycle w)
   unfolding followed
   rest-followed j cycle w h k = record { past = past-followed j cycle w.timer w.line w.book _ h; spared = k }
 
 -- a write that only CR2, SMCR, DIER or SR take
 record Quiet (t : Timer) (w : Written) : Type 0 where
   timer : Calm t w.timer
-  drive : w.drive ≡ false
+  drive : w.drive ≡ None
 
 quiet-register : (t : Timer) (off v now div : ℕ) → (eqb off 0x04 || (eqb off 0x08 || (eqb off 0x0c || eqb off 0x10))) ≡ true → Quiet t (R.reg_written t off v now div)
 unfolding R.reg_written
@@ -766,11 +768,11 @@ module _ (b : Board) (i ch s p : ℕ) (w : Wired b i ch s p) where
 
   followed-other : (j cycle : ℕ) (x : Written) → j < b.counts.timers → (j ≡ i → ⊥) → x.timer.inst ≡ (timer_at b j).inst → Rest i s p b (followed b j cycle x)
   followed-other j cycle x l ne e =
-      let d = Sys.drive_outputs x.timer x.cnt b.pads in
-      let k = outputs-other j x.timer x.cnt l ne e in
+      let d = Sys.drive_outputs x.timer (unwrap_or x.drive 0) b.pads in
+      let k = outputs-other j x.timer (unwrap_or x.drive 0) l ne e in
       rest-followed b i s p j cycle x
-      (past-other i s p b j x.timer _ ne (either (Held s p b.pads) x.drive k.held (held-refl s p b.pads)))
-      (either (Spared p) x.drive (spared-entries s p cycle b.pads d k) tt)
+      (past-other i s p b j x.timer _ ne (either (Held s p b.pads) (is_some x.drive) k.held (held-refl s p b.pads)))
+      (either (Spared p) (is_some x.drive) (spared-entries s p cycle b.pads d k) tt)
 
   followed-quiet : (cycle : ℕ) (x : Written) → Quiet (timer_at b i) x → Rest i s p b (followed b i cycle x)
   followed-quiet cycle x q =

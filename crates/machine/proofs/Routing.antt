@@ -9,18 +9,19 @@ use lib.Ieee.{Float}
 use lib.ListN.{get_or, set, length, replicate, length-set, length-replicate, get_or-eq_default, get_or-map}
 use lib.Seq.{get_or-set_same, get_or-set_other, map-set_same}
 use borrow.Author.Tests.{eqb-true, eqb-false, eq-eqb, ne_eqb, ltb-true, ltb-false}
+use Rattle.pins.specs.declared.Source.{Source}
 use Rattle.pins.specs.declared.Pin.{Pin}
 use Rattle.pins.specs.declared.Mcu.{Mcu}
 use Rattle.pins.specs.declared.ExtDrive.{ExtDrive}
 use Rattle.pins.specs.declared.ExtDrive.TheVariants as ext
-use Rattle.pins.specs.Pins.{effective_dir, driven_level, sensed_from, resolved}
+use Rattle.pins.specs.Pins.{by_chip, effective_dir, driven_level, sensed_from, resolved}
 use Rattle.pins.proofs.Resolved.{output}
 use Rattle.gpio.specs.declared.Gpio.{Gpio}
 use Rattle.gpio.specs.declared.PinCfg.{PinCfg}
 use Rattle.tim.specs.declared.Timer.{Timer}
 use Rattle.sig.specs.Signal.{tim_signal}
-use Rattle.gpio.specs.declared.Change.{Change}
-use Rattle.gpio.specs.declared.Change.TheVariants.{Same}
+use Rattle.std.specs.Prelude.{Option, None}
+use Rattle.gpio.specs.declared.Edge.{Edge}
 use Rattle.gpio.specs.Gpio.{drives, signal_side, side_of, signal_of, alternate_mode, with_mcu, changed, updated, refreshed, configured, connected}
 use Rattle.machine.specs.Board.{Pads, gpio_at, route_of, level_of, with_gpio, with_route, with_sig_level, no_pin, no_gpio, plain_cfg, idle_levels}
 use Rattle.machine.specs.Sys.{Move, Drive, update_pin, refresh_pin, leave, take, selected, taken, select_af, sig_out, drive_channel, driver, drive_outputs, set_pin, drive_pin, unrouted, reset_pin, reset_from, reset_pins}
@@ -622,13 +623,13 @@ held-trans h k = record {
   shown = k.shown ∙ h.shown;
 }
 
-pub elsewhere-changed : (p q old new source : ℕ) → (q ≡ p → ⊥) → Elsewhere p (changed q old new source)
+pub elsewhere-changed : (p q old new : ℕ) (source : Source) → (q ≡ p → ⊥) → Elsewhere p (changed q old new source)
 elsewhere-changed p q old new source ne = either (Elsewhere p) (eqb new old) tt ne
 
-pub elsewhere-same : (p : ℕ) (c : Change) → c ≡ Same → Elsewhere p c
+pub elsewhere-same : (p : ℕ) (c : Option Edge) → c ≡ None → Elsewhere p c
 elsewhere-same p c e = rw e tt
 
-pub changed-same : (p old source : ℕ) → changed p old old source ≡ Same
+pub changed-same : (p old : ℕ) (source : Source) → changed p old old source ≡ None
 changed-same p old source = rw (eq-eqb old old refl)
 
 updated-elsewhere : (p q : ℕ) (g : Gpio) (vcc : Float) → (q ≡ p → ⊥) → Elsewhere p (updated q g vcc).change
@@ -734,7 +735,7 @@ module _ (pads : Pads) (s p : ℕ) (sound : SoundPads pads) (small : s < 256) (p
     unfolding update_pin updated
     held-update-own = own-updated pads s p _ sound.gpios pin refl refl (resolved-mcu (gpio_at pads p).pin pads.vcc) stays
 
-    pub same-update-own : (update_pin pads p).change ≡ Same
+    pub same-update-own : (update_pin pads p).change ≡ None
     unfolding update_pin updated
     same-update-own = rw stays (changed-same p (gpio_at pads p).pin.level _)
 
@@ -777,7 +778,7 @@ pub record Follows (s p l : ℕ) (pads : Pads) (m : Move) : Type 0 where
   pub cfg : (gpio_at m.pads p).cfg ≡ (gpio_at pads p).cfg
   pub sig : (gpio_at m.pads p).sig ≡ (gpio_at pads p).sig
   pub shown : (gpio_at m.pads p).pin.level ≡ l
-  pub source : ℕ
+  pub source : Source
   pub change : m.change ≡ changed p (gpio_at pads p).pin.level l source
 
 -- the four changes of a timer's channels, none of them pin p's
@@ -850,7 +851,7 @@ module _ (pads : Pads) (s p : ℕ) (sound : SoundPads pads) (small : s < 256) (p
         (λ t.
         let e : level_of pads s ≡ l = eqb-true (level_of pads s) l t in
         let v : (gpio_at pads p).pin.level ≡ l = (sound.routed s p small pin routes).shows driving push-pull ∙ e in
-        record { route = routes; level = e; cfg = refl; sig = refl; shown = v; source = 0; change = rw (v, eq-eqb l l refl) })
+        record { route = routes; level = e; cfg = refl; sig = refl; shown = v; source = by_chip; change = rw (v, eq-eqb l l refl) })
         (λ t. by-test (Follows s p l pads) (eqb (route_of pads s) no_pin)
         (λ u. absurd (omega (arith, eqb-true (route_of pads s) no_pin u)))
         (λ u. rw routes (follows-refresh l)))

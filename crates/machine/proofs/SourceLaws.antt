@@ -1,4 +1,5 @@
 -- Each entry's source is the one that resolving gave, and none is 4: the statements of specs/Sources.antt, proved. Assumes nothing.
+use Rattle.std.specs.Option.{is_some, unwrap_or}
 use mathlib.Core.Path.{◌≡◌, refl, ◌∙◌}
 use mathlib.Core.Bool.{Bool, true, false, cond}
 use Prim.Native.Nat.{ℕ, zero, suc, ◌+◌, ◌-◌, ◌≤◌}
@@ -18,11 +19,11 @@ use Rattle.sig.specs.Signal.{tim_signal}
 use Rattle.pins.specs.declared.Pin.{Pin}
 use Rattle.pins.specs.declared.ExtDrive.{ExtDrive}
 use Rattle.pins.specs.declared.ExtDrive.TheVariants as ext
-use Rattle.pins.specs.Pins.{effective_dir, vil, vih, clamped, sensed_from, resolved}
+use Rattle.pins.specs.Pins.{by_outside, only_held, source_number, effective_dir, vil, vih, clamped, sensed_from, resolved}
 use Rattle.gpio.specs.declared.Gpio.{Gpio}
-use Rattle.gpio.specs.declared.Change.{Change}
-use Rattle.gpio.specs.declared.Change.TheVariants.{Same, Level}
-use Rattle.gpio.specs.Gpio.{signal_of, side_of, with_mcu, bit, updated, refreshed}
+use Rattle.std.specs.Prelude.{Option, Some, None}
+use Rattle.gpio.specs.declared.Edge.{Edge}
+use Rattle.gpio.specs.Gpio.{signal_of, side_of, with_mcu, bit, edge, updated, refreshed}
 use Rattle.book.specs.Book.{Entry, Changes, entry_of, entries_of}
 use Rattle.machine.specs.Board.{Board, Pads, timer_at, gpio_at, level_of, route_of, with_sig_level, no_pin}
 use Rattle.machine.specs.Sys as Sys
@@ -39,7 +40,7 @@ use Rattle.machine.proofs.NumberLaws.{Verdict, refuses, passes, answered, perfor
 -- ---- one pin
 
 -- a change's entry, whatever its cycle
-abbrev Told : Change → Type 0
+abbrev Told : Option Edge → Type 0
 Told c = (at : ℕ) → Every Resolves (entry_of at c)
 
 updated-told : (i : ℕ) (g : Gpio) (vcc : Float) → Told (updated i g vcc).change
@@ -47,7 +48,7 @@ unfolding updated entry_of Every
 updated-told i g vcc at = go (eqb (resolved g.pin vcc).level g.pin.level) refl
   where
     go : (same : Bool) → eqb (resolved g.pin vcc).level g.pin.level ≡ same
-        → Every Resolves (entry_of at (cond same Same (Level i (resolved g.pin vcc).level (resolved g.pin vcc).source)))
+        → Every Resolves (entry_of at (cond same None (Some (edge i (resolved g.pin vcc).level (resolved g.pin vcc).source))))
     go true e = tt
     go false e = (record { pin = g.pin; vcc = vcc; level = refl; source = refl; moved = eqb-false (resolved g.pin vcc).level g.pin.level e }, tt)
 
@@ -58,7 +59,7 @@ refreshed-told i g l vcc = updated-told i (with_mcu g (side_of g l)) vcc
 abbrev Moves : Move → Type 0
 Moves m = Told m.change
 
-same-told : Told Same
+same-told : Told None
 unfolding entry_of
 same-told at = every-none Resolves
 
@@ -128,7 +129,7 @@ handled-told (suc events) now div left t p =
 followed-told : (b : Board) (i cycle : ℕ) (w : Written) → Every Resolves (followed b i cycle w).entries
 unfolding followed
 followed-told b i cycle w =
-    either (Every Resolves) w.drive (outputs-told w.timer w.cnt b.pads cycle) (every-none Resolves)
+    either (Every Resolves) (is_some w.drive) (outputs-told w.timer (unwrap_or w.drive 0) b.pads cycle) (every-none Resolves)
 
 performed-told : (b : Board) (c : Call) → Every Resolves (performed b c).entries
 unfolding performed timer_reset delivered_to delivered Sys.set_pin Sys.drive_pin Sys.reset_pins
@@ -159,7 +160,7 @@ told b c = go (answered b c)
 -- ---- a level that is only held is the level that was
 
 abbrev Moved : Pin → Pin → Type 0
-Moved p q = (q.level ≡ p.level → ⊥) → (1 ≤ q.source) × (q.source ≤ 3)
+Moved p q = (q.level ≡ p.level → ⊥) → (1 ≤ source_number q.source) × (source_number q.source ≤ 3)
 
 sensed-moved : (p : Pin) (vcc : Float) (e : ExtDrive) → Moved p (sensed_from p vcc e)
 unfolding sensed_from
@@ -167,7 +168,7 @@ sensed-moved p vcc ext.Low = λ n. (lit≤ tt, lit≤ tt)
 sensed-moved p vcc ext.High = λ n. (lit≤ tt, lit≤ tt)
 sensed-moved p vcc (ext.Analog x) = go (Ieee.le (vih vcc) (clamped x vcc)) (Ieee.le (clamped x vcc) (vil vcc))
   where
-    go : (high low : Bool) → (cond high 1 (cond low 0 p.level) ≡ p.level → ⊥) → (1 ≤ cond high 2 (cond low 2 4)) × (cond high 2 (cond low 2 4) ≤ 3)
+    go : (high low : Bool) → (cond high 1 (cond low 0 p.level) ≡ p.level → ⊥) → (1 ≤ source_number (cond high by_outside (cond low by_outside only_held))) × (source_number (cond high by_outside (cond low by_outside only_held)) ≤ 3)
     go true low n = (lit≤ tt, lit≤ tt)
     go false true n = (lit≤ tt, lit≤ tt)
     go false false n = absurd (n refl)

@@ -1,4 +1,5 @@
 -- What every call does to the pins' levels, with its entries: the law behind "An entry is made exactly when a pin's level changes". Assumes nothing.
+use Rattle.std.specs.Option.{is_some, unwrap_or}
 use mathlib.Core.Path.{◌≡◌, refl, ap, ◌∙◌}
 use mathlib.Core.Bool.{Bool, true, false, cond}
 use mathlib.Core.List.{List, []}
@@ -45,14 +46,14 @@ pins-traced b cycle h =
 
 -- a write
 followed-pads : (b : Board) (i cycle : ℕ) (w : Written)
-    → (followed b i cycle w).board.pads ≡ cond w.drive (Sys.drive_outputs w.timer w.cnt b.pads).pads b.pads
+    → (followed b i cycle w).board.pads ≡ cond (is_some w.drive) (Sys.drive_outputs w.timer (unwrap_or w.drive 0) b.pads).pads b.pads
 unfolding followed rebooked line_settled
 followed-pads b i cycle w =
-    let P : Board → Type 0 = λ x. x.pads ≡ cond w.drive (Sys.drive_outputs w.timer w.cnt b.pads).pads b.pads in
+    let P : Board → Type 0 = λ x. x.pads ≡ cond (is_some w.drive) (Sys.drive_outputs w.timer (unwrap_or w.drive 0) b.pads).pads b.pads in
     either P w.book (either P w.line refl refl) (either P w.line refl refl)
 
 followed-entries : (b : Board) (i cycle : ℕ) (w : Written)
-    → (followed b i cycle w).entries ≡ cond w.drive (entries_of cycle (Sys.drive_outputs w.timer w.cnt b.pads).changes) []
+    → (followed b i cycle w).entries ≡ cond (is_some w.drive) (entries_of cycle (Sys.drive_outputs w.timer (unwrap_or w.drive 0) b.pads).changes) []
 unfolding followed
 followed-entries b i cycle w = refl
 
@@ -63,7 +64,7 @@ driven-or-not p q es false h = traced-none p p (λ i. refl)
 followed-traced : (b : Board) (i cycle : ℕ) (w : Written) → Wired b.pads → Traced b.pads (followed b i cycle w).board.pads (followed b i cycle w).entries
 followed-traced b i cycle w h =
     rw (followed-pads b i cycle w, followed-entries b i cycle w)
-    (driven-or-not b.pads _ _ w.drive ((drive-moves w.timer w.cnt b.pads h).traced cycle))
+    (driven-or-not b.pads _ _ (is_some w.drive) ((drive-moves w.timer (unwrap_or w.drive 0) b.pads h).traced cycle))
 
 pub performed-traced : (b : Board) (c : Call) → Wired b.pads → b.counts.pins ≤ length b.pads.gpio → applies (refusals b c) ≡ false
     → is_set_up c ≡ false

@@ -6,6 +6,7 @@ use Rattle.tim.specs.declared.Due.{Due}
 use Rattle.tim.specs.declared.Due.TheVariants.{At, Stopped}
 use Rattle.tim.specs.Next.{next_event}
 use Rattle.pins.specs.declared.ExtDrive.{ExtDrive}
+use Rattle.pins.specs.Pins.{source_number}
 use Rattle.book.specs.Book.{Entry}
 use Rattle.machine.specs.Board.{Board, Pads, timer_at, gpio_at, first_board}
 use Rattle.machine.specs.Deliver.{Turn, turn_of, divider_of, due_by}
@@ -61,7 +62,7 @@ abbrev pub pin_level : Pads → ℕ → ℕ
 pin_level p i = (gpio_at p i).pin.level
 
 abbrev pub pin_source : Pads → ℕ → ℕ
-pin_source p i = (gpio_at p i).pin.source
+pin_source p i = source_number (gpio_at p i).pin.source
 
 -- a pin's level before and after a call at a cycle: no entry where they are the same ("A change of source alone makes no entry"), else one with
 -- the new level and its source

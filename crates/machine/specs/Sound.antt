@@ -1,7 +1,6 @@
 -- What holds of every board that calls lead to: sizes, different timers, consistent routing, and a routed pin that shows its signal.
-use Rattle.std.specs.Prelude.{◌≡◌, true, false, ℕ, ◌≤◌, ◌<◌, get_or, length}
-use Rattle.gpio.specs.declared.Change.{Change}
-use Rattle.gpio.specs.declared.Change.TheVariants.{Same, Level}
+use Rattle.std.specs.Prelude.{◌≡◌, true, false, ℕ, ◌≤◌, ◌<◌, get_or, length, Option, Some, None}
+use Rattle.gpio.specs.declared.Edge.{Edge}
 use Rattle.gpio.specs.Gpio.{drives, signal_side, alternate_mode}
 use Rattle.machine.specs.Board.{Board, Pads, timer_at, gpio_at, route_of, level_of, no_pin}
 
@@ -44,6 +43,6 @@ pub record Held (s p : ℕ) (a b : Pads) : Type 0 where
   pub shown : (gpio_at b p).pin.level ≡ (gpio_at a p).pin.level
 
 -- a level change that is not pin p's
-abbrev pub Elsewhere : ℕ → Change → Type 0
-Elsewhere p Same = Unit {0}
-Elsewhere p (Level q l s) = q ≡ p → ⊥
+abbrev pub Elsewhere : ℕ → Option Edge → Type 0
+Elsewhere p None = Unit {0}
+Elsewhere p (Some e) = e.pin ≡ p → ⊥

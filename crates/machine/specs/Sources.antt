@@ -2,7 +2,7 @@
 -- (`sources : Sources`). That an entry's source is the one on the board that a pin's call leaves stands in Demand1 (`edge_of`).
 use Rattle.std.specs.Prelude.{◌≡◌, ◌≤◌, Float}
 use Rattle.pins.specs.declared.Pin.{Pin}
-use Rattle.pins.specs.Pins.{resolved}
+use Rattle.pins.specs.Pins.{source_number, resolved}
 use Rattle.book.specs.Book.{Entry}
 use Rattle.machine.specs.Board.{Board}
 use Rattle.machine.specs.Call.{Call}
@@ -14,7 +14,7 @@ pub record Resolves (e : Entry) : Type 0 where
   pub pin : Pin
   pub vcc : Float
   pub level : e.level ≡ (resolved pin vcc).level
-  pub source : e.source ≡ (resolved pin vcc).source
+  pub source : e.source ≡ source_number (resolved pin vcc).source
   pub moved : e.level ≡ pin.level → ⊥
 
 -- "so 4 never appears in the book": 1 the chip, 2 the outside or 3 a pull

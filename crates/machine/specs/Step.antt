@@ -1,5 +1,5 @@
 -- What each call does (document 01): the refusals, in the order of the table (Refusals.antt), then the call.
-use Rattle.std.specs.Prelude.{Bool, true, false, cond, not, ◌&&◌, ◌||◌, List, [], ◌∷◌, ◌++◌, ℕ, zero, suc, ◌+◌, ◌*◌, ◌/◌, eqb, ltb, leb, get_or, set, length}
+use Rattle.std.specs.Prelude.{Bool, true, false, cond, not, ◌&&◌, ◌||◌, List, [], ◌∷◌, ◌++◌, ℕ, zero, suc, ◌+◌, ◌*◌, ◌/◌, eqb, ltb, leb, get_or, set, length, Option, is_some, unwrap_or}
 use Rattle.tim.specs.declared.Timer.{Timer}
 use Rattle.tim.specs.declared.Inst.{Inst}
 use Rattle.regs.specs.declared.Written.{Written}
@@ -13,9 +13,10 @@ use Rattle.clk.specs.Clk.{good, differing}
 use Rattle.pins.specs.Clock as Clock
 use Rattle.gpio.specs.declared.PinCfg.{PinCfg}
 use Rattle.pins.specs.declared.Pin.{Pin}
+use Rattle.pins.specs.Pins.{source_number}
 use Rattle.nvic.specs.Nvic as N
 use Rattle.scheduler.specs.Booking as S
-use Rattle.gpio.specs.declared.Change.{Change}
+use Rattle.gpio.specs.declared.Edge.{Edge}
 use Rattle.book.specs.Book.{Entry, entry_of, entries_of}
 use Rattle.machine.specs.Board.{Board, timer_at, gpio_at, with_timer, with_pads, with_nvic, with_booking, with_clocks, with_last, fresh_board}
 use Rattle.machine.specs.Sys as Sys
@@ -95,12 +96,12 @@ counter_astray off t = (eqb off 0x00 || (eqb off 0x24 || eqb off 0x2c)) && R.ast
 unfoldable pub followed : Board → ℕ → ℕ → Written → Outcome
 followed b i cycle w =
     let t = w.timer in
-    let d = Sys.drive_outputs t w.cnt b.pads in
-    let p = cond w.drive d.pads b.pads in
+    let d = Sys.drive_outputs t (unwrap_or w.drive 0) b.pads in
+    let p = cond (is_some w.drive) d.pads b.pads in
     let c = with_pads (with_timer b i t) p in
     let l = cond w.line (line_settled i t c) c in
     let k = cond w.book (rebooked i t cycle l) l in
-    record { number = 0; value = 0; entries = cond w.drive (entries_of cycle d.changes) []; board = with_last k cycle }
+    record { number = 0; value = 0; entries = cond (is_some w.drive) (entries_of cycle d.changes) []; board = with_last k cycle }
 
 -- timer reset: reset values, no booking, the line and the outputs settled
 unfoldable pub timer_reset : Board → ℕ → ℕ → Outcome
@@ -157,7 +158,7 @@ cfg_of mode open_drain out pullup pulldown = record {
 abbrev pub moved : Board → ℕ → Sys.Move → Outcome
 moved b cycle m = record { number = 0; value = 0; entries = entry_of cycle m.change; board = with_last (with_pads b m.pads) cycle }
 
-unfoldable pub changes_of : ℕ → List Change → List Entry
+unfoldable pub changes_of : ℕ → List (Option Edge) → List Entry
 changes_of cycle [] = []
 changes_of cycle (c ∷ cs) = entry_of cycle c ++ changes_of cycle cs
 
@@ -183,7 +184,7 @@ asking b (why pin cycle) o = refuse_if (absent pin b.counts.pins) 2 b (refuse_if
 
 -- "The pin level query's value becomes level + 2 × source" (document 02, F-5)
 abbrev pub level_query : Pin → ℕ
-level_query p = p.level + 2 * p.source
+level_query p = p.level + 2 * source_number p.source
 
 -- the value: "the register for a read or peek, .. what a query asks"
 abbrev pub told : Board → Question → ℕ

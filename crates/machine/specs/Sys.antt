@@ -1,12 +1,11 @@
 -- Pins, routing and outputs (sys.rs; document 01, "Output, signal, pin").
-use Rattle.std.specs.Prelude.{Bool, cond, not, ◌&&◌, List, [], ◌∷◌, ℕ, zero, suc, ◌+◌, eqb, ltb, leb, replicate}
+use Rattle.std.specs.Prelude.{Bool, cond, not, ◌&&◌, List, [], ◌∷◌, ℕ, zero, suc, ◌+◌, eqb, ltb, leb, replicate, Option, None}
 use Rattle.tim.specs.declared.Timer.{Timer}
 use Rattle.tim.specs.Change.{output}
 use Rattle.gpio.specs.declared.PinCfg.{PinCfg}
 use Rattle.sig.specs.Signal.{tim_signal}
 use Rattle.pins.specs.declared.ExtDrive.{ExtDrive}
-use Rattle.gpio.specs.declared.Change.{Change}
-use Rattle.gpio.specs.declared.Change.TheVariants.{Same}
+use Rattle.gpio.specs.declared.Edge.{Edge}
 use Rattle.gpio.specs.Gpio.{signal_of, updated, refreshed, configured, connected, bit, alternate_mode}
 use Rattle.book.specs.Book.{Changes}
 use Rattle.machine.specs.Board.{Pads, gpio_at, route_of, level_of, function_of, with_gpio, with_route, with_sig_level, no_pin, plain_cfg, idle_levels}
@@ -14,10 +13,10 @@ use Rattle.machine.specs.Board.{Pads, gpio_at, route_of, level_of, function_of, 
 -- the pads after a pin was resolved, and its level change
 pub record Move : Type 0 where
   pub pads : Pads
-  pub change : Change
+  pub change : Option Edge
 
 abbrev pub still : Pads → Move
-still p = record { pads = p; change = Same }
+still p = record { pads = p; change = None }
 
 -- pin i resolved again
 unfoldable pub update_pin : Pads → ℕ → Move
@@ -82,7 +81,7 @@ four_channels t cnt p =
     record { pads = d.pads; changes = record { a = a.change; b = b.change; c = c.change; d = d.change } }
 
 abbrev pub no_changes : Changes
-no_changes = record { a = Same; b = Same; c = Same; d = Same }
+no_changes = record { a = None; b = None; c = None; d = None }
 
 unfoldable pub drive_outputs : Timer → ℕ → Pads → Drive
 drive_outputs t cnt p = cond (driver t.inst.n) (four_channels t cnt p) (record { pads = p; changes = no_changes })
@@ -106,7 +105,7 @@ reset_pin p i = refresh_pin (with_gpio p i (configured (gpio_at p i) plain_cfg 0
 
 pub record Resets : Type 0 where
   pub pads : Pads
-  pub changes : List Change
+  pub changes : List (Option Edge)
 
 -- n pins from i on
 unfoldable pub reset_from : ℕ → ℕ → Pads → Resets

@@ -1,4 +1,6 @@
 -- The calls over any board: the callees' equations in, step's answer out. Assumes nothing.
+use Rattle.std.specs.Option.{is_some, unwrap_or}
+use Rattle.std.proofs.Common.{Option, Some, None}
 use mathlib.Core.Path.{◌≡◌, refl, ap, sym, subst, ◌∙◌}
 use mathlib.Core.Bool.{Bool, true, false, cond, not, ◌&&◌}
 use mathlib.Core.List.{List, [], ◌∷◌}
@@ -21,7 +23,7 @@ use Rattle.tim.specs.Change.{max_of, reset_state}
 use Rattle.periph.specs.Lane.{lane_read}
 use Rattle.book.specs.Book.{Book, book, puts, Holds, Room, Lent}
 use Rattle.book.proofs.Laws.{holds}
-use Rattle.machine.specs.Board.{Board, no_timer, timer_at, with_timer, with_pads, with_last}
+use Rattle.machine.specs.Board.{Pads, Board, no_timer, timer_at, with_timer, with_pads, with_last}
 use Rattle.machine.specs.Sys.{drive_outputs}
 use Rattle.machine.specs.Deliver.{divider_of, line_settled, rebooked, delivered}
 use Rattle.machine.specs.Call.{Outcome, read, peek, reset_timer, deliver}
@@ -33,7 +35,7 @@ use Rattle.state.proofs.InRange.{bounded}
 use Rattle.context.proofs.Laws.{stored_there}
 use Rattle.outputs.specs.Outputs.{Driven}
 use Rattle.delivery.specs.declared.Delivered.{Delivered}
-use Rattle.delivery.specs.Delivery.{Delivers}
+use Rattle.delivery.specs.Delivery.{Delivers, number_of}
 use Rattle.answer.specs.declared.Answer.{Answer}
 use Rattle.answer.specs.Promise.{answer, Answers}
 use Rattle.answer.proofs.Given.{Passed, passed, timer-passed, turns-away, turns-away-book, serves, serves-book}
@@ -112,17 +114,17 @@ module _ (w : List ℕ) (x : List Float) (timer offset cycle num : ℕ) (r : Ans
   peek-gives z v p a = rw a (serves (view w x) (peek timer offset cycle) (answer 0 v 0) w w x x (sym z ∙ peek-first) refl p refl refl)
 
 -- ---- what follows where a timer was stored
-pub drives-on : (on : Bool) (t : Timer) (cnt cycle : ℕ) (b b₁ : Board) (k k₁ : Book) → on ≡ true → Driven (drive_outputs t cnt b.pads) cycle b b₁ k k₁
-    → DrivenIf on t cnt cycle b b₁ k k₁
-drives-on on t cnt cycle b b₁ k k₁ o m = rw o (record { board = m.board; entries = m.entries })
+pub drives-on : (drive : Option ℕ) (t : Timer) (cnt cycle : ℕ) (b b₁ : Board) (k k₁ : Book) → drive ≡ Some cnt → Driven (drive_outputs t cnt b.pads) cycle b b₁ k k₁
+    → DrivenIf drive t cycle b b₁ k k₁
+drives-on drive t cnt cycle b b₁ k k₁ o m = rw o (record { board = m.board; entries = m.entries })
 
-pub drives-off : (on : Bool) (t : Timer) (cnt cycle : ℕ) (b : Board) (k : Book) → on ≡ false → DrivenIf on t cnt cycle b b k k
+pub drives-off : (drive : Option ℕ) (t : Timer) (cycle : ℕ) (b : Board) (k : Book) → drive ≡ None → DrivenIf drive t cycle b b k k
 unfolding puts
-drives-off on t cnt cycle b k o = rw o (record { board = refl; entries = refl })
+drives-off drive t cycle b k o = rw o (record { board = refl; entries = refl })
 
 -- outputs and lines leave the timers
-drive-there : (on : Bool) (t : Timer) (i cnt cycle : ℕ) (b b₁ : Board) (k k₁ : Book) → DrivenIf on t cnt cycle b b₁ k k₁ → timer_at b₁ i ≡ timer_at b i
-drive-there on t i cnt cycle b b₁ k k₁ d = ap (λ (y : Board). timer_at y i) d.board
+drive-there : (drive : Option ℕ) (t : Timer) (i cycle : ℕ) (b b₁ : Board) (k k₁ : Book) → DrivenIf drive t cycle b b₁ k k₁ → timer_at b₁ i ≡ timer_at b i
+drive-there drive t i cycle b b₁ k k₁ d = ap (λ (y : Board). timer_at y i) d.board
 
 line-there : (line : Bool) (t : Timer) (i : ℕ) (b b₁ : Board) → b₁ ≡ cond line (line_settled i t b) b → timer_at b₁ i ≡ timer_at b i
 unfolding line_settled
@@ -136,15 +138,15 @@ with_timers b ts = record { timers = ts; booking = b.booking; nvic = b.nvic; pad
 same-timer : (b : Board) (i : ℕ) → b ≡ with_timer b i (timer_at b i)
 same-timer b i = sym (ap (with_timers b) (set-get_or b.timers i no_timer))
 
-pub follows : (b b₂ b₃ b₄ b₅ : Board) (i cycle cnt : ℕ) (driven lined booked : Bool) (k k₁ : Book) → DrivenIf driven (timer_at b i) cnt cycle b b₂ k k₁
+pub follows : (b b₂ b₃ b₄ b₅ : Board) (i cycle : ℕ) (drive : Option ℕ) (lined booked : Bool) (k k₁ : Book) → DrivenIf drive (timer_at b i) cycle b b₂ k k₁
     → b₃ ≡ cond lined (line_settled i (timer_at b₂ i) b₂) b₂ → b₄ ≡ cond booked (rebooked i (timer_at b₃ i) cycle b₃) b₃ → b₅ ≡ with_last b₄ cycle
-    → Leaves (after b i cycle driven cnt lined booked) b₅ k k₁
+    → Leaves (after b i cycle drive lined booked) b₅ k k₁
 unfolding followed
-follows b b₂ b₃ b₄ b₅ i cycle cnt driven lined booked k k₁ d e₃ e₄ e₅ =
+follows b b₂ b₃ b₄ b₅ i cycle drive lined booked k k₁ d e₃ e₄ e₅ =
     let t = timer_at b i in
-    let e₂ : b₂ ≡ with_pads (with_timer b i t) (cond driven (drive_outputs t cnt b.pads).pads b.pads) =
-    d.board ∙ ap (λ (y : Board). with_pads y (cond driven (drive_outputs t cnt b.pads).pads b.pads)) (same-timer b i) in
-    let there : timer_at b₂ i ≡ t = drive-there driven t i cnt cycle b b₂ k k₁ d in
+    let moved : Pads = cond (is_some drive) (drive_outputs t (unwrap_or drive 0) b.pads).pads b.pads in
+    let e₂ : b₂ ≡ with_pads (with_timer b i t) moved = d.board ∙ ap (λ (y : Board). with_pads y moved) (same-timer b i) in
+    let there : timer_at b₂ i ≡ t = drive-there drive t i cycle b b₂ k k₁ d in
     let last : timer_at b₃ i ≡ t = line-there lined (timer_at b₂ i) i b₂ b₃ e₃ ∙ there in
     record {
       board = e₅ ∙ ap (λ (y : Board). with_last y cycle) (e₄ ∙ ap (λ (y : Timer). cond booked (rebooked i y cycle b₃) b₃) last
@@ -154,19 +156,19 @@ follows b b₂ b₃ b₄ b₅ i cycle cnt driven lined booked k k₁ d e₃ e₄
     }
 
 -- a timer stored twice
-twice : (b : Board) (i cycle cnt : ℕ) (t : Timer) (driven lined booked : Bool)
-    → followed (with_timer b i t) i cycle (record { timer = t; drive = driven; cnt = cnt; line = lined; book = booked })
-    ≡ followed b i cycle (record { timer = t; drive = driven; cnt = cnt; line = lined; book = booked })
+twice : (b : Board) (i cycle : ℕ) (t : Timer) (drive : Option ℕ) (lined booked : Bool)
+    → followed (with_timer b i t) i cycle (record { timer = t; drive = drive; line = lined; book = booked })
+    ≡ followed b i cycle (record { timer = t; drive = drive; line = lined; book = booked })
 unfolding followed
-twice b i cycle cnt t driven lined booked = rw (set-set b.timers i t t)
+twice b i cycle t drive lined booked = rw (set-set b.timers i t t)
 
 -- of a timer that was just stored it is `followed` of the board before
-pub after-stored : (b b₁ : Board) (i cycle cnt : ℕ) (t : Timer) (driven lined booked : Bool) → i < length b.timers → b₁ ≡ with_timer b i t
-    → after b₁ i cycle driven cnt lined booked ≡ followed b i cycle (record { timer = t; drive = driven; cnt = cnt; line = lined; book = booked })
-after-stored b b₁ i cycle cnt t driven lined booked l e =
-    ap (λ (y : Timer). followed b₁ i cycle (record { timer = y; drive = driven; cnt = cnt; line = lined; book = booked })) (stored_there b b₁ i t l e)
-    ∙ ap (λ (y : Board). followed y i cycle (record { timer = t; drive = driven; cnt = cnt; line = lined; book = booked })) e
-    ∙ twice b i cycle cnt t driven lined booked
+pub after-stored : (b b₁ : Board) (i cycle : ℕ) (t : Timer) (drive : Option ℕ) (lined booked : Bool) → i < length b.timers → b₁ ≡ with_timer b i t
+    → after b₁ i cycle drive lined booked ≡ followed b i cycle (record { timer = t; drive = drive; line = lined; book = booked })
+after-stored b b₁ i cycle t drive lined booked l e =
+    ap (λ (y : Timer). followed b₁ i cycle (record { timer = y; drive = drive; line = lined; book = booked })) (stored_there b b₁ i t l e)
+    ∙ ap (λ (y : Board). followed y i cycle (record { timer = t; drive = drive; line = lined; book = booked })) e
+    ∙ twice b i cycle t drive lined booked
 
 -- ---- reset
 
@@ -180,19 +182,19 @@ reset-none x div = rw (off (not (x.manual && eqb (max_of x) 0)))
     off false = refl
 
 reset-followed : (b : Board) (i cycle : ℕ)
-    → followed b i cycle (record { timer = reset_state (timer_at b i).inst (divider_of b (timer_at b i)); drive = true; cnt = 0; line = true; book = true }) ≡ timer_reset b i cycle
+    → followed b i cycle (record { timer = reset_state (timer_at b i).inst (divider_of b (timer_at b i)); drive = Some 0; line = true; book = true }) ≡ timer_reset b i cycle
 unfolding followed timer_reset rebooked
 reset-followed b i cycle = rw (reset-none (timer_at b i).inst (divider_of b (timer_at b i)))
 
 pub resets : (b b₁ b₂ : Board) (i cycle div : ℕ) (t s : Timer) (k k₁ : Book)
     → t ≡ timer_at b i → div ≡ divider_of b t → s ≡ reset_state t.inst div
-    → i < length b.timers → b₁ ≡ with_timer b i s → Leaves (after b₁ i cycle true 0 true true) b₂ k k₁ → Leaves (timer_reset b i cycle) b₂ k k₁
+    → i < length b.timers → b₁ ≡ with_timer b i s → Leaves (after b₁ i cycle (Some 0) true true) b₂ k k₁ → Leaves (timer_reset b i cycle) b₂ k k₁
 resets b b₁ b₂ i cycle div t s k k₁ load steps new l e m =
     let same : s ≡ reset_state (timer_at b i).inst (divider_of b (timer_at b i)) =
     new ∙ ap (reset_state t.inst) steps ∙ ap (λ (y : Timer). reset_state y.inst (divider_of b y)) load in
     subst (λ (o : Outcome). Leaves o b₂ k k₁)
-    (after-stored b b₁ i cycle 0 s true true true l e
-    ∙ ap (λ (y : Timer). followed b i cycle (record { timer = y; drive = true; cnt = 0; line = true; book = true })) same
+    (after-stored b b₁ i cycle s (Some 0) true true l e
+    ∙ ap (λ (y : Timer). followed b i cycle (record { timer = y; drive = Some 0; line = true; book = true })) same
     ∙ reset-followed b i cycle)
     m
 
@@ -229,13 +231,13 @@ module _ (w : List ℕ) (x : List Float) (timer cycle room num : ℕ) (h : num �
   pub deliver-away-book : (num ≡ 0 → ⊥) → (r : Answer) → r ≡ answer num 0 0 → (u : Lent) → Holds (step (view w x) (deliver timer cycle room)).entries u u r.count
   deliver-away-book z r a u = turns-away-book (view w x) (deliver timer cycle room) num r u deliver-first z a
 
-  pub deliver-gives : num ≡ 0 → (w₁ w₂ : List ℕ) (x₁ : List Float) (u u₁ : Lent) (d : Delivered)
-      → Delivers (delivered (view w x) timer cycle room) (view w x) timer cycle (view w₁ x₁) d u u₁ → view w₂ x₁ ≡ with_last (view w₁ x₁) cycle
-      → Answers (step (view w x) (deliver timer cycle room)) (answer d.number d.events d.count) w w₂ x x₁
-      × Holds (step (view w x) (deliver timer cycle room)).entries u u₁ d.count
+  pub deliver-gives : num ≡ 0 → (w₁ w₂ : List ℕ) (x₁ : List Float) (u u₁ : Lent) (d : Delivered) (n k : ℕ) → n ≡ number_of d.stop
+      → Delivers (delivered (view w x) timer cycle room) (view w x) timer cycle (view w₁ x₁) d k u u₁ → view w₂ x₁ ≡ with_last (view w₁ x₁) cycle
+      → Answers (step (view w x) (deliver timer cycle room)) (answer n d.events k) w w₂ x x₁
+      × Holds (step (view w x) (deliver timer cycle room)).entries u u₁ k
   unfolding performed delivered_to
-  deliver-gives z w₁ w₂ x₁ u u₁ d m s = (
-    serves (view w x) (deliver timer cycle room) (answer d.number d.events d.count) w w₂ x x₁ (sym z ∙ deliver-first) m.number m.events m.entries.count
+  deliver-gives z w₁ w₂ x₁ u u₁ d n k e m s = (
+    serves (view w x) (deliver timer cycle room) (answer n d.events k) w w₂ x x₁ (sym z ∙ deliver-first) (e ∙ m.number) m.events m.entries.count
         (s ∙ ap (λ (y : Board). with_last y cycle) m.board),
-    serves-book (view w x) (deliver timer cycle room) u u₁ d.count (sym z ∙ deliver-first) m.entries,
+    serves-book (view w x) (deliver timer cycle room) u u₁ k (sym z ∙ deliver-first) m.entries,
   )

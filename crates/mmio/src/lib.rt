@@ -1,21 +1,25 @@
 // A timer's calls over the lent board (bus.rs, `Mmio`): read, peek, reset, deliver. Crate write has the writes.
 #![tactic(auto)]
 
-ghost use Rattle.std.specs.Prelude.{◌≡◌, cond, List, ◌<◌, ◌≤◌, Float, length};
+ghost use Rattle.std.specs.Prelude.{◌≡◌, cond, List, ◌+◌, ◌<◌, ◌≤◌, Float};
 ghost use Rattle.tim.specs.Count.{cnt_at};
 ghost use Rattle.regs.specs.Regs as R;
 ghost use Rattle.periph.specs.Lane.{lane_read};
+ghost use Rattle.state.specs.Lent.{lent_board, SameLoan};
 ghost use Rattle.state.specs.View.{view};
-ghost use Rattle.book.specs.Book.{book, places, Holds, slices, Room};
+ghost use Rattle.book.specs.Book.{places, Holds, Room};
+ghost use Rattle.book.specs.Lent.{slices_of, filled, SameSlices};
 ghost use Rattle.machine.specs.Board.{timer_at};
 ghost use Rattle.machine.specs.Call as Call;
 ghost use Rattle.machine.specs.Deliver.{line_settled, rebooked};
 ghost use Rattle.machine.specs.Step.{step, register, timer_reset};
-ghost use Rattle.answer.specs.Promise.{Answers};
+ghost use Rattle.answer.specs.Promise.{Answers, AnswersLent};
+ghost use Rattle.answer.specs.Refused.{told};
 ghost use Rattle.mmio.specs.Leaves.{Leaves, DrivenIf, after};
 
-use answer::Answer;
-use state::{REALS, WORDS};
+use answer::{Answer, Refusal};
+use book::LentBook;
+use state::{LentBoard, WORDS};
 
 // ---- reads
 
@@ -62,97 +66,59 @@ fn whole_of(words: &[u64; WORDS], i: usize, offset: u32, cycle: u64) -> u32
     }
 }
 
-// A read of 4 bytes, the most common one.
-fn read_whole(words: &[u64; WORDS], timer: u32, offset: u32, cycle: u64) -> Answer
-    ensures { (x : List Float) → Answers (step (view words.now x) (Call.read timer offset 4 cycle)) result words.now words.now x x }
-{
-    let no = answer::timer_refusal(words, timer, 4, cycle);
-    if no != 0 {
-        return answer::refused(no);
-    }
-    if !context::clock_on(words, timer as usize) {
-        return answer::served(0);
-    }
-    let v = whole_of(words, timer as usize, offset, cycle);
-    answer::served(v as u64)
-}
-
-// A read of any size.
-fn read_part(words: &[u64; WORDS], timer: u32, offset: u32, size: u32, cycle: u64) -> Answer
-    ensures { (x : List Float) → Answers (step (view words.now x) (Call.read timer offset size cycle)) result words.now words.now x x }
-{
-    let no = answer::timer_refusal(words, timer, size, cycle);
-    if no != 0 {
-        return answer::refused(no);
-    }
-    if !context::clock_on(words, timer as usize) {
-        return answer::served(0);
-    }
-    let v = lane_of(words, timer as usize, offset, size, cycle);
-    answer::served(v as u64)
-}
-
-// A read: 0 while the timer's clock is off.
+// A read: 0 while the timer's clock is off. A whole register, the most common read, has the counter's short way.
+#[inline(always)]
 pub fn read(
     words: &[u64; WORDS],
-    reals: &[f64; REALS],
     timer: u32,
     offset: u32,
     size: u32,
     cycle: u64,
-) -> Answer
-    ensures { Answers (step (view words.now reals.now) (Call.read timer offset size cycle)) result words.now words.now reals.now reals.now }
+) -> Result<Answer, Refusal>
+    ensures { (x : List Float) → Answers (step (view words.now x) (Call.read timer offset size cycle)) (told result) words.now words.now x x }
 {
-    if size == 4 {
-        return read_whole(words, timer, offset, cycle);
+    answer::check_timer(words, timer, size, cycle)?;
+    let i = timer as usize;
+    if !context::clock_on(words, i) {
+        return Ok(answer::served(0));
     }
-    read_part(words, timer, offset, size, cycle)
+    if size == 4 {
+        let whole = whole_of(words, i, offset, cycle);
+        return Ok(answer::served(whole as u64));
+    }
+    let lane = lane_of(words, i, offset, size, cycle);
+    Ok(answer::served(lane as u64))
 }
 
 // A peek: the whole register, clock or not.
-pub fn peek(
-    words: &[u64; WORDS],
-    reals: &[f64; REALS],
-    timer: u32,
-    offset: u32,
-    cycle: u64,
-) -> Answer
-    ensures { Answers (step (view words.now reals.now) (Call.peek timer offset cycle)) result words.now words.now reals.now reals.now }
+pub fn peek(words: &[u64; WORDS], timer: u32, offset: u32, cycle: u64) -> Result<Answer, Refusal>
+    ensures { (x : List Float) → Answers (step (view words.now x) (Call.peek timer offset cycle)) (told result) words.now words.now x x }
 {
-    let n = answer::timer_refusal(words, timer, 4, cycle);
-    if n != 0 {
-        return answer::refused(n);
-    }
+    answer::check_timer(words, timer, 4, cycle)?;
     let reg = lane_of(words, timer as usize, offset, 4, cycle);
-    answer::served(reg as u64)
+    Ok(answer::served(reg as u64))
 }
 
 // ---- what follows from a write or a reset
 
-// If `on`, drives timer i's outputs at a count, and writes their changes to the book from place 0 on.
-fn drive(
-    words: &mut [u64; WORDS],
-    reals: &mut [f64; REALS],
-    pins: &mut [u8],
-    levels: &mut [u8],
-    cycles: &mut [u64],
-    sources: &mut [u8],
-    on: bool,
+// Drives timer i's outputs at a count if there is one, and writes their changes to the book.
+fn drive_if(
+    board: &mut LentBoard<'_>,
+    book: &mut LentBook<'_>,
+    drive: Option<u32>,
     i: usize,
-    cnt: u32,
     cycle: u64,
-) -> usize
-    requires i_bound { i < 8 }
-    requires room { Room 4 (slices pins.old levels.old cycles.old sources.old) }
-    ensures driven_if { DrivenIf on (timer_at (view words.old reals.old) i) cnt cycle (view words.old reals.old) (view words.new reals.new) (book (slices pins.old levels.old cycles.old sources.old) 0) (book (slices pins.new levels.new cycles.new sources.new) result) }
-    ensures upper_bound { result ≤ 4 }
+)
+    requires timer { i < 8 }
+    requires room { Room (book.old.count + 4) (slices_of book.old) }
+    ensures same_loan { SameLoan board.old board.new }
+    ensures same_slices { SameSlices book.old book.new }
+    ensures driven_if { DrivenIf drive (timer_at (lent_board board.old) i) cycle (lent_board board.old) (lent_board board.new) (filled book.old) (filled book.new) }
+    ensures at_most_four { book.new.count ≤ book.old.count + 4 }
 {
-    if on {
-        return outputs::drive_outputs(
-            words, reals, pins, levels, cycles, sources, 0, i, cnt, cycle,
-        );
+    if let Some(cnt) = drive {
+        outputs::drive_outputs(board, book, i, cnt, cycle);
     }
-    0
 }
 
 fn settle_line_if(words: &mut [u64; WORDS], on: bool, i: usize)
@@ -173,131 +139,86 @@ fn rebook_if(words: &mut [u64; WORDS], on: bool, i: usize, cycle: u64)
     }
 }
 
-// What follows where timer i was stored: its outputs driven at a count, its line settled, its next event booked, each if asked for. The
-// number of entries. It has several callers, so it is compiled once, and `drive_outputs`, which has this one, into it.
+// What follows where timer i was stored: its outputs driven at the count if there is one, its line settled, its next event booked, each if asked for.
 pub fn follow(
-    words: &mut [u64; WORDS],
-    reals: &mut [f64; REALS],
+    board: &mut LentBoard<'_>,
+    book: &mut LentBook<'_>,
     i: usize,
-    driven: bool,
-    cnt: u32,
+    drive: Option<u32>,
     lined: bool,
     booked: bool,
     cycle: u64,
-    pins: &mut [u8],
-    levels: &mut [u8],
-    cycles: &mut [u64],
-    sources: &mut [u8],
-) -> usize
-    requires i_bound { i < 8 }
-    requires room { Room 4 (slices pins.old levels.old cycles.old sources.old) }
-    ensures leaves { Leaves (after (view words.old reals.old) i cycle driven cnt lined booked) (view words.new reals.new) (book (slices pins.old levels.old cycles.old sources.old) 0) (book (slices pins.new levels.new cycles.new sources.new) result) }
-    ensures upper_bound { result ≤ 4 }
+)
+    requires timer { i < 8 }
+    requires room { Room (book.old.count + 4) (slices_of book.old) }
+    ensures same_loan { SameLoan board.old board.new }
+    ensures same_slices { SameSlices book.old book.new }
+    ensures leaves { Leaves (after (lent_board board.old) i cycle drive lined booked) (lent_board board.new) (filled book.old) (filled book.new) }
+    ensures at_most_four { book.new.count ≤ book.old.count + 4 }
 {
-    let k = drive(
-        words, reals, pins, levels, cycles, sources, driven, i, cnt, cycle,
-    );
-    settle_line_if(words, lined, i);
-    rebook_if(words, booked, i, cycle);
-    state::set_last(words, cycle);
-    k
+    drive_if(board, book, drive, i, cycle);
+    settle_line_if(board.words, lined, i);
+    rebook_if(board.words, booked, i, cycle);
+    state::set_last(board.words, cycle);
 }
 
 // ---- reset
 
-// Timer i at its reset values, its outputs and line settled; it is stopped, so booked for never. The number of entries.
-fn reset_timer(
-    words: &mut [u64; WORDS],
-    reals: &mut [f64; REALS],
-    pins: &mut [u8],
-    levels: &mut [u8],
-    cycles: &mut [u64],
-    sources: &mut [u8],
-    i: usize,
-    cycle: u64,
-) -> usize
-    requires i_bound { i < 8 }
-    requires room { Room 4 (slices pins.old levels.old cycles.old sources.old) }
-    ensures leaves { Leaves (timer_reset (view words.old reals.old) i cycle) (view words.new reals.new) (book (slices pins.old levels.old cycles.old sources.old) 0) (book (slices pins.new levels.new cycles.new sources.new) result) }
-    ensures upper_bound { result ≤ 4 }
+// Timer i at its reset values, its outputs and line settled; it is stopped, so booked for never.
+fn reset_timer(board: &mut LentBoard<'_>, book: &mut LentBook<'_>, i: usize, cycle: u64)
+    requires timer { i < 8 }
+    requires room { Room (book.old.count + 4) (slices_of book.old) }
+    ensures same_loan { SameLoan board.old board.new }
+    ensures same_slices { SameSlices book.old book.new }
+    ensures leaves { Leaves (timer_reset (lent_board board.old) i cycle) (lent_board board.new) (filled book.old) (filled book.new) }
+    ensures at_most_four { book.new.count ≤ book.old.count + 4 }
 {
-    let t = state::load_timer(words, i);
-    let div = context::divider(words, reals, t);
+    let t = state::load_timer(board.words, i);
+    let div = context::divider(board.seen(), t);
     let s = t.reset(div);
-    state::store_timer(words, i, s);
-    follow(
-        words, reals, i, true, 0, true, true, cycle, pins, levels, cycles, sources,
-    )
+    state::store_timer(board.words, i, s);
+    follow(board, book, i, Some(0), true, true, cycle);
 }
 
+// A timer's reset.
 pub fn reset(
-    words: &mut [u64; WORDS],
-    reals: &mut [f64; REALS],
-    pins: &mut [u8],
-    levels: &mut [u8],
-    cycles: &mut [u64],
-    sources: &mut [u8],
+    board: &mut LentBoard<'_>,
+    book: &mut LentBook<'_>,
     timer: u32,
     cycle: u64,
-) -> Answer
-    ensures answers { Answers (step (view words.old reals.old) (Call.reset_timer timer cycle (places (slices pins.old levels.old cycles.old sources.old)))) result words.old words.new reals.old reals.new }
-    ensures holds { Holds (step (view words.old reals.old) (Call.reset_timer timer cycle (places (slices pins.old levels.old cycles.old sources.old)))).entries (slices pins.old levels.old cycles.old sources.old) (slices pins.new levels.new cycles.new sources.new) result.count }
+) -> Result<Answer, Refusal>
+    ensures same_loan { SameLoan board.old board.new }
+    ensures same_slices { SameSlices book.old book.new }
+    ensures answers { AnswersLent (step (lent_board board.old) (Call.reset_timer timer cycle (places (slices_of book.old)))) (told result) board.old board.new }
+    ensures holds { Holds (step (lent_board board.old) (Call.reset_timer timer cycle (places (slices_of book.old)))).entries (slices_of book.old) (slices_of book.new) (told result).count }
 {
-    let no = answer::book_refusal(words, timer, 4, cycle, pins, levels, cycles, sources);
-    if no != 0 {
-        return answer::refused(no);
-    }
-    let count = reset_timer(
-        words,
-        reals,
-        pins,
-        levels,
-        cycles,
-        sources,
-        timer as usize,
-        cycle,
-    );
-    Answer {
-        value: 0,
-        number: 0,
-        count: count as u32,
-    }
+    book.count = 0;
+    answer::check_timer_and_book(board.words, timer, 4, cycle, book)?;
+    reset_timer(board, book, timer as usize, cycle);
+    Ok(answer::entered(book))
 }
 
 // ---- events
 
 // Delivers the timer's events that are due.
+#[inline(always)]
 pub fn deliver(
-    words: &mut [u64; WORDS],
-    reals: &mut [f64; REALS],
-    pins: &mut [u8],
-    levels: &mut [u8],
-    cycles: &mut [u64],
-    sources: &mut [u8],
+    board: &mut LentBoard<'_>,
+    book: &mut LentBook<'_>,
     timer: u32,
     cycle: u64,
-) -> Answer
-    ensures answers { Answers (step (view words.old reals.old) (Call.deliver timer cycle (places (slices pins.old levels.old cycles.old sources.old)))) result words.old words.new reals.old reals.new }
-    ensures holds { Holds (step (view words.old reals.old) (Call.deliver timer cycle (places (slices pins.old levels.old cycles.old sources.old)))).entries (slices pins.old levels.old cycles.old sources.old) (slices pins.new levels.new cycles.new sources.new) result.count }
+) -> Result<Answer, Refusal>
+    ensures same_loan { SameLoan board.old board.new }
+    ensures same_slices { SameSlices book.old book.new }
+    ensures answers { AnswersLent (step (lent_board board.old) (Call.deliver timer cycle (places (slices_of book.old)))) (told result) board.old board.new }
+    ensures holds { Holds (step (lent_board board.old) (Call.deliver timer cycle (places (slices_of book.old)))).entries (slices_of book.old) (slices_of book.new) (told result).count }
 {
-    let no = answer::book_refusal(words, timer, 4, cycle, pins, levels, cycles, sources);
-    if no != 0 {
-        return answer::refused(no);
-    }
-    let d = delivery::deliver(
-        words,
-        reals,
-        pins,
-        levels,
-        cycles,
-        sources,
-        timer as usize,
-        cycle,
-    );
-    state::set_last(words, cycle);
-    Answer {
+    answer::check_timer_and_book(board.words, timer, 4, cycle, book)?;
+    let d = delivery::deliver(board, book, timer as usize, cycle);
+    state::set_last(board.words, cycle);
+    Ok(Answer {
         value: d.events,
-        number: d.number as u32,
-        count: d.count as u32,
-    }
+        number: d.stop.number(),
+        count: book.count as u32,
+    })
 }

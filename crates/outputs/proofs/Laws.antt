@@ -4,19 +4,21 @@ use mathlib.Core.Bool.{Bool, true, false, cond}
 use Prim.Native.Nat.{ℕ, ◌+◌, ◌≤◌, ◌<◌}
 use native.Mathlib.Omega.{arith}
 use lib.Dec.{lit≤}
+use mir.Val.{bool_byte}
 use borrow.Author.Tests.{lt-ltb, le-ltb, lt-leb, le-leb}
 use Rattle.tim.specs.declared.Timer.{Timer}
 use Rattle.tim.specs.Change.{output}
 use Rattle.sig.specs.Signal.{tim_signal}
-use Rattle.gpio.specs.declared.Change.{Change}
-use Rattle.gpio.specs.Gpio.{change_of, bit}
+use Rattle.std.specs.Prelude.{Option}
+use Rattle.gpio.specs.declared.Edge.{Edge}
+use Rattle.gpio.specs.Gpio.{bit}
 use Rattle.book.specs.Book.{Changes, Book, puts, entry_of, entries_of}
 use Rattle.book.proofs.Laws.{puts-four}
 use Rattle.machine.specs.Board.{Board, Pads, level_of, with_pads}
 use Rattle.machine.specs.Sys.{Move, Drive, sig_out, driver, drive_channel, no_changes, drive_outputs}
 use Rattle.sys.specs.Moves.{Moves}
 use Rattle.sys.proofs.Laws.{sig_same, then-moves}
-use Rattle.outputs.specs.Outputs.{Driven, level_driven, DrivenOne, DrivenTwo}
+use Rattle.outputs.specs.Outputs.{Driven, level_driven, DrivenOne}
 
 -- a timer's four channels driven, their changes not yet written
 record Drives (d : Drive) (b b₁ : Board) (r : Changes) : Type 0 where
@@ -35,31 +37,26 @@ four_driven n channels l l₁ l₂ l₃ p =
 unfoldable levels_driven : ℕ → ℕ → Bool → Bool → Bool → Bool → Pads → Drive
 levels_driven n channels l l₁ l₂ l₃ p = cond (driver n) (four_driven n channels l l₁ l₂ l₃ p) (record { pads = p; changes = no_changes })
 
-pub channel-drives : (b b₁ : Board) (channels ch s k : ℕ) (l : Bool) (r : Change) → ch < channels → k ≡ bit l
+pub channel-drives : (b b₁ : Board) (channels ch s k : ℕ) (l : Bool) (r : Option Edge) → ch < channels → k ≡ bit l
     → Moves (sig_out b.pads s k) b b₁ r → Moves (level_driven channels ch s l b.pads) b b₁ r
 unfolding level_driven
 channel-drives b b₁ channels ch s k l r h q m = simp (lt-ltb ch channels h, ← q) m
 
-pub channel-still : (b : Board) (channels ch s : ℕ) (l : Bool) → channels ≤ ch → Moves (level_driven channels ch s l b.pads) b b (change_of 0)
-unfolding level_driven change_of
-channel-still b channels ch s l h = simp (le-ltb ch channels h) (record { board = refl; change = refl })
-
--- a signal that has its level
-pub channel-same : (b : Board) (channels ch s k : ℕ) (l : Bool) → ch < channels → level_of b.pads s ≡ k → k ≡ bit l
-    → Moves (level_driven channels ch s l b.pads) b b (change_of 0)
-unfolding change_of
-channel-same b channels ch s k l h e q = channel-drives b b channels ch s k l _ h q (sig_same b s k e)
+-- `as u8` gives a level's bit
+pub byte-bit : (l : Bool) → bool_byte l ≡ bit l
+byte-bit true = refl
+byte-bit false = refl
 
 pub bit-small : (l : Bool) → bit l ≤ 1
 bit-small true = lit≤ tt
 bit-small false = lit≤ tt
 
 -- a signal's number that a call gave
-at-signal : (b b₁ : Board) (channels ch s s₁ : ℕ) (l : Bool) (r : Change) → s ≡ s₁
+at-signal : (b b₁ : Board) (channels ch s s₁ : ℕ) (l : Bool) (r : Option Edge) → s ≡ s₁
     → Moves (level_driven channels ch s l b.pads) b b₁ r → Moves (level_driven channels ch s₁ l b.pads) b b₁ r
 at-signal b b₁ channels ch s s₁ l r e m = subst (λ (n : ℕ). Moves (level_driven channels ch n l b.pads) b b₁ r) e m
 
-four : (b b₁ b₂ b₃ b₄ : Board) (n k : ℕ) (l l₁ l₂ l₃ : Bool) (a₀ a₁ a₂ a₃ : Change)
+four : (b b₁ b₂ b₃ b₄ : Board) (n k : ℕ) (l l₁ l₂ l₃ : Bool) (a₀ a₁ a₂ a₃ : Option Edge)
     → Moves (level_driven k 0 (tim_signal n 0) l b.pads) b b₁ a₀ → Moves (level_driven k 1 (tim_signal n 1) l₁ b₁.pads) b₁ b₂ a₁
     → Moves (level_driven k 2 (tim_signal n 2) l₂ b₂.pads) b₂ b₃ a₂ → Moves (level_driven k 3 (tim_signal n 3) l₃ b₃.pads) b₃ b₄ a₃
     → Drives (four_driven n k l l₁ l₂ l₃ b.pads) b b₄ (record { a = a₀; b = a₁; c = a₂; d = a₃ })
@@ -109,40 +106,50 @@ pub above-four : (n : ℕ) → 2 ≤ n → 4 < n → driver n ≡ false
 above-four n h k = rw (le-leb 2 n h, lt-leb n 4 k)
 
 -- ---- channels driven and written
-pub one-driven : (m : Move) (at : ℕ) (b b₁ : Board) (k k₁ : Book) (n : ℕ) (c : Change) → Moves m b b₁ (change_of n) → c ≡ change_of n
-    → k₁ ≡ puts k (entry_of at c) → DrivenOne m at b b₁ k k₁
-one-driven m at b b₁ k k₁ n c h e w = record { board = h.board; entries = w ∙ ap (λ (x : Change). puts k (entry_of at x)) (e ∙ h.change) }
+pub one-driven : (m : Move) (at : ℕ) (b b₁ : Board) (k k₁ : Book) (c : Option Edge) → Moves m b b₁ c → k₁ ≡ puts k (entry_of at c) → DrivenOne m at b b₁ k k₁
+one-driven m at b b₁ k k₁ c h w = record { board = h.board; entries = w ∙ ap (λ (x : Option Edge). puts k (entry_of at x)) h.change }
 
-pub two-driven : (x ch s : ℕ) (l l₁ : Bool) (at : ℕ) (b b₁ b₂ : Board) (k k₁ k₂ : Book)
-    → DrivenOne (level_driven x ch s l b.pads) at b b₁ k k₁ → DrivenOne (level_driven x (ch + 1) (s + 1) l₁ b₁.pads) at b₁ b₂ k₁ k₂
-    → DrivenTwo x ch s l l₁ at b b₂ k k₂
-two-driven x ch s l l₁ at b b₁ b₂ k k₁ k₂ p q = record { between = b₁; book = k₁; first = p; second = q }
+-- a channel that the timer has not
+pub channel-still : (b : Board) (k : Book) (channels ch s at : ℕ) (l : Bool) → channels ≤ ch → DrivenOne (level_driven channels ch s l b.pads) at b b k k
+unfolding level_driven entry_of puts
+channel-still b k channels ch s at l h = simp (le-ltb ch channels h) (record { board = refl; entries = refl })
+
+-- a signal that moved
+pub channel-driven : (b b₁ : Board) (k k₁ : Book) (channels ch s l₁ at : ℕ) (l : Bool) → ch < channels → l₁ ≡ bit l
+    → DrivenOne (sig_out b.pads s l₁) at b b₁ k k₁ → DrivenOne (level_driven channels ch s l b.pads) at b b₁ k k₁
+unfolding level_driven
+channel-driven b b₁ k k₁ channels ch s l₁ at l h q d = simp (lt-ltb ch channels h, ← q) d
+
+-- a signal that has its level
+pub channel-same : (b : Board) (k : Book) (channels ch s l₁ at : ℕ) (l : Bool) → ch < channels → level_of b.pads s ≡ l₁ → l₁ ≡ bit l
+    → DrivenOne (level_driven channels ch s l b.pads) at b b k k
+unfolding entry_of puts
+channel-same b k channels ch s l₁ at l h e q = one-driven _ at b b k k _ (channel-drives b b channels ch s l₁ l _ h q (sig_same b s l₁ e)) refl
 
 moves_of : (m : Move) (at : ℕ) (b b₁ : Board) (k k₁ : Book) → DrivenOne m at b b₁ k k₁ → Moves m b b₁ m.change
 moves_of m at b b₁ k k₁ d = record { board = d.board; change = refl }
 
--- a timer's four channels, two by two
-pub four-driven : (t : Timer) (cnt at s : ℕ) (l l₁ l₂ l₃ : Bool) (b b₂ b₄ : Board) (k k₂ k₄ : Book) → 2 ≤ t.inst.n → t.inst.n ≤ 4
+-- a timer's four channels, one after the other
+pub four-driven : (t : Timer) (cnt at s : ℕ) (l l₁ l₂ l₃ : Bool) (b b₁ b₂ b₃ b₄ : Board) (k k₁ k₂ k₃ k₄ : Book) → 2 ≤ t.inst.n → t.inst.n ≤ 4
     → s ≡ tim_signal t.inst.n 0 → l ≡ output t 0 cnt → l₁ ≡ output t 1 cnt → l₂ ≡ output t 2 cnt → l₃ ≡ output t 3 cnt
-    → DrivenTwo t.inst.channels 0 s l l₁ at b b₂ k k₂ → DrivenTwo t.inst.channels 2 (s + 2) l₂ l₃ at b₂ b₄ k₂ k₄
+    → DrivenOne (level_driven t.inst.channels 0 s l b.pads) at b b₁ k k₁ → DrivenOne (level_driven t.inst.channels 1 (s + 1) l₁ b₁.pads) at b₁ b₂ k₁ k₂
+    → DrivenOne (level_driven t.inst.channels 2 (s + 2) l₂ b₂.pads) at b₂ b₃ k₂ k₃ → DrivenOne (level_driven t.inst.channels 3 (s + 3) l₃ b₃.pads) at b₃ b₄ k₃ k₄
     → Driven (drive_outputs t cnt b.pads) at b b₄ k k₄
-four-driven t cnt at s l l₁ l₂ l₃ b b₂ b₄ k k₂ k₄ g h e p p₁ p₂ p₃ u v =
+four-driven t cnt at s l l₁ l₂ l₃ b b₁ b₂ b₃ b₄ k k₁ k₂ k₃ k₄ g h e p p₁ p₂ p₃ d d₁ d₂ d₃ =
     let n = t.inst.n in
     let x = t.inst.channels in
-    let b₁ = u.between in
-    let b₃ = v.between in
     let a = level_driven x 0 s l b.pads in
     let a₁ = level_driven x 1 (s + 1) l₁ b₁.pads in
     let a₂ = level_driven x 2 (s + 2) l₂ b₂.pads in
-    let a₃ = level_driven x 3 (s + 2 + 1) l₃ b₃.pads in
-    let m = at-signal b b₁ x 0 s (tim_signal n 0) l a.change e (moves_of a at b b₁ k u.book u.first) in
-    let m₁ = at-signal b₁ b₂ x 1 (s + 1) (tim_signal n 1) l₁ a₁.change (omega arith) (moves_of a₁ at b₁ b₂ u.book k₂ u.second) in
-    let m₂ = at-signal b₂ b₃ x 2 (s + 2) (tim_signal n 2) l₂ a₂.change (omega arith) (moves_of a₂ at b₂ b₃ k₂ v.book v.first) in
-    let m₃ = at-signal b₃ b₄ x 3 (s + 2 + 1) (tim_signal n 3) l₃ a₃.change (omega arith) (moves_of a₃ at b₃ b₄ v.book k₄ v.second) in
+    let a₃ = level_driven x 3 (s + 3) l₃ b₃.pads in
+    let m = at-signal b b₁ x 0 s (tim_signal n 0) l a.change e (moves_of a at b b₁ k k₁ d) in
+    let m₁ = at-signal b₁ b₂ x 1 (s + 1) (tim_signal n 1) l₁ a₁.change (omega arith) (moves_of a₁ at b₁ b₂ k₁ k₂ d₁) in
+    let m₂ = at-signal b₂ b₃ x 2 (s + 2) (tim_signal n 2) l₂ a₂.change (omega arith) (moves_of a₂ at b₂ b₃ k₂ k₃ d₂) in
+    let m₃ = at-signal b₃ b₄ x 3 (s + 3) (tim_signal n 3) l₃ a₃.change (omega arith) (moves_of a₃ at b₃ b₄ k₃ k₄ d₃) in
     let c : Changes = record { a = a.change; b = a₁.change; c = a₂.change; d = a₃.change } in
     outputs-driven b b₄ t t cnt at l l₁ l₂ l₃ k k₄ refl p p₁ p₂ p₃
     (drives-append _ at b b₄ k k₄ c (levels-drive b b₄ n x l l₁ l₂ l₃ c g h (four b b₁ b₂ b₃ b₄ n x l l₁ l₂ l₃ _ _ _ _ m m₁ m₂ m₃))
-    (puts-four k u.book k₂ v.book k₄ at c u.first.entries u.second.entries v.first.entries v.second.entries))
+    (puts-four k k₁ k₂ k₃ k₄ at c d.entries d₁.entries d₂.entries d₃.entries))
 
 -- a timer that drives nothing
 pub none-driven : (t : Timer) (cnt at : ℕ) (b : Board) (k : Book) → driver t.inst.n ≡ false → Driven (drive_outputs t cnt b.pads) at b b k k

@@ -18,10 +18,3 @@ level_driven channels ch s l p = cond (ltb ch channels) (sig_out p s (bit l)) (s
 pub record DrivenOne (m : Move) (at : ℕ) (b b₁ : Board) (k k₁ : Book) : Type 0 where
   pub board : b₁ ≡ with_pads b m.pads
   pub entries : k₁ ≡ puts k (entry_of at m.change)
-
--- two channels', one after the other
-pub record DrivenTwo (channels ch s : ℕ) (l l₁ : Bool) (at : ℕ) (b b₂ : Board) (k k₂ : Book) : Type 0 where
-  pub between : Board
-  pub book : Book
-  pub first : DrivenOne (level_driven channels ch s l b.pads) at b between k book
-  pub second : DrivenOne (level_driven channels (ch + 1) (s + 1) l₁ between.pads) at between b₂ book k₂

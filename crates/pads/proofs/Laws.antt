@@ -9,7 +9,8 @@ use lib.Ieee.{Float}
 use borrow.Author.Tests.{ltb-false, leb-false, le-leb, lt-leb, lt-ltb, le-ltb}
 use Rattle.gpio.specs.declared.PinCfg.{PinCfg}
 use Rattle.pins.specs.declared.ExtDrive.{ExtDrive}
-use Rattle.gpio.specs.declared.Change.{Change}
+use Rattle.std.specs.Prelude.{Option}
+use Rattle.gpio.specs.declared.Edge.{Edge}
 use Rattle.book.specs.Book.{Entry, book, puts, entry_of, places, Holds, Lent}
 use Rattle.book.proofs.Laws.{holds}
 use Rattle.machine.specs.Board.{Board, with_pads, with_last}
@@ -151,7 +152,7 @@ served w w₁ x x₁ u u₁ call n r es b h z does e v k =
     (rw s a, rw s k)
 
 -- one pin moved, its change written at place 0
-pin-moved : (w w₁ w₂ : List ℕ) (x x₁ : List Float) (u u₁ : Lent) (call : Call) (n cycle : ℕ) (r : Answer) (m : S.Move) (change : Change)
+pin-moved : (w w₁ w₂ : List ℕ) (x x₁ : List Float) (u u₁ : Lent) (call : Call) (n cycle : ℕ) (r : Answer) (m : S.Move) (change : Option Edge)
     → n ≡ first (refusals (view w x) call) → n ≡ 0 → performed (view w x) call ≡ moved (view w x) cycle m → 4 ≤ places u
     → Moves m (view w x) (view w₁ x₁) change → view w₂ x₁ ≡ with_last (view w₁ x₁) cycle
     → r ≡ answer 0 0 r.count → book u₁ r.count ≡ puts (book u 0) (entry_of cycle change) → r.count ≤ 1
@@ -160,9 +161,9 @@ pin-moved w w₁ w₂ x x₁ u u₁ call n cycle r m change h z does room moves 
     served w w₂ x x₁ u u₁ call n r (entry_of cycle m.change) (with_last (with_pads (view w x) m.pads) cycle) h z does e
     (last ∙ ap (λ (b : Board). with_last b cycle) moves.board)
     (holds (entry_of cycle m.change) u u₁ r.count
-    (put ∙ ap (λ (d : Change). puts (book u 0) (entry_of cycle d)) moves.change) (omega arith, omega arith, omega arith, omega arith))
+    (put ∙ ap (λ (d : Option Edge). puts (book u 0) (entry_of cycle d)) moves.change) (omega arith, omega arith, omega arith, omega arith))
 
-pub pin-set : (w w₁ w₂ : List ℕ) (x x₁ : List Float) (u u₁ : Lent) (pin mode drain out up down function n cycle : ℕ) (r : Answer) (g : PinCfg) (change : Change)
+pub pin-set : (w w₁ w₂ : List ℕ) (x x₁ : List Float) (u u₁ : Lent) (pin mode drain out up down function n cycle : ℕ) (r : Answer) (g : PinCfg) (change : Option Edge)
     → n ≡ asked (view w x) pin cycle (places u) (S.taken (view w x).pads pin (S.selected (view w x).pads pin g function)) → n ≡ 0
     → g ≡ cfg_of mode drain out up down → Moves (S.set_pin (view w x).pads pin g function) (view w x) (view w₁ x₁) change
     → view w₂ x₁ ≡ with_last (view w₁ x₁) cycle
@@ -176,7 +177,7 @@ pin-set w w₁ w₂ x x₁ u u₁ pin mode drain out up down function n cycle r 
     (ap (λ (y : PinCfg). moved (view w x) cycle (S.set_pin (view w x).pads pin y function)) (sym cfg))
     (setting-there (view w x) pin cycle (places u) n _ h z).1 moves last e put few
 
-pub pin-driven : (w w₁ w₂ : List ℕ) (x x₁ : List Float) (u u₁ : Lent) (pin : ℕ) (d d₁ : ExtDrive) (n cycle : ℕ) (r : Answer) (change : Change)
+pub pin-driven : (w w₁ w₂ : List ℕ) (x x₁ : List Float) (u u₁ : Lent) (pin : ℕ) (d d₁ : ExtDrive) (n cycle : ℕ) (r : Answer) (change : Option Edge)
     → n ≡ first (no_such_index pin (view w x).counts.pins ∷ clock_astray (view w x) cycle ∷ book_full 4 (places u) ∷ []) → n ≡ 0
     → d ≡ d₁ → Moves (S.drive_pin (view w x).pads pin d) (view w x) (view w₁ x₁) change
     → view w₂ x₁ ≡ with_last (view w₁ x₁) cycle

@@ -2,48 +2,57 @@
 #![tactic(auto)]
 
 ghost use Rattle.std.specs.Prelude.{◌≡◌, cond, List, [], ◌∷◌, ◌<◌, ◌≤◌, leb, Float, length};
-ghost use Rattle.answer.specs.Promise.{answer, Answers};
-ghost use Rattle.book.specs.Book.{book, puts, entry_of, places, Holds, slices, Room};
+ghost use Rattle.answer.specs.Promise.{answer, AnswersLent};
+ghost use Rattle.answer.specs.Refused.{refusal_number, told};
+ghost use Rattle.book.specs.Book.{puts, entry_of, places, Holds, Room};
+ghost use Rattle.book.specs.Lent.{slices_of, filled, SameSlices};
 ghost use Rattle.machine.specs.Board.{with_last};
 ghost use Rattle.machine.specs.Call as C;
 ghost use Rattle.machine.specs.Refusals.{◌when◌, first, no_such_index, clock_astray, book_full};
-ghost use Rattle.machine.specs.Step.{step, cfg_of, yes};
+ghost use Rattle.machine.specs.Step.{step, cfg_of};
 ghost use Rattle.machine.specs.Sys as S;
+ghost use Rattle.state.specs.Lent.{lent_board, SameLoan};
 ghost use Rattle.state.specs.View.{view};
 ghost use Rattle.pads.specs.Ext.{drive_of};
+ghost use Rattle.pads.specs.Setting.{set_pin_call};
 
-use answer::Answer;
-use gpio::{Change, PinCfg};
+use answer::{Answer, Refusal};
+use book::LentBook;
+use gpio::{Edge, PinCfg};
 use pins::ExtDrive;
-use state::{REALS, WORDS};
+use state::{LentBoard, WORDS};
+
+// How a call sets a pin, in its numbers: all but the mode and the function are yes or no, and 0 is no.
+#[derive(Clone, Copy)]
+pub struct PinSetting {
+    pub mode: u32,
+    pub open_drain: u32,
+    pub out: u32,
+    pub pullup: u32,
+    pub pulldown: u32,
+    pub function: u32,
+}
+
+impl PinSetting {
+    // The configuration that it asks for.
+    fn configuration(self) -> PinCfg
+        ensures { result ≡ cfg_of self.mode self.open_drain self.out self.pullup self.pulldown }
+    {
+        PinCfg {
+            mode: mode_of(self.mode),
+            open_drain: self.open_drain != 0,
+            odr: u8::from(self.out != 0),
+            pullup: self.pullup != 0,
+            pulldown: self.pulldown != 0,
+        }
+    }
+}
 
 // A mode above 3 acts as input.
 fn mode_of(mode: u32) -> u8
     ensures { result ≡ cond (leb mode 3) mode 0 }
 {
-    if mode <= 3 {
-        return mode as u8;
-    }
-    0
-}
-
-fn bit(n: u32) -> u8
-    ensures { result ≡ cond (yes n) 1 0 }
-{
-    if n != 0 { 1 } else { 0 }
-}
-
-// The configuration that the numbers of a call ask for.
-fn cfg_of(mode: u32, open_drain: u32, out: u32, pullup: u32, pulldown: u32) -> PinCfg
-    ensures { result ≡ cfg_of mode open_drain out pullup pulldown }
-{
-    PinCfg {
-        mode: mode_of(mode),
-        open_drain: open_drain != 0,
-        odr: bit(out),
-        pullup: pullup != 0,
-        pulldown: pulldown != 0,
-    }
+    if mode <= 3 { mode as u8 } else { 0 }
 }
 
 // The outside drive of a number: 1 low, 2 high, 3 analogue, every other nothing.
@@ -58,161 +67,124 @@ fn ext_of(kind: u32, volts: f64) -> ExtDrive
     }
 }
 
-// The number that an outside drive is refused with, 0 if none applies.
-fn refusal(
+// What an outside drive is refused for.
+fn check_drive(
     words: &[u64; WORDS],
-    pins: &[u8],
-    levels: &[u8],
-    cycles: &[u64],
-    sources: &[u8],
+    book: &LentBook<'_>,
     pin: u32,
     cycle: u64,
-) -> u8
-    ensures { (x : List Float) → result ≡ first (no_such_index pin (view words.now x).counts.pins ∷ clock_astray (view words.now x) cycle ∷ book_full 4 (places (slices pins.now levels.now cycles.now sources.now)) ∷ []) }
+) -> Result<(), Refusal>
+    ensures { (x : List Float) → refusal_number result ≡ first (no_such_index pin (view words.now x).counts.pins ∷ clock_astray (view words.now x) cycle ∷ book_full 4 (places (slices_of book.now)) ∷ []) }
 {
     let count = state::pin_count(words);
-    let room = book::room(pins, levels, cycles, sources);
-    answer::refusal(words, pin, count, 4, cycle, 4, room)
+    answer::check(words, pin, count, 4, cycle, 4, book.places())
 }
 
-// The number that a pin setting is refused with, 0 if none applies: 11, a signal that another pin routes, comes after 5 and before 6.
-fn setting_refusal(
+// What a pin setting is refused for: a signal that another pin routes comes after the cycle and before the book.
+fn check_setting(
     words: &[u64; WORDS],
-    pins: &[u8],
-    levels: &[u8],
-    cycles: &[u64],
-    sources: &[u8],
+    book: &LentBook<'_>,
     pin: u32,
     cfg: PinCfg,
     function: u32,
     cycle: u64,
-) -> u8
-    ensures { (x : List Float) → result ≡ first (no_such_index pin (view words.now x).counts.pins ∷ clock_astray (view words.now x) cycle ∷ (11 when S.taken (view words.now x).pads pin (S.selected (view words.now x).pads pin cfg function)) ∷ book_full 4 (places (slices pins.now levels.now cycles.now sources.now)) ∷ []) }
+) -> Result<(), Refusal>
+    ensures { (x : List Float) → refusal_number result ≡ first (no_such_index pin (view words.now x).counts.pins ∷ clock_astray (view words.now x) cycle ∷ (11 when S.taken (view words.now x).pads pin (S.selected (view words.now x).pads pin cfg function)) ∷ book_full 4 (places (slices_of book.now)) ∷ []) }
 {
     let count = state::pin_count(words);
     if count <= pin as usize {
-        return 2;
+        return Err(Refusal::NoSuchIndex);
     }
-    let astray = answer::is_astray(words, cycle);
     let taken = sys::is_taken(words, pin as usize, cfg, function);
-    let room = book::room(pins, levels, cycles, sources);
-    if astray {
-        return 5;
+    if answer::is_astray(words, cycle) {
+        return Err(Refusal::ClockAstray);
     }
     if taken {
-        return 11;
+        return Err(Refusal::SignalTaken);
     }
-    if room < 4 {
-        return 6;
+    if book.places() < 4 {
+        return Err(Refusal::BookFull);
     }
-    0
+    Ok(())
 }
 
 // A pin was changed by a call at a cycle: the cycle is the last, and the change is in the book.
 fn changed(
     words: &mut [u64; WORDS],
-    pins: &mut [u8],
-    levels: &mut [u8],
-    cycles: &mut [u64],
-    sources: &mut [u8],
-    change: Change,
+    book: &mut LentBook<'_>,
+    change: Option<Edge>,
     at: u64,
 ) -> Answer
-    requires { Room 1 (slices pins.old levels.old cycles.old sources.old) }
+    requires { (book.old.count ≡ 0) × (Room 1 (slices_of book.old)) }
+    ensures same_slices { SameSlices book.old book.new }
     ensures x_after { (x : List Float) → view words.new x ≡ with_last (view words.old x) at }
-    ensures value { result ≡ answer 0 0 result.count }
-    ensures count_after { book (slices pins.new levels.new cycles.new sources.new) result.count ≡ puts (book (slices pins.old levels.old cycles.old sources.old) 0) (entry_of at change) }
-    ensures count_bound { result.count ≤ 1 }
+    ensures counted { result ≡ answer 0 0 book.new.count }
+    ensures entered { filled book.new ≡ puts (filled book.old) (entry_of at change) }
+    ensures at_most_one { book.new.count ≤ 1 }
 {
     state::set_last(words, at);
-    let count = book::append(pins, levels, cycles, sources, 0, change, at);
-    Answer {
-        value: 0,
-        number: 0,
-        count: count as u32,
-    }
+    book.append(change, at);
+    answer::entered(book)
 }
 
 // Sets a pin: configuration and alternate function.
+#[inline(always)]
 pub fn set_pin(
-    words: &mut [u64; WORDS],
-    reals: &mut [f64; REALS],
-    pins: &mut [u8],
-    levels: &mut [u8],
-    cycles: &mut [u64],
-    sources: &mut [u8],
+    board: &mut LentBoard<'_>,
+    book: &mut LentBook<'_>,
     pin: u32,
-    mode: u32,
-    open_drain: u32,
-    out: u32,
-    pullup: u32,
-    pulldown: u32,
-    function: u32,
+    setting: PinSetting,
     cycle: u64,
-) -> Answer
-    ensures answers { Answers (step (view words.old reals.old) (C.set_pin pin mode open_drain out pullup pulldown function cycle (places (slices pins.old levels.old cycles.old sources.old)))) result words.old words.new reals.old reals.new }
-    ensures holds { Holds (step (view words.old reals.old) (C.set_pin pin mode open_drain out pullup pulldown function cycle (places (slices pins.old levels.old cycles.old sources.old)))).entries (slices pins.old levels.old cycles.old sources.old) (slices pins.new levels.new cycles.new sources.new) result.count }
+) -> Result<Answer, Refusal>
+    ensures same_loan { SameLoan board.old board.new }
+    ensures same_slices { SameSlices book.old book.new }
+    ensures answers { AnswersLent (step (lent_board board.old) (set_pin_call pin setting cycle (places (slices_of book.old)))) (told result) board.old board.new }
+    ensures holds { Holds (step (lent_board board.old) (set_pin_call pin setting cycle (places (slices_of book.old)))).entries (slices_of book.old) (slices_of book.new) (told result).count }
 {
-    let cfg = cfg_of(mode, open_drain, out, pullup, pulldown);
-    let n = setting_refusal(
-        words, pins, levels, cycles, sources, pin, cfg, function, cycle,
-    );
-    if n != 0 {
-        return answer::refused(n);
-    }
-    let change = sys::set_pin(words, reals, pin as usize, cfg, function);
-    changed(words, pins, levels, cycles, sources, change, cycle)
+    book.count = 0;
+    let cfg = setting.configuration();
+    check_setting(board.words, book, pin, cfg, setting.function, cycle)?;
+    let change = sys::set_pin(board, pin as usize, cfg, setting.function);
+    Ok(changed(board.words, book, change, cycle))
 }
 
 // Drives a pin from outside.
+#[inline(always)]
 pub fn drive_pin(
-    words: &mut [u64; WORDS],
-    reals: &mut [f64; REALS],
-    pins: &mut [u8],
-    levels: &mut [u8],
-    cycles: &mut [u64],
-    sources: &mut [u8],
+    board: &mut LentBoard<'_>,
+    book: &mut LentBook<'_>,
     pin: u32,
     kind: u32,
     volts: f64,
     cycle: u64,
-) -> Answer
-    ensures answers { Answers (step (view words.old reals.old) (C.drive_pin pin (drive_of kind volts) cycle (places (slices pins.old levels.old cycles.old sources.old)))) result words.old words.new reals.old reals.new }
-    ensures holds { Holds (step (view words.old reals.old) (C.drive_pin pin (drive_of kind volts) cycle (places (slices pins.old levels.old cycles.old sources.old)))).entries (slices pins.old levels.old cycles.old sources.old) (slices pins.new levels.new cycles.new sources.new) result.count }
+) -> Result<Answer, Refusal>
+    ensures same_loan { SameLoan board.old board.new }
+    ensures same_slices { SameSlices book.old book.new }
+    ensures answers { AnswersLent (step (lent_board board.old) (C.drive_pin pin (drive_of kind volts) cycle (places (slices_of book.old)))) (told result) board.old board.new }
+    ensures holds { Holds (step (lent_board board.old) (C.drive_pin pin (drive_of kind volts) cycle (places (slices_of book.old)))).entries (slices_of book.old) (slices_of book.new) (told result).count }
 {
-    let number = refusal(words, pins, levels, cycles, sources, pin, cycle);
-    if number != 0 {
-        return answer::refused(number);
-    }
+    book.count = 0;
+    check_drive(board.words, book, pin, cycle)?;
     let ext = ext_of(kind, volts);
-    let change = sys::drive_pin(words, reals, pin as usize, ext);
-    changed(words, pins, levels, cycles, sources, change, cycle)
+    let change = sys::drive_pin(board, pin as usize, ext);
+    Ok(changed(board.words, book, change, cycle))
 }
 
 // Resets every pin.
 pub fn reset_pins(
-    words: &mut [u64; WORDS],
-    reals: &mut [f64; REALS],
-    pins: &mut [u8],
-    levels: &mut [u8],
-    cycles: &mut [u64],
-    sources: &mut [u8],
+    board: &mut LentBoard<'_>,
+    book: &mut LentBook<'_>,
     cycle: u64,
-) -> Answer
-    ensures answers { Answers (step (view words.old reals.old) (C.reset_pins cycle (places (slices pins.old levels.old cycles.old sources.old)))) result words.old words.new reals.old reals.new }
-    ensures holds { Holds (step (view words.old reals.old) (C.reset_pins cycle (places (slices pins.old levels.old cycles.old sources.old)))).entries (slices pins.old levels.old cycles.old sources.old) (slices pins.new levels.new cycles.new sources.new) result.count }
+) -> Result<Answer, Refusal>
+    ensures same_loan { SameLoan board.old board.new }
+    ensures same_slices { SameSlices book.old book.new }
+    ensures answers { AnswersLent (step (lent_board board.old) (C.reset_pins cycle (places (slices_of book.old)))) (told result) board.old board.new }
+    ensures holds { Holds (step (lent_board board.old) (C.reset_pins cycle (places (slices_of book.old)))).entries (slices_of book.old) (slices_of book.new) (told result).count }
 {
-    let need = state::pin_count(words);
-    let room = book::room(pins, levels, cycles, sources);
-    let n = answer::refusal(words, 0, 1, 4, cycle, need, room);
-    if n != 0 {
-        return answer::refused(n);
-    }
-    let count = sys::reset_pins(words, reals, pins, levels, cycles, sources, cycle);
-    state::set_last(words, cycle);
-    Answer {
-        value: 0,
-        number: 0,
-        count: count as u32,
-    }
+    book.count = 0;
+    let need = state::pin_count(board.words);
+    answer::check(board.words, 0, 1, 4, cycle, need, book.places())?;
+    sys::reset_pins(board, book, cycle);
+    state::set_last(board.words, cycle);
+    Ok(answer::entered(book))
 }

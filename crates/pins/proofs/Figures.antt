@@ -7,6 +7,7 @@ use lib.IntN.{pos, negsuc}
 use lib.Ieee as Ieee
 use lib.Ieee.{Float, nan, fin}
 use Rattle.pins.specs.declared.ExtDrive.TheVariants as ext
+use Rattle.pins.specs.declared.Source.{Source}
 use Rattle.pins.specs.Pins.{by_outside, only_held, blank, with_ext, with_level, sensed_from, resolved}
 
 -- an analogue drive on an input, and the level, the volts and the source that it gets
@@ -14,7 +15,7 @@ pub record Figure : Type 0 where
   pub drive : Float
   pub level : ℕ
   pub volts : Float
-  pub source : ℕ
+  pub source : Source
 
 -- 5.0 = 5 × 2^0, 3.0 = 3 × 2^0, 2.0 = 1 × 2^1, 1.5 = 3 × 2^-1, and minus zero
 abbrev pub v5·0 : Float

@@ -1,24 +1,36 @@
 -- What a pin's level, volts and source are. Reserved pins are left out (document 01).
-use Rattle.std.specs.Prelude.{cond, ℕ, eqb, Float}
+use Rattle.std.specs.Prelude.{cond, ℕ, eqb, Float, Option, Some, None}
 use Rattle.std.specs.Float.Ieee as Ieee
 use Rattle.std.specs.Float.{binary64}
 use Rattle.real.specs.Real.{zero_float}
 use Rattle.pins.specs.declared.ExtDrive.{ExtDrive}
 use Rattle.pins.specs.declared.ExtDrive.TheVariants as ext
+use Rattle.pins.specs.declared.Source.{Source}
+use Rattle.pins.specs.declared.Source.TheVariants as source
 use Rattle.pins.specs.declared.Pin.{Pin}
 
 -- "whether the level comes from 1 the chip .., 2 the outside, 3 a pull, or 4 is only held" (document 02, F-5)
-abbrev pub by_chip : ℕ
-by_chip = 1
+abbrev pub by_chip : Source
+by_chip = source.Chip
 
-abbrev pub by_outside : ℕ
-by_outside = 2
+abbrev pub by_outside : Source
+by_outside = source.Outside
 
-abbrev pub by_pull : ℕ
-by_pull = 3
+abbrev pub by_pull : Source
+by_pull = source.Pull
 
-abbrev pub only_held : ℕ
-only_held = 4
+abbrev pub only_held : Source
+only_held = source.Held
+
+abbrev pub source_number : Source → ℕ
+source_number source.Chip = 1
+source_number source.Outside = 2
+source_number source.Pull = 3
+source_number source.Held = 4
+
+-- the source of a number, where every number but 1 to 3 is only held
+abbrev pub source_of : ℕ → Source
+source_of n = cond (eqb n 1) by_chip (cond (eqb n 2) by_outside (cond (eqb n 3) by_pull only_held))
 
 -- a pin at first: nothing set, nothing connected, low; "a pin just set up has source 4"
 abbrev pub blank : Pin
@@ -57,12 +69,16 @@ vih vcc = Ieee.mul binary64 (Ieee.of_bits binary64 0x3fe3_3333_3333_3333) vcc
 abbrev pub triggered : Float → Float → ℕ → ℕ
 triggered v vcc level = cond (Ieee.le (vih vcc) v) 1 (cond (Ieee.le v (vil vcc)) 0 level)
 
+-- the level that the thresholds settle, or none
+abbrev pub settled : Float → Float → Option ℕ
+settled v vcc = cond (Ieee.le (vih vcc) v) (Some 1) (cond (Ieee.le v (vil vcc)) (Some 0) None)
+
 -- "analogue volts that settle neither level": between the thresholds, and not-a-number, the level is only held, whatever the pulls
-abbrev pub settled_by : Float → Float → ℕ
+abbrev pub settled_by : Float → Float → Source
 settled_by v vcc = cond (Ieee.le (vih vcc) v) by_outside (cond (Ieee.le v (vil vcc)) by_outside only_held)
 
 -- the pin at a level and volts that a source gives it
-abbrev pub with_level : Pin → ℕ → Float → ℕ → Pin
+abbrev pub with_level : Pin → ℕ → Float → Source → Pin
 with_level p l v s = record { mcu = p.mcu; ext = p.ext; level = l; volts = v; source = s }
 
 -- the pin with another outside drive

@@ -2,7 +2,7 @@
 #![tactic(auto)]
 
 ghost use Rattle.std.specs.Prelude.{◌≡◌};
-ghost use Rattle.pins.specs.Pins.{blank, effective_dir, driven_level, supply_at, clamped, triggered, settled_by, with_level, sensed_from, resolved};
+ghost use Rattle.pins.specs.Pins.{blank, effective_dir, driven_level, source_number, source_of, supply_at, clamped, settled, with_level, sensed_from, resolved};
 ghost use Rattle.pins.specs.Clock.{new_clock, time_at, hz_set};
 
 // What the outside world connects to a pin.
@@ -16,8 +16,38 @@ pub enum ExtDrive {
     Analog(f64),
 }
 
-// The MCU side of a pin.
-#[derive(Clone, Copy)]
+// Who holds a pin's level, with the number that a book's entry and an answer give it.
+#[derive(Clone, Copy, PartialEq, Eq)]
+pub enum Source {
+    Chip = 1,
+    Outside = 2,
+    Pull = 3,
+    // Nobody: the level is only held.
+    Held = 4,
+}
+
+impl Source {
+    pub fn number(self) -> u8
+        ensures { result ≡ source_number self }
+    {
+        self as u8
+    }
+
+    // The source of a number: of every other number nobody's.
+    pub fn of_number(n: u64) -> Source
+        ensures { result ≡ source_of n }
+    {
+        match n {
+            1 => Source::Chip,
+            2 => Source::Outside,
+            3 => Source::Pull,
+            _ => Source::Held,
+        }
+    }
+}
+
+// The MCU side of a pin. Yes and no are numbers here, since a word of the lent state may hold any: 0 is no.
+#[derive(Clone, Copy, Default)]
 pub struct Mcu {
     // 1 = output.
     pub dir: u8,
@@ -40,12 +70,11 @@ pub struct Pin {
     // Resolved.
     pub level: u8,
     pub volts: f64,
-    // Who holds the level: 1 the chip, 2 the outside, 3 a pull, 4 it is only held.
-    pub source: u8,
+    pub source: Source,
 }
 
 // The volts that the supply gives at a level.
-fn supply_at(vcc: f64, level: u8) -> f64
+pub fn supply_at(vcc: f64, level: u8) -> f64
     ensures { result ≡ supply_at vcc level }
 {
     if level != 0 { vcc } else { 0.0 }
@@ -56,38 +85,25 @@ fn clamp(v: f64, vcc: f64) -> f64
     ensures { result ≡ clamped v vcc }
 {
     if v < 0.0 {
-        return 0.0;
+        0.0
+    } else if v > vcc {
+        vcc
+    } else {
+        v
     }
-    if v > vcc {
-        return vcc;
-    }
-    v
 }
 
-// The Schmitt trigger's level: VIH = 0.6 Vcc, VIL = 0.3 Vcc, and the level held between them.
-fn trigger(v: f64, vcc: f64, level: u8) -> u8
-    ensures { result ≡ triggered v vcc level }
+// The level that the Schmitt trigger settles: VIH = 0.6 Vcc, VIL = 0.3 Vcc, and none between them.
+fn settled(v: f64, vcc: f64) -> Option<u8>
+    ensures { result ≡ settled v vcc }
 {
     if v >= 0.6 * vcc {
-        return 1;
+        Some(1)
+    } else if v <= 0.3 * vcc {
+        Some(0)
+    } else {
+        None
     }
-    if v <= 0.3 * vcc {
-        return 0;
-    }
-    level
-}
-
-// The source of the trigger's level: the outside, or between the thresholds none.
-fn settled_by(v: f64, vcc: f64) -> u8
-    ensures { result ≡ settled_by v vcc }
-{
-    if v >= 0.6 * vcc {
-        return 2;
-    }
-    if v <= 0.3 * vcc {
-        return 2;
-    }
-    4
 }
 
 impl Pin {
@@ -95,20 +111,11 @@ impl Pin {
         ensures { result ≡ blank }
     {
         Pin {
-            mcu: Mcu {
-                dir: 0,
-                out: 0,
-                pullup: 0,
-                pulldown: 0,
-                ov_enable: 0,
-                ov_value: 0,
-                ddoe: 0,
-                ddov: 0,
-            },
+            mcu: Mcu::default(),
             ext: ExtDrive::Float,
             level: 0,
             volts: 0.0,
-            source: 4,
+            source: Source::Held,
         }
     }
 
@@ -134,7 +141,7 @@ impl Pin {
         }
     }
 
-    fn at_level(mut self, level: u8, volts: f64, source: u8) -> Pin
+    fn at_level(mut self, level: u8, volts: f64, source: Source) -> Pin
         ensures { result ≡ with_level self level volts source }
     {
         self.level = level;
@@ -144,39 +151,44 @@ impl Pin {
     }
 
     // An input, by what the outside connects to it.
+    #[tactic(auto, unfolding(crate::specs::Pins::sensed_from))]
     fn sensed(self, vcc: f64) -> Pin
         ensures { result ≡ sensed_from self vcc self.ext }
     {
-        let e = self.ext;
-        match e {
-            ExtDrive::Low => self.at_level(0, 0.0, 2),
-            ExtDrive::High => self.at_level(1, vcc, 2),
+        match self.ext {
+            ExtDrive::Low => self.at_level(0, 0.0, Source::Outside),
+            ExtDrive::High => self.at_level(1, vcc, Source::Outside),
             ExtDrive::Analog(x) => {
                 let v = clamp(x, vcc);
-                self.at_level(trigger(v, vcc, self.level), v, settled_by(v, vcc))
+                match settled(v, vcc) {
+                    Some(level) => self.at_level(level, v, Source::Outside),
+                    None => self.at_level(self.level, v, Source::Held),
+                }
             }
             ExtDrive::Float => {
                 if self.mcu.pullup != 0 {
-                    return self.at_level(1, vcc, 3);
+                    self.at_level(1, vcc, Source::Pull)
+                } else if self.mcu.pulldown != 0 {
+                    self.at_level(0, 0.0, Source::Pull)
+                } else {
+                    // Keeps the last level.
+                    self.at_level(self.level, supply_at(vcc, self.level), Source::Held)
                 }
-                if self.mcu.pulldown != 0 {
-                    return self.at_level(0, 0.0, 3);
-                }
-                // Keeps the last level.
-                self.at_level(self.level, supply_at(vcc, self.level), 4)
             }
         }
     }
 
     // The pin with its level, volts and source resolved.
+    #[tactic(auto, unfolding(crate::specs::Pins::resolved))]
     pub fn resolve(self, vcc: f64) -> Pin
         ensures { result ≡ resolved self vcc }
     {
         if self.effective_dir() != 0 {
             let v = self.driven();
-            return self.at_level(v, supply_at(vcc, v), 1);
+            self.at_level(v, supply_at(vcc, v), Source::Chip)
+        } else {
+            self.sensed(vcc)
         }
-        self.sensed(vcc)
     }
 }
 
@@ -211,12 +223,13 @@ impl ClockModel {
         ensures { result ≡ hz_set self hz now }
     {
         if hz == self.hz {
-            return self;
-        }
-        ClockModel {
-            hz,
-            seg_cycle: now,
-            seg_time: self.time_at(now),
+            self
+        } else {
+            ClockModel {
+                hz,
+                seg_cycle: now,
+                seg_time: self.time_at(now),
+            }
         }
     }
 }

@@ -9,21 +9,11 @@ ghost use Rattle.machine.specs.Call as C;
 ghost use Rattle.machine.specs.Step.{step};
 ghost use Rattle.book.specs.Book.{places, Holds, slices};
 ghost use Rattle.answer.specs.Promise.{Answers};
-ghost use Rattle.probe.specs.Probe.{Moved, moves};
+ghost use Rattle.probe.specs.Probe.{Moved};
 
 use answer::Answer;
-use gpio::Change;
-use state::{REALS, WORDS};
-
-// 1 if a pin's level changed.
-fn has_moved(c: Change) -> u8
-    ensures { result ≡ moves c }
-{
-    match c {
-        Change::Same => 0,
-        Change::Level(_, _, _) => 1,
-    }
-}
+use book::LentBook;
+use state::{LentBoard, REALS, WORDS};
 
 // Signal s, of 256, driven to a level.
 #[unsafe(no_mangle)]
@@ -35,8 +25,9 @@ pub extern "C" fn probe_sig_out(
 ) -> u8
     ensures { Moved (sig_out (view words.old reals.old).pads (s % 256) (level % 2)) (view words.old reals.old) (view words.new reals.new) result }
 {
-    let c = sys::sig_out(words, reals, (s % 256) as usize, level % 2);
-    has_moved(c)
+    let mut board = LentBoard { words, reals };
+    let change = sys::sig_out(&mut board, (s % 256) as usize, level % 2);
+    change.is_some() as u8
 }
 
 // Pin i, of 128, refreshed.
@@ -48,8 +39,9 @@ pub extern "C" fn probe_refresh_pin(
 ) -> u8
     ensures { Moved (refresh_pin (view words.old reals.old).pads (i % 128)) (view words.old reals.old) (view words.new reals.new) result }
 {
-    let c = sys::refresh_pin(words, reals, (i % 128) as usize);
-    has_moved(c)
+    let mut board = LentBoard { words, reals };
+    let change = sys::refresh_pin(&mut board, (i % 128) as usize);
+    change.is_some() as u8
 }
 
 // Timer i, of 8, loaded and stored.
@@ -77,5 +69,13 @@ pub extern "C" fn probe_reset_pins(
     ensures answers { Answers (step (view words.old reals.old) (C.reset_pins cycle (places (slices pins.old levels.old cycles.old sources.old)))) result words.old words.new reals.old reals.new }
     ensures holds { Holds (step (view words.old reals.old) (C.reset_pins cycle (places (slices pins.old levels.old cycles.old sources.old)))).entries (slices pins.old levels.old cycles.old sources.old) (slices pins.new levels.new cycles.new sources.new) result.count }
 {
-    pads::reset_pins(words, reals, pins, levels, cycles, sources, cycle)
+    let mut board = LentBoard { words, reals };
+    let mut book = LentBook {
+        pins,
+        levels,
+        cycles,
+        sources,
+        count: 0,
+    };
+    Answer::from(pads::reset_pins(&mut board, &mut book, cycle))
 }

@@ -6,24 +6,18 @@ ghost use Rattle.real.specs.Real.{positive, bits_of, nearest_to};
 
 const NAN_BITS: u64 = 0x7ff8_0000_0000_0000;
 
-// Finite and above 0: `1.0 / 0.0` is infinity.
+// Finite and above 0.
 pub fn is_positive(f: f64) -> bool
     ensures { result ≡ positive f }
 {
-    if f > 0.0 {
-        return f < 1.0 / 0.0;
-    }
-    false
+    f > 0.0 && f < f64::INFINITY
 }
 
 // The float's 64 bits, and one pattern for not-a-number.
 pub fn bits(f: f64) -> u64
     ensures { result ≡ bits_of f }
 {
-    if f != f {
-        return NAN_BITS;
-    }
-    f64::to_bits(f)
+    if f.is_nan() { NAN_BITS } else { f.to_bits() }
 }
 
 // The nearest float, ties to even.

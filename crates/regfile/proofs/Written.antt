@@ -1,4 +1,5 @@
 -- What the stores of a write do to the board, over any board: each step's equation in, the definition's timer out. Assumes nothing.
+use Rattle.std.specs.Option.{is_some}
 use mathlib.Core.Path.{◌≡◌, refl, ap, sym, ◌∙◌}
 use mathlib.Core.Bool.{Bool, true, false}
 use mathlib.Core.List.{List}
@@ -85,11 +86,11 @@ module _ (w : List ℕ) (x : List Float) (i ch v cycle : ℕ) (h : i < 8) (g : c
   preload : (on : Bool) → eqb (mode / 8 % 2) 1 ≡ on → Out.OCxPE (ccmr_byte u ch) ≡ on
   preload on e = ap (λ (n : ℕ). eqb (n / 8 % 2) 1) (sym byte) ∙ e
 
-  pub waits-drive : mode / 8 % 2 ≡ 1 → false ≡ (ccr_written u ch v cycle).drive
+  pub waits-drive : mode / 8 % 2 ≡ 1 → false ≡ is_some (ccr_written u ch v cycle).drive
   unfolding ccr_written
   waits-drive e = rw (preload true (eq-eqb _ _ e))
 
-  pub acts-drive : (mode / 8 % 2 ≡ 1 → ⊥) → true ≡ (ccr_written u ch v cycle).drive
+  pub acts-drive : (mode / 8 % 2 ≡ 1 → ⊥) → true ≡ is_some (ccr_written u ch v cycle).drive
   unfolding ccr_written
   acts-drive e = rw (preload false (ne_eqb _ _ e))
 

@@ -1,7 +1,7 @@
 // The short ways of compares and CR1 in the lent words: the fields that a write changes are stored, and no others.
 #![tactic(auto)]
 
-ghost use Rattle.std.specs.Prelude.{◌≡◌, true, false, List, ℕ, ◌<◌, Float, set};
+ghost use Rattle.std.specs.Prelude.{◌≡◌, true, false, List, ℕ, ◌<◌, Float, set, is_some};
 ghost use Rattle.tim.specs.Count.{synced};
 ghost use Rattle.tim.specs.Timer.{with_cr1};
 ghost use Rattle.tim.specs.Change.{with_done, behind_of};
@@ -40,7 +40,7 @@ fn settle_done(words: &mut [u64; WORDS], i: usize, ch: usize, ccr: u32)
 pub fn write_ccr(words: &mut [u64; WORDS], i: usize, ch: usize, v: u32, cycle: u64) -> bool
     requires { (i < 8) × (ch < 4) × (cycle < 9223372036854775808) }
     ensures x_after { (x : List Float) → view words.new x ≡ with_timer (view words.old x) i (R.ccr_written (timer_at (view words.old x) i) ch v cycle).timer }
-    ensures value { (x : List Float) → result ≡ (R.ccr_written (timer_at (view words.old x) i) ch v cycle).drive }
+    ensures value { (x : List Float) → result ≡ is_some (R.ccr_written (timer_at (view words.old x) i) ch v cycle).drive }
 {
     let t = state::load_timer(words, i);
     let ccr = v & t.max();
@@ -61,10 +61,7 @@ pub fn write_ccr(words: &mut [u64; WORDS], i: usize, ch: usize, v: u32, cycle: u
 fn stays(old: u32, new: u32) -> bool
     ensures { result ≡ same_course old new }
 {
-    if old % 2 == new % 2 {
-        return old / 16 % 2 == new / 16 % 2;
-    }
-    false
+    old % 2 == new % 2 && old / 16 % 2 == new / 16 % 2
 }
 
 // CR1 of a timer that the write neither starts, stops nor turns: CR1 and the reference are stored.

@@ -2,6 +2,7 @@
 use mathlib.Core.Path.{◌≡◌, refl, ◌∙◌, sym, ap}
 use mathlib.Core.Bool.{Bool, true, false, cond, not, ◌&&◌, ◌||◌, false≢true}
 use mathlib.Core.List.{List, [], ◌∷◌, map}
+use Rattle.std.proofs.Common.{None}
 use mathlib.Core.Logic.{◌⊎◌, inl, inr}
 use Prim.Native.Nat.{ℕ, zero, suc, ◌+◌, ◌-◌, ◌*◌, ◌/◌, ◌^◌, ◌≤◌, ◌<◌, min}
 use lib.Dec.{eqb, leb-zero}
@@ -507,19 +508,19 @@ module _ (t : Timer) (v now div : ℕ) where
 
 -- "Writes to CR1, ARR and PSC never drive; nor do those to SR, DIER, CR2 and SMCR"
 pub record NeverDrives (t : Timer) (v now div : ℕ) : Type 0 where
-  pub cr1 : (reg_written t 0x00 v now div).drive ≡ false
-  pub arr : (reg_written t 0x2c v now div).drive ≡ false
-  pub psc : (reg_written t 0x28 v now div).drive ≡ false
-  pub sr : (reg_written t 0x10 v now div).drive ≡ false
-  pub dier : (reg_written t 0x0c v now div).drive ≡ false
-  pub cr2 : (reg_written t 0x04 v now div).drive ≡ false
-  pub smcr : (reg_written t 0x08 v now div).drive ≡ false
+  pub cr1 : (reg_written t 0x00 v now div).drive ≡ None
+  pub arr : (reg_written t 0x2c v now div).drive ≡ None
+  pub psc : (reg_written t 0x28 v now div).drive ≡ None
+  pub sr : (reg_written t 0x10 v now div).drive ≡ None
+  pub dier : (reg_written t 0x0c v now div).drive ≡ None
+  pub cr2 : (reg_written t 0x04 v now div).drive ≡ None
+  pub smcr : (reg_written t 0x08 v now div).drive ≡ None
 
 pub never-drives : (t : Timer) (v now div : ℕ) → NeverDrives t v now div
 unfolding reg_written arr_written
 never-drives t v now div = record {
   cr1 = refl;
-  arr = either (λ (w : Written). w.drive ≡ false) (ARPE t.regs.cr1) refl refl;
+  arr = either (λ (w : Written). w.drive ≡ None) (ARPE t.regs.cr1) refl refl;
   psc = refl;
   sr = refl;
   dier = refl;

@@ -1,5 +1,5 @@
 -- Reading and writing registers (document 01, "Register and lane"; the Rust's read_reg and write_reg).
-use Rattle.std.specs.Prelude.{Bool, true, false, cond, not, ◌&&◌, ℕ, ◌+◌, ◌-◌, ◌/◌, ltb, eqb, get_or, set}
+use Rattle.std.specs.Prelude.{Bool, true, false, cond, not, ◌&&◌, ℕ, ◌+◌, ◌-◌, ◌/◌, ltb, eqb, get_or, set, Some, None}
 use Rattle.std.specs.Int.Bits.{bit_and, bit_or}
 use Rattle.rm0440.specs.Bits.{field, is_set, CEN, ARPE}
 use Rattle.rm0440.specs.Output as Out
@@ -63,25 +63,25 @@ with_ccr_act t ch v = with_chan t (record { ccmr = t.chan.ccmr; ccr = t.chan.ccr
 
 -- nothing follows
 abbrev pub only : Timer → Written
-only t = record { timer = t; drive = false; cnt = 0; line = false; book = false }
+only t = record { timer = t; drive = None; line = false; book = false }
 
 -- the interrupt line is settled (docs/DIFFERENCES.md, shared-interrupt)
 abbrev pub lined : Timer → Written
-lined t = record { timer = t; drive = false; cnt = 0; line = true; book = false }
+lined t = record { timer = t; drive = None; line = true; book = false }
 
 -- the next event is booked
 abbrev pub booked : Timer → Written
-booked t = record { timer = t; drive = false; cnt = 0; line = false; book = true }
+booked t = record { timer = t; drive = None; line = false; book = true }
 
 -- the outputs are driven at a count, and the next event is booked or not
 abbrev pub driven : Timer → ℕ → Bool → Written
-driven t c book = record { timer = t; drive = true; cnt = c; line = false; book = book }
+driven t c book = record { timer = t; drive = Some c; line = false; book = book }
 
 abbrev pub counted : Timer → Written
 counted t = driven t t.count.cnt0 true
 
 abbrev pub generated : Timer → ℕ → Written
-generated t now = record { timer = t; drive = true; cnt = cnt_at t now; line = true; book = true }
+generated t now = record { timer = t; drive = Some (cnt_at t now); line = true; book = true }
 
 -- the direction changed: which compares are done is settled again; nothing is driven (docs/DIFFERENCES.md, direction-late)
 unfoldable pub turned : ℕ → Timer → Timer

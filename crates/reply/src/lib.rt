@@ -1,241 +1,296 @@
 // An answer as text, by way of a buffer that is written out when it is nearly full.
 #![tactic(auto)]
 
+ghost use Rattle.std.specs.Prelude.{◌≡◌, ◌+◌, ◌<◌, ◌≤◌, ◌++◌, ◌∷◌, [], take, IsErr, OnOk};
+ghost use Rattle.text.specs.Digits.{places_of, digits_of};
+
+use std::io;
 use std::io::{ErrorKind, Print};
-use text::Written;
+use text::Reason;
 
 pub const OUT: usize = 65536;
-
-// How far the buffer is filled once a write has failed: no piece fits any more, so the answers end there.
-const LOST: usize = 65537;
-
-// The same where nobody reads them any more.
-const UNREAD: usize = 65538;
 
 // More than any piece that is put into the buffer at once.
 const PIECE: usize = 64;
 
-// Writes out what is in the buffer: how far it is filled then.
-pub fn send(rt: &impl Print, out: &[u8], n: usize) -> usize {
-    if n <= out.len() {
-        return match rt.write_all(&out[..n]) {
-            Ok(()) => 0,
-            Err(e) => lost(e.kind()),
-        };
-    }
-    n
+const HEX_DIGITS: [u8; 16] = *b"0123456789abcdef";
+
+// Why a write failed: the answers end there. Unread: nobody reads them any more.
+#[derive(Clone, Copy, Debug, PartialEq, Eq, Drop)]
+pub enum Failure {
+    Lost,
+    Unread,
 }
 
-fn lost(kind: ErrorKind) -> usize {
-    if kind == ErrorKind::BrokenPipe {
-        return UNREAD;
-    }
-    LOST
-}
-
-// Writes out what is in the buffer. Whether everything is written.
-pub fn flush(rt: &impl Print, out: &[u8], n: usize) -> bool {
-    send(rt, out, n) == 0
-}
-
-// Whether a write has found that nobody reads any more.
-pub fn is_unread(n: usize) -> bool {
-    n == UNREAD
-}
-
-// Whether no write has failed.
-pub fn whole(n: usize) -> bool {
-    n <= OUT
-}
-
-// Makes room for a piece.
-fn room(rt: &impl Print, out: &[u8; OUT], n: usize) -> usize {
-    if n <= OUT - PIECE {
-        return n;
-    }
-    send(rt, out, n)
-}
-
-// One byte, and a number, at place n: the place behind.
-pub fn put(out: &mut [u8; OUT], n: usize, b: u8) -> usize {
-    if n < OUT {
-        out[n] = b;
-        return n + 1;
-    }
-    n
-}
-
-pub fn number(out: &mut [u8; OUT], n: usize, x: u64) -> usize {
-    let w = text::write_number(x, out, n);
-    match w {
-        Written::To(m) => m,
-        Written::NoRoom => n,
+impl From<io::Error> for Failure {
+    fn from(error: io::Error) -> Failure {
+        if error.kind() == ErrorKind::BrokenPipe {
+            Failure::Unread
+        } else {
+            Failure::Lost
+        }
     }
 }
 
-// ` PIN:LEVEL@CYCLE/SOURCE`
-fn entry(
-    rt: &impl Print,
-    out: &mut [u8; OUT],
-    n: usize,
+// The reason that has a number.
+fn numbered(reason: u8) -> Reason {
+    match reason {
+        2 => Reason::UnknownWord,
+        3 => Reason::MissingNumber,
+        4 => Reason::SurplusNumber,
+        5 => Reason::NotANumber,
+        _ => Reason::TooLarge,
+    }
+}
+
+// Entries of a book: each has the same place in all four arrays, since C lends a book so.
+#[derive(Clone, Copy)]
+pub struct Book<'a> {
+    pub pins: &'a [u8],
+    pub levels: &'a [u8],
+    pub cycles: &'a [u64],
+    pub sources: &'a [u8],
+}
+
+#[derive(Clone, Copy)]
+struct Entry {
     pin: u8,
     level: u8,
     cycle: u64,
     source: u8,
-) -> usize {
-    let a = room(rt, out, n);
-    let b = put(out, a, b' ');
-    let c = number(out, b, pin as u64);
-    let d = put(out, c, b':');
-    let e = number(out, d, level as u64);
-    let f = put(out, e, b'@');
-    let g = number(out, f, cycle);
-    let h = put(out, g, b'/');
-    number(out, h, source as u64)
 }
 
-// `NUMBER VALUE COUNT`
-fn head(rt: &impl Print, out: &mut [u8; OUT], n: usize, answer: &[u64; 3]) -> usize {
-    let a = room(rt, out, n);
-    let b = number(out, a, answer[0]);
-    let c = put(out, b, b' ');
-    let d = number(out, c, answer[1]);
-    let e = put(out, d, b' ');
-    number(out, e, answer[2])
-}
-
-// The entry at a place of the book.
-fn entry_at(
-    rt: &impl Print,
-    out: &mut [u8; OUT],
-    n: usize,
-    pins: &[u8],
-    levels: &[u8],
-    cycles: &[u64],
-    sources: &[u8],
-    i: usize,
-) -> usize {
-    if pins.len() <= i {
-        return n;
+impl Book<'_> {
+    // The entry at a place, if the book has that place.
+    fn entry(&self, i: usize) -> Option<Entry> {
+        Some(Entry {
+            pin: *self.pins.get(i)?,
+            level: *self.levels.get(i)?,
+            cycle: *self.cycles.get(i)?,
+            source: *self.sources.get(i)?,
+        })
     }
-    if levels.len() <= i {
-        return n;
+}
+
+// The answers on their way to the standard output. Once a write has failed each further one fails like it, so they end there. An array with its
+// length is no plainer as an `ArrayVec`: `write_number` lays a number's digits where they stay, and there they would be copied once more.
+#[derive(Drop)]
+pub struct Output<'a, R: Print> {
+    rt: &'a R,
+    buffer: [u8; OUT],
+    used: usize,
+    written: Result<(), Failure>,
+    ghost within: { used ≤ 65536 },
+}
+
+impl<'a, R: Print> Output<'a, R> {
+    pub fn new(rt: &'a R) -> Output<'a, R>
+        ensures { result.used ≡ 0 }
+    {
+        Output {
+            rt,
+            buffer: [0; OUT],
+            used: 0,
+            written: Ok(()),
+        }
     }
-    if cycles.len() <= i {
-        return n;
+
+    // Writes out what is in the buffer.
+    pub fn flush(&mut self) -> Result<(), Failure>
+        ensures told { result ≡ self.new.written }
+        ensures stays { IsErr self.old.written → self.new.written ≡ self.old.written }
+        ensures empty { OnOk result (self.new.used ≡ 0) }
+    {
+        self.written?;
+        let used = self.used;
+        self.used = 0;
+        self.written = self
+            .rt
+            .write_all(&self.buffer[..used])
+            .map_err(Failure::from);
+        self.written
     }
-    if sources.len() <= i {
-        return n;
+
+    // Makes room for a piece.
+    fn room(&mut self) -> Result<(), Failure>
+        ensures told { result ≡ self.new.written }
+        ensures stays { IsErr self.old.written → self.new.written ≡ self.old.written }
+    {
+        if self.used <= OUT - PIECE {
+            return self.written;
+        }
+        self.flush()
     }
-    entry(rt, out, n, pins[i], levels[i], cycles[i], sources[i])
-}
 
-// An answer's line.
-pub fn answer(
-    rt: &impl Print,
-    out: &mut [u8; OUT],
-    n: usize,
-    answer: &[u64; 3],
-    pins: &[u8],
-    levels: &[u8],
-    cycles: &[u64],
-    sources: &[u8],
-    entries: usize,
-) -> usize {
-    let mut at = head(rt, out, n, answer);
-    let mut i = 0;
-    while i < entries {
-        at = entry_at(rt, out, at, pins, levels, cycles, sources, i);
-        i += 1;
+    // One byte, if there is room for it.
+    pub fn put(&mut self, b: u8)
+        ensures room { self.old.used < 65536 → take self.new.used self.new.buffer ≡ take self.old.used self.old.buffer ++ b ∷ [] }
+        ensures full { 65536 ≤ self.old.used → self.new.used ≡ self.old.used }
+        ensures written { self.new.written ≡ self.old.written }
+    {
+        if self.used < OUT {
+            self.buffer[self.used] = b;
+            self.used += 1;
+        }
     }
-    let last = room(rt, out, at);
-    put(out, last, b'\n')
-}
 
-// The line of an answer that is its three numbers.
-pub fn plain(rt: &impl Print, out: &mut [u8; OUT], n: usize, answer: &[u64; 3]) -> usize {
-    let at = head(rt, out, n, answer);
-    let last = room(rt, out, at);
-    put(out, last, b'\n')
-}
-
-// ` NUMBER`
-fn another(rt: &impl Print, out: &mut [u8; OUT], n: usize, x: u64) -> usize {
-    let a = room(rt, out, n);
-    let b = put(out, a, b' ');
-    number(out, b, x)
-}
-
-// The line of an answer that has numbers behind its three and no entries.
-pub fn numbers(
-    rt: &impl Print,
-    out: &mut [u8; OUT],
-    n: usize,
-    answer: &[u64; 3],
-    more: &[u64],
-) -> usize {
-    let mut at = head(rt, out, n, answer);
-    let mut i = 0;
-    while i < more.len() {
-        at = another(rt, out, at, more[i]);
-        i += 1;
+    // A number, if there is room for all its digits.
+    pub fn number(&mut self, x: u64)
+        ensures room { self.old.used + places_of x ≤ 65536 → take self.new.used self.new.buffer ≡ take self.old.used self.old.buffer ++ digits_of x }
+        ensures full { 65536 < self.old.used + places_of x → self.new.used ≡ self.old.used }
+        ensures written { self.new.written ≡ self.old.written }
+    {
+        let at = self.used;
+        if let Some(end) = text::write_number(x, &mut self.buffer, at) {
+            self.used = end;
+        }
     }
-    let last = room(rt, out, at);
-    put(out, last, b'\n')
-}
 
-// The small hexadecimal digit of a number below 16.
-fn hex_digit(d: u8) -> u8 {
-    let e = d % 16;
-    if e < 10 { 48 + e } else { 87 + e }
-}
-
-fn hex(rt: &impl Print, out: &mut [u8; OUT], n: usize, b: u8) -> usize {
-    let a = room(rt, out, n);
-    let c = put(out, a, hex_digit(b / 16));
-    put(out, c, hex_digit(b))
-}
-
-// The line of an answer whose count is that of the bytes behind its three numbers.
-pub fn bytes(
-    rt: &impl Print,
-    out: &mut [u8; OUT],
-    n: usize,
-    answer: &[u64; 3],
-    bytes: &[u8],
-) -> usize {
-    let a = head(rt, out, n, answer);
-    let mut at = put(out, a, b' ');
-    let mut i = 0;
-    while i < bytes.len() {
-        at = hex(rt, out, at, bytes[i]);
-        i += 1;
+    // A text of few bytes.
+    fn words(&mut self, words: &str) -> Result<(), Failure>
+        ensures told { result ≡ self.new.written }
+        ensures stays { IsErr self.old.written → self.new.written ≡ self.old.written }
+    {
+        self.room()?;
+        for b in words.as_bytes() {
+            self.put(*b);
+        }
+        Ok(())
     }
-    let last = room(rt, out, at);
-    put(out, last, b'\n')
-}
 
-// A text of few bytes.
-fn words(rt: &impl Print, out: &mut [u8; OUT], n: usize, s: &[u8]) -> usize {
-    let mut at = room(rt, out, n);
-    let mut i = 0;
-    while i < s.len() {
-        at = put(out, at, s[i]);
-        i += 1;
+    // ` PIN:LEVEL@CYCLE/SOURCE`
+    fn entry(&mut self, entry: Entry) -> Result<(), Failure>
+        ensures told { result ≡ self.new.written }
+        ensures stays { IsErr self.old.written → self.new.written ≡ self.old.written }
+    {
+        self.room()?;
+        self.put(b' ');
+        self.number(u64::from(entry.pin));
+        self.put(b':');
+        self.number(u64::from(entry.level));
+        self.put(b'@');
+        self.number(entry.cycle);
+        self.put(b'/');
+        self.number(u64::from(entry.source));
+        Ok(())
     }
-    at
-}
 
-// `line N: ` and the reason.
-pub fn malformed(rt: &impl Print, out: &mut [u8; OUT], n: usize, line: u64, reason: u8) -> usize {
-    let a = words(rt, out, n, b"line ");
-    let b = number(out, a, line);
-    let c = words(rt, out, b, b": ");
-    match reason {
-        2 => words(rt, out, c, b"unknown word\n"),
-        3 => words(rt, out, c, b"missing number\n"),
-        4 => words(rt, out, c, b"surplus number\n"),
-        5 => words(rt, out, c, b"not a number\n"),
-        _ => words(rt, out, c, b"number too large\n"),
+    // ` NUMBER`
+    fn another(&mut self, x: u64) -> Result<(), Failure>
+        ensures told { result ≡ self.new.written }
+        ensures stays { IsErr self.old.written → self.new.written ≡ self.old.written }
+    {
+        self.room()?;
+        self.put(b' ');
+        self.number(x);
+        Ok(())
+    }
+
+    fn hex(&mut self, b: u8) -> Result<(), Failure>
+        ensures told { result ≡ self.new.written }
+        ensures stays { IsErr self.old.written → self.new.written ≡ self.old.written }
+    {
+        self.room()?;
+        self.put(HEX_DIGITS[usize::from(b / 16)]);
+        self.put(HEX_DIGITS[usize::from(b % 16)]);
+        Ok(())
+    }
+
+    // `NUMBER VALUE COUNT`
+    fn head(&mut self, answer: &[u64; 3]) -> Result<(), Failure>
+        ensures told { result ≡ self.new.written }
+        ensures stays { IsErr self.old.written → self.new.written ≡ self.old.written }
+    {
+        let [number, value, count] = *answer;
+        self.room()?;
+        self.number(number);
+        self.put(b' ');
+        self.number(value);
+        self.put(b' ');
+        self.number(count);
+        Ok(())
+    }
+
+    fn line_end(&mut self) -> Result<(), Failure>
+        ensures told { result ≡ self.new.written }
+        ensures stays { IsErr self.old.written → self.new.written ≡ self.old.written }
+    {
+        self.room()?;
+        self.put(b'\n');
+        Ok(())
+    }
+
+    // An answer's line.
+    pub fn answer(
+        &mut self,
+        answer: &[u64; 3],
+        book: Book<'_>,
+        entries: usize,
+    ) -> Result<(), Failure>
+        ensures told { result ≡ self.new.written }
+        ensures stays { IsErr self.old.written → self.new.written ≡ self.old.written }
+    {
+        self.head(answer)?;
+        for i in 0..entries {
+            match book.entry(i) {
+                Some(entry) => self.entry(entry)?,
+                None => break,
+            }
+        }
+        self.line_end()
+    }
+
+    // The line of an answer that is its three numbers.
+    pub fn plain(&mut self, answer: &[u64; 3]) -> Result<(), Failure>
+        ensures told { result ≡ self.new.written }
+        ensures stays { IsErr self.old.written → self.new.written ≡ self.old.written }
+    {
+        self.head(answer)?;
+        self.line_end()
+    }
+
+    // The line of an answer that has numbers behind its three and no entries.
+    pub fn numbers(&mut self, answer: &[u64; 3], more: &[u64]) -> Result<(), Failure>
+        ensures told { result ≡ self.new.written }
+        ensures stays { IsErr self.old.written → self.new.written ≡ self.old.written }
+    {
+        self.head(answer)?;
+        for x in more {
+            self.another(*x)?;
+        }
+        self.line_end()
+    }
+
+    // The line of an answer whose count is that of the bytes behind its three numbers.
+    pub fn bytes(&mut self, answer: &[u64; 3], bytes: &[u8]) -> Result<(), Failure>
+        ensures told { result ≡ self.new.written }
+        ensures stays { IsErr self.old.written → self.new.written ≡ self.old.written }
+    {
+        self.head(answer)?;
+        self.put(b' ');
+        for b in bytes {
+            self.hex(*b)?;
+        }
+        self.line_end()
+    }
+
+    // `line N: ` and the reason.
+    pub fn malformed(&mut self, line: u64, reason: Reason) -> Result<(), Failure>
+        ensures told { result ≡ self.new.written }
+        ensures stays { IsErr self.old.written → self.new.written ≡ self.old.written }
+    {
+        self.words("line ")?;
+        self.number(line);
+        self.words(": ")?;
+        self.words(reason.words())?;
+        self.line_end()
+    }
+
+    // The same by the reason's number; one that no reason has tells a number that is too large.
+    pub fn malformed_numbered(&mut self, line: u64, reason: u8) -> Result<(), Failure>
+        ensures told { result ≡ self.new.written }
+        ensures stays { IsErr self.old.written → self.new.written ≡ self.old.written }
+    {
+        self.malformed(line, numbered(reason))
     }
 }

@@ -1,38 +1,27 @@
 -- Laws of booked events.
-use mathlib.Core.Path.{◌≡◌, refl, sym, ◌∙◌}
+use mathlib.Core.Path.{◌≡◌, refl}
 use mathlib.Core.Logic.{◌⊎◌, inl, inr, ◌≢◌}
 use mathlib.Core.Bool.{Bool, true, false}
-use mathlib.Core.List.{List, [], ◌∷◌, map}
-use Prim.Native.Nat.{ℕ, zero, suc, min, ◌-◌, ◌≤◌, ◌<◌}
+use mathlib.Core.List.{List, [], ◌∷◌}
+use Prim.Native.Nat.{ℕ, zero, suc, min, ◌+◌, ◌≤◌, ◌<◌}
 use native.Mathlib.Omega.{arith}
 use lib.Dec.{leb}
-use lib.ListN.{length, get_or, drop, length-map, drop_of_length-le}
+use lib.ListN.{length, get_or, drop}
+use Rattle.std.proofs.Common.{add-one}
 use lib.Seq.{drop-cons, get_or-set_same, get_or-set_other}
 use borrow.Author.Tests.{leb-true, leb-false}
 use Rattle.scheduler.specs.Booking.{never, cycle_of, rebook, least}
 
--- inside a list its default does not matter
-pub read_at : (m : List ℕ) (i d e : ℕ) → i < length m → get_or m i d ≡ get_or m i e
-read_at [] i d e h = omega arith
-read_at (c ∷ m) zero d e h = refl
-read_at (c ∷ m) (suc i) d e h = read_at m i d e (omega arith)
-
--- eight owners: what the struct's array tells
-pub sized : (m : List ℕ) → length (map (λ (c : ℕ). c) m) ≡ 8 → length m ≡ 8
-sized m e = sym (length-map m (λ (c : ℕ). c)) ∙ e
-
--- from owner 8 on there is none
-pub least-end : (m : List ℕ) → length m ≡ 8 → least (drop 8 m) ≡ never
+-- no cycle is above that of none
+pub least-most : (m : List ℕ) → least m ≤ never
 unfolding least
-least-end m e = rw (drop_of_length-le m {i = 8} (omega arith))
+least-most [] = omega arith
+least-most (c ∷ m) = omega (arith, least-most m)
 
--- the least from owner i - 1 on, from the least from owner i on
-pub least-from : (m : List ℕ) (i : ℕ) → 0 < i → i ≤ length m → least (drop (i - 1) m) ≡ min (get_or m (i - 1) 0) (least (drop i m))
+-- one owner more: the least so far, and the least of those that are left
+pub least-more : (m : List ℕ) (i low : ℕ) → i < length m → min (min low (get_or m i 0)) (least (drop (i + 1) m)) ≡ min low (least (drop i m))
 unfolding least
-least-from m zero l h = omega arith
-least-from m (suc i) l h =
-    let e : suc i - 1 ≡ i = omega arith in
-    rw (e, drop-cons m i 0)
+least-more m i low h = rw (drop-cons m i 0, add-one) (omega arith)
 
 -- the least cycle is at most each owner's
 pub least-le : (m : List ℕ) (owner : ℕ) → owner < length m → least m ≤ cycle_of m owner

@@ -1,13 +1,11 @@
 -- Numbers and lists: bytes put together again, the first places of a list written out.
 use mathlib.Core.Path.{◌≡◌, refl, ap}
 use mathlib.Core.Bool.{Bool, true, false, ◌&&◌, ◌||◌}
-use mathlib.Core.List.{List, [], ◌∷◌, ◌++◌}
+use mathlib.Core.List.{List, [], ◌∷◌}
 use Prim.Native.Nat.{ℕ, zero, suc, ◌+◌, ◌*◌, ◌/◌, ◌%◌, ◌<◌, ◌≤◌}
-use native.Mathlib.Nat.{zero-add}
-use native.Mathlib.Numerals.{add-one}
 use native.Mathlib.Omega.{arith}
-use lib.ListN.{length, get_or, take, drop, set}
-use lib.Seq.{paste-suc, drop-cons}
+use lib.ListN.{length, get_or, take, drop}
+use lib.Seq.{drop-cons}
 use Rattle.settings.specs.Record.{four}
 
 -- ---- bools
@@ -44,18 +42,6 @@ pub take_places : (n i : ℕ) (s : List ℕ) → i + n ≤ length s → take n (
 unfolding places
 take_places zero i s h = refl
 take_places (suc n) i s h = rw (drop-cons s i 0 (omega arith)) (ap (λ (r : List ℕ). get_or s i 0 ∷ r) (take_places n (suc i) s (omega arith)))
-
--- a byte copied, in the loop
-pub copy_step : (out out₀ bytes : List ℕ) (i : ℕ) → i < length out₀ → i < length bytes → out ≡ take i bytes ++ drop i out₀
-    → set out i (get_or bytes i 0) ≡ take (i + 1) bytes ++ drop (i + 1) out₀
-copy_step out out₀ bytes i h k e = rw (e, add-one i) (go (0 + i) (zero-add i) (paste-suc out₀ 0 bytes i 0 (omega arith) k))
-  where
-    go : (j : ℕ) → j ≡ i → set (take i bytes ++ drop j out₀) j (get_or bytes i 0) ≡ take (suc i) bytes ++ drop (0 + suc i) out₀
-        → set (take i bytes ++ drop i out₀) i (get_or bytes i 0) ≡ take (suc i) bytes ++ drop (suc i) out₀
-    go j z q = rw (z, zero-add (suc i)) at q
-
-pub copy_done : (out out₀ bytes : List ℕ) (i count : ℕ) → i ≤ count → count ≤ i → out ≡ take i bytes ++ drop i out₀ → out ≡ take count bytes ++ drop count out₀
-copy_done out out₀ bytes i count h k e = let z : i ≡ count = omega arith in rw z at e
 
 -- ---- four bytes, little-endian
 

@@ -1,2 +1,3 @@
 pub mod Record
 pub mod Kept
+pub mod Refused

@@ -1,12 +1,13 @@
 // A timer's settings as a record of bytes (document 02, F-10): a writer into lent places, a reader, and a reader of kind 1 alone.
 #![tactic(auto)]
 
-ghost use Rattle.std.specs.Prelude.{◌≡◌, cond, [], ◌∷◌, ◌++◌, ◌-◌, ◌%◌, ◌≤◌, ◌<◌, eqb, length, take, drop};
-ghost use Rattle.settings.specs.Record.{four, byte_at, two_at, four_at, kind_of, decode, cut_short, strange_kind, wrong_length, wrong_added, wrong_settings, good, read_number, settings_of, turned_away, read, given, Writes};
+ghost use Rattle.std.specs.Prelude.{◌≡◌, ◌&&◌, cond, ◌≤◌, ◌<◌, eqb, leb, length, take, MatchResult};
+ghost use Rattle.settings.specs.Record.{byte_at, two_at, four_at, kind_of, encode, decode, cut_short, strange_kind, wrong_length, wrong_added, wrong_settings, good, read_number, settings_of, turned_away, read, given, Writes};
+ghost use Rattle.settings.specs.Refused.{number_of, inst_of};
 
 // A timer's settings as set-up takes them: the bus counts from 1, manual is 1 or 0.
 #[repr(C)]
-#[derive(Clone, Copy)]
+#[derive(Clone, Copy, Default)]
 pub struct Settings {
     pub number: u32,
     pub width: u32,
@@ -20,7 +21,7 @@ pub struct Settings {
 
 // A writer's answer: the number, and how many bytes were written.
 #[repr(C)]
-#[derive(Clone, Copy)]
+#[derive(Clone, Copy, Default)]
 pub struct Stored {
     pub number: u32,
     pub count: u32,
@@ -28,46 +29,61 @@ pub struct Stored {
 
 // A reader's answer: the number, how many bytes the record took, and the timer.
 #[repr(C)]
-#[derive(Clone, Copy)]
+#[derive(Clone, Copy, Default)]
 pub struct Read {
     pub number: u32,
     pub count: u32,
     pub timer: Settings,
 }
 
-// What a record can hold.
-fn is_good(number: u64, width: u64, channels: u64, bus: u64, word: u64, bit: u64, irq: u64) -> bool
-    ensures { result ≡ good (given number width channels bus word bit irq 0) }
-{
-    (number >= 1)
-        & (number <= 24)
-        & ((width == 16) | (width == 32))
-        & (channels <= 4)
-        & (word <= 8)
-        & (bit <= 31)
-        & ((bus >= 1) & (bus <= 4))
-        & (irq <= 4294967295)
+// Why no record is written or read.
+#[derive(Clone, Copy)]
+enum Refusal {
+    BadSettings,
+    CutShort,
+    StrangeKind,
+    WrongLength,
 }
 
-// ---- write
-
-// Kind 2 for a manual timer.
-fn kind_for(manual: u64) -> u8
-    ensures { (result ≡ cond (eqb manual 0) 1 2) × (result ≤ 2) }
-{
-    if manual == 0 { 1 } else { 2 }
+impl Refusal {
+    // The number that C is given.
+    fn number(self) -> u32
+        ensures { result ≡ number_of self }
+    {
+        match self {
+            Refusal::BadSettings => 1,
+            Refusal::CutShort => 13,
+            Refusal::StrangeKind => 14,
+            Refusal::WrongLength => 15,
+        }
+    }
 }
 
-fn from_0(bus: u64) -> u64
-    ensures { result ≡ bus - 1 }
-{
-    if bus < 1 { 0 } else { bus - 1 }
+impl From<Refusal> for Stored {
+    ghost from_gives = { λ refusal stored. stored ≡ record { number = number_of refusal; count = 0 } };
+
+    fn from(refusal: Refusal) -> Self {
+        Self {
+            number: refusal.number(),
+            count: 0,
+        }
+    }
 }
 
-// The bytes of a record; the last one is kind 2's alone.
-fn bytes_of(
-    length: u8,
-    kind: u8,
+impl From<Refusal> for Read {
+    ghost from_gives = { λ refusal read. read ≡ turned_away (number_of refusal) };
+
+    fn from(refusal: Refusal) -> Self {
+        Self {
+            number: refusal.number(),
+            ..Self::default()
+        }
+    }
+}
+
+// Settings that may be too large for a record; any mode but 0 is manual.
+#[derive(Clone, Copy)]
+struct Given {
     number: u64,
     width: u64,
     channels: u64,
@@ -75,37 +91,101 @@ fn bytes_of(
     word: u64,
     bit: u64,
     irq: u64,
-) -> [u8; 15]
-    ensures { result ≡ length ∷ 0 ∷ kind ∷ 0 ∷ (number % 256) ∷ (width % 256) ∷ (channels % 256) ∷ (bus % 256) ∷ (word % 256) ∷ (bit % 256) ∷ (four irq ++ (1 ∷ [])) }
-{
-    [
-        length,
-        0,
-        kind,
-        0,
-        (number % 256) as u8,
-        (width % 256) as u8,
-        (channels % 256) as u8,
-        (bus % 256) as u8,
-        (word % 256) as u8,
-        (bit % 256) as u8,
-        (irq % 256) as u8,
-        (irq / 256 % 256) as u8,
-        (irq / 256 / 256 % 256) as u8,
-        (irq / 256 / 256 / 256 % 256) as u8,
-        1,
-    ]
+    manual: u64,
 }
 
-// Copies the first bytes to the front of the places.
-fn copy(out: &mut [u8], bytes: &[u8], count: usize)
-    requires { (count ≤ length out.old) × (count ≤ length bytes.now) }
-    ensures { out.new ≡ take count bytes.now ++ drop count out.old }
+impl From<Settings> for Given {
+    ghost from_gives = { λ s g. inst_of g ≡ given s.number s.width s.channels s.bus s.word s.bit s.irq s.manual };
+
+    fn from(settings: Settings) -> Self {
+        Self {
+            number: u64::from(settings.number),
+            width: u64::from(settings.width),
+            channels: u64::from(settings.channels),
+            bus: u64::from(settings.bus),
+            word: u64::from(settings.word),
+            bit: u64::from(settings.bit),
+            irq: u64::from(settings.irq),
+            manual: u64::from(settings.manual),
+        }
+    }
+}
+
+// From 1 to the most.
+fn within(most: u64, x: u64) -> bool
+    ensures { result ≡ leb 1 x && leb x most }
 {
-    let mut i = 0;
-    while i < count {
-        out[i] = bytes[i];
-        i += 1;
+    (1..=most).contains(&x)
+}
+
+impl Given {
+    // What a record can hold.
+    fn is_good(self) -> bool
+        ensures { result ≡ good (inst_of self) }
+    {
+        within(24, self.number)
+            & ((self.width == 16) | (self.width == 32))
+            & (self.channels <= 4)
+            & (self.word <= 8)
+            & (self.bit <= 31)
+            & within(4, self.bus)
+            & (self.irq <= 0xffff_ffff)
+    }
+
+    // Kind 2 for a manual timer.
+    fn kind(self) -> u8
+        ensures { (result ≡ cond (eqb self.manual 0) 1 2) × (result ≤ 2) }
+    {
+        if self.manual == 0 { 1 } else { 2 }
+    }
+
+    // How many bytes its record has: kind 2 has one more.
+    fn len(self) -> u32
+        ensures { (result ≡ length (encode (inst_of self))) × (result ≤ 15) }
+    {
+        13 + u32::from(self.kind())
+    }
+
+    // The bytes of a record; the last one is kind 2's alone.
+    fn bytes(self) -> [u8; 15]
+        ensures { take (length (encode (inst_of self))) result ≡ encode (inst_of self) }
+    {
+        let kind = self.kind();
+        let [irq_0, irq_1, irq_2, irq_3, ..] = self.irq.to_le_bytes();
+        [
+            11 + kind,
+            0,
+            kind,
+            0,
+            (self.number % 256) as u8,
+            (self.width % 256) as u8,
+            (self.channels % 256) as u8,
+            (self.bus.saturating_sub(1) % 256) as u8,
+            (self.word % 256) as u8,
+            (self.bit % 256) as u8,
+            irq_0,
+            irq_1,
+            irq_2,
+            irq_3,
+            1,
+        ]
+    }
+
+    // Writes the record to the front of the places; how many bytes it has.
+    fn write(self, out: &mut [u8]) -> Result<u32, Refusal>
+        ensures { MatchResult result (λ count. Writes (inst_of self) out.old out.new (record { number = 0; count = count })) (λ refusal. Writes (inst_of self) out.old out.new (record { number = number_of refusal; count = 0 })) }
+    {
+        let count = self.len();
+        let places = count as usize;
+        if out.len() < places {
+            return Err(Refusal::CutShort);
+        }
+        if !self.is_good() {
+            return Err(Refusal::BadSettings);
+        }
+        let bytes = self.bytes();
+        out[..places].copy_from_slice(&bytes[..places]);
+        Ok(count)
     }
 }
 
@@ -124,96 +204,78 @@ pub extern "C" fn record_write(
 ) -> Stored
     ensures { Writes (given number width channels bus word bit irq manual) out.old out.new result }
 {
-    let kind = kind_for(manual);
-    let count = 13 + kind as usize;
-    if out.len() < count {
-        return Stored {
-            number: 13,
-            count: 0,
-        };
-    }
-    if !is_good(number, width, channels, bus, word, bit, irq) {
-        return Stored {
-            number: 1,
-            count: 0,
-        };
-    }
-    let bytes = bytes_of(
-        11 + kind,
-        kind,
+    let given = Given {
         number,
         width,
         channels,
-        from_0(bus),
+        bus,
         word,
         bit,
         irq,
-    );
-    copy(out, &bytes, count);
-    Stored {
-        number: 0,
-        count: 13 + kind as u32,
+        manual,
+    };
+    match given.write(out) {
+        Ok(count) => Stored { number: 0, count },
+        Err(refusal) => Stored::from(refusal),
     }
 }
 
 // ---- read
 
-fn wide(b: u8) -> u32
-    ensures { (result ≡ b) × (result < 256) }
-{
-    b as u32
-}
-
 // A byte; 0 for one that is not there.
-fn byte_at(bytes: &[u8], at: usize) -> u32
-    ensures { (result ≡ byte_at bytes.now at) × (result < 256) }
+fn byte_at(bytes: &[u8], at: usize) -> u8
+    ensures { result ≡ byte_at bytes.now at }
 {
-    if at < bytes.len() {
-        return wide(bytes[at]);
-    }
-    0
+    bytes.get(at).copied().unwrap_or(0)
 }
 
-fn two_at(bytes: &[u8], at: usize) -> u32
+fn two_at(bytes: &[u8], at: usize) -> u16
     requires { at < 16 }
-    ensures { (result ≡ two_at bytes.now at) × (result < 65536) }
+    ensures { result ≡ two_at bytes.now at }
 {
-    let low = byte_at(bytes, at);
-    let high = byte_at(bytes, at + 1);
-    low + 256 * high
+    u16::from_le_bytes([byte_at(bytes, at), byte_at(bytes, at + 1)])
 }
 
 fn four_at(bytes: &[u8], at: usize) -> u32
     requires { at < 12 }
     ensures { result ≡ four_at bytes.now at }
 {
-    let low = two_at(bytes, at);
-    let high = two_at(bytes, at + 2);
-    low + 65536 * high
+    u32::from_le_bytes([
+        byte_at(bytes, at),
+        byte_at(bytes, at + 1),
+        byte_at(bytes, at + 2),
+        byte_at(bytes, at + 3),
+    ])
 }
 
+#[tactic(auto, unfolding(crate::specs::Record::cut_short))]
 fn cut_short(bytes: &[u8]) -> bool
     ensures { result ≡ cut_short bytes.now }
 {
     let length = two_at(bytes, 0);
-    (bytes.len() < 2) | ((length < 2) | (bytes.len() < 2 + length as usize))
+    (bytes.len() < 2) | ((length < 2) | (bytes.len() < 2 + usize::from(length)))
 }
 
-fn strange_kind(latest: u32, bytes: &[u8]) -> bool
+#[tactic(auto, unfolding(crate::specs::Record::strange_kind))]
+fn strange_kind(latest: u16, bytes: &[u8]) -> bool
     ensures { result ≡ strange_kind latest bytes.now }
 {
-    let kind = two_at(bytes, 2);
-    (kind < 1) | (latest < kind)
+    !(1..=latest).contains(&two_at(bytes, 2))
 }
 
+#[tactic(auto, unfolding(crate::specs::Record::wrong_length))]
 fn wrong_length(bytes: &[u8]) -> bool
     ensures { result ≡ wrong_length bytes.now }
 {
     let length = two_at(bytes, 0);
-    let kind = two_at(bytes, 2);
-    ((kind == 1) & (length != 12)) | ((kind == 2) & (length != 13))
+    match two_at(bytes, 2) {
+        1 => length != 12,
+        2 => length != 13,
+        _ => false,
+    }
 }
 
+#[tactic(auto, unfolding(crate::specs::Record::wrong_added))]
 fn wrong_added(bytes: &[u8]) -> bool
     ensures { result ≡ wrong_added bytes.now }
 {
@@ -222,114 +284,69 @@ fn wrong_added(bytes: &[u8]) -> bool
     (kind == 2) & (added != 1)
 }
 
-// A kind-2 record's timer is manual.
-fn mode_of(bytes: &[u8]) -> u32
-    ensures { result ≡ cond (eqb (kind_of bytes.now) 2) 1 0 }
-{
-    let kind = two_at(bytes, 2);
-    if kind == 2 { 1 } else { 0 }
-}
-
-// The settings as they stand.
+// The settings as they stand; a kind-2 record's timer is manual.
+#[tactic(auto, unfolding(crate::specs::Record::decode))]
 fn settings_in(bytes: &[u8]) -> Settings
     ensures { result ≡ settings_of (decode bytes.now) }
 {
-    let number = byte_at(bytes, 4);
-    let width = byte_at(bytes, 5);
-    let channels = byte_at(bytes, 6);
-    let bus = byte_at(bytes, 7);
-    let word = byte_at(bytes, 8);
-    let bit = byte_at(bytes, 9);
-    let irq = four_at(bytes, 10);
-    let manual = mode_of(bytes);
     Settings {
-        number,
-        width,
-        channels,
-        bus: bus + 1,
-        word,
-        bit,
-        irq,
-        manual,
+        number: u32::from(byte_at(bytes, 4)),
+        width: u32::from(byte_at(bytes, 5)),
+        channels: u32::from(byte_at(bytes, 6)),
+        bus: u32::from(byte_at(bytes, 7)) + 1,
+        word: u32::from(byte_at(bytes, 8)),
+        bit: u32::from(byte_at(bytes, 9)),
+        irq: four_at(bytes, 10),
+        manual: u32::from(two_at(bytes, 2) == 2),
     }
 }
 
-fn settings_good(s: Settings) -> bool
-    ensures { result ≡ good (given s.number s.width s.channels s.bus s.word s.bit s.irq 0) }
-{
-    is_good(
-        s.number as u64,
-        s.width as u64,
-        s.channels as u64,
-        s.bus as u64,
-        s.word as u64,
-        s.bit as u64,
-        s.irq as u64,
-    )
-}
-
+#[tactic(auto, unfolding(crate::specs::Record::wrong_settings, crate::specs::Record::good))]
 fn wrong_settings(bytes: &[u8]) -> bool
     ensures { result ≡ wrong_settings bytes.now }
 {
-    let s = settings_in(bytes);
-    let held = settings_good(s);
-    wrong_added(bytes) | !held
+    wrong_added(bytes) | !Given::from(settings_in(bytes)).is_good()
 }
 
-// The first check that applies, or 0.
-fn number_of(latest: u32, bytes: &[u8]) -> u32
-    ensures { result ≡ read_number latest bytes.now }
+// The first check that applies.
+#[tactic(auto, unfolding(crate::specs::Record::read_number, machine::specs::Refusals::first))]
+fn check(latest: u16, bytes: &[u8]) -> Result<(), Refusal>
+    ensures { MatchResult result (λ _. read_number latest bytes.now ≡ 0) (λ refusal. read_number latest bytes.now ≡ number_of refusal) }
 {
     if cut_short(bytes) {
-        return 13;
+        return Err(Refusal::CutShort);
     }
     if strange_kind(latest, bytes) {
-        return 14;
+        return Err(Refusal::StrangeKind);
     }
     if wrong_length(bytes) {
-        return 15;
+        return Err(Refusal::WrongLength);
     }
     if wrong_settings(bytes) {
-        return 1;
+        return Err(Refusal::BadSettings);
     }
-    0
+    Ok(())
 }
 
-fn refused(number: u32) -> Read
-    ensures { result ≡ turned_away number }
+#[tactic(auto, unfolding(crate::specs::Record::read))]
+fn checked(latest: u16, bytes: &[u8]) -> Result<Read, Refusal>
+    ensures { MatchResult result (λ r. r ≡ read latest bytes.now) (λ refusal. turned_away (number_of refusal) ≡ read latest bytes.now) }
 {
-    let timer = Settings {
+    check(latest, bytes)?;
+    let length = u32::from(two_at(bytes, 0));
+    Ok(Read {
         number: 0,
-        width: 0,
-        channels: 0,
-        bus: 0,
-        word: 0,
-        bit: 0,
-        irq: 0,
-        manual: 0,
-    };
-    Read {
-        number,
-        count: 0,
-        timer,
-    }
+        count: 2 + length,
+        timer: settings_in(bytes),
+    })
 }
 
 // A reader of the kinds from 1 to the latest.
-fn read_up_to(latest: u32, bytes: &[u8]) -> Read
+#[tactic(auto, unfolding(crate::specs::Record::read))]
+fn read_up_to(latest: u16, bytes: &[u8]) -> Read
     ensures { result ≡ read latest bytes.now }
 {
-    let number = number_of(latest, bytes);
-    if number != 0 {
-        return refused(number);
-    }
-    let length = two_at(bytes, 0);
-    let timer = settings_in(bytes);
-    Read {
-        number: 0,
-        count: 2 + length,
-        timer,
-    }
+    checked(latest, bytes).unwrap_or_else(Read::from)
 }
 
 // Reads the record at the front; what stands behind it is passed over.

@@ -3,13 +3,13 @@ use mathlib.Core.Path.{◌≡◌, refl, ap, sym, ◌∙◌}
 use mathlib.Core.Bool.{Bool, true, false, ◌&&◌, false≢true}
 use mathlib.Core.List.{List, [], ◌∷◌}
 use Prim.Native.Nat.{ℕ, zero, suc, ◌+◌, ◌-◌, ◌*◌, ◌<◌, ◌≤◌}
-use native.Mathlib.Numerals.{add-one}
 use native.Mathlib.Omega.{arith}
 use lib.Dec.{leb, ltb, eqb}
 use lib.Ieee.{Float}
-use lib.ListN.{length, get_or, drop, drop_of_length-le}
-use lib.Seq.{drop-cons}
+use lib.ListN.{length, get_or}
 use borrow.Author.Tests.{eq-eqb, ne_eqb, lt-ltb, le-ltb, le-leb, lt-leb, leb-true, ltb-true, eqb-true}
+use Rattle.std.specs.Bool.{MatchBool}
+use Rattle.std.specs.List.{AllWithin, HoldsAt}
 use Rattle.real.specs.Real.{positive}
 use Rattle.rm0440.specs.Bits.{is_set}
 use Rattle.tim.specs.declared.Inst.{Inst}
@@ -99,18 +99,26 @@ pub good_start : (mask : ℕ) (ns : List ℕ) (count : ℕ) → insts_good (inst
 good_start mask ns count = let e : count - 0 ≡ count = omega arith in ap (λ (m : ℕ). insts_good (insts_from mask ns m 0)) e
 
 -- ---- the signal table
-module _ (l : List ℕ) (k : ℕ) (q : Bool) (inv : entries_below 256 (drop k l) ≡ q) where
-  pub entry-large : k < length l → 256 ≤ get_or l k 0 → false ≡ q
-  unfolding entries_below
-  entry-large h g = sym (ap (entries_below 256) (drop-cons l k 0 h) ∙ rw (le-ltb (get_or l k 0) 256 g)) ∙ inv
 
-  pub entry_next : k < length l → get_or l k 0 < 256 → entries_below 256 (drop (k + 1) l) ≡ q
-  unfolding entries_below
-  entry_next h g = rw add-one (sym (ap (entries_below 256) (drop-cons l k 0 h) ∙ rw (lt-ltb (get_or l k 0) 256 g)) ∙ inv)
-
-  pub entry-end : length l ≤ k → true ≡ q
-  unfolding entries_below
-  entry-end h = sym (ap (entries_below 256) (drop_of_length-le l {i = k} h)) ∙ inv
+-- each is below 256, or some entry is not
+pub entries-decide : (l : List ℕ) (r : Bool) → MatchBool r (AllWithin (λ x. x < 256) l 0 (length l)) ((k : ℕ) × (k < length l) × HoldsAt (λ x. 256 ≤ x) l k)
+    → r ≡ entries_below 256 l
+unfolding entries_below
+entries-decide l true h = sym (all l (λ k g. h k 0 (omega arith) g))
+  where
+    all : (l : List ℕ) → ((k : ℕ) → k < length l → get_or l k 0 < 256) → entries_below 256 l ≡ true
+    all [] h = refl
+    all (x ∷ l) h = rw (lt-ltb x 256 (h 0 (omega arith)), all l (λ k g. h (suc k) (omega arith))) refl
+entries-decide l false h = sym (some l h.0 h.1 (h.2 0))
+  where
+    some : (l : List ℕ) (k : ℕ) → k < length l → 256 ≤ get_or l k 0 → entries_below 256 l ≡ false
+    some [] k g h = absurd (omega arith)
+    some (x ∷ l) zero g h = rw (le-ltb x 256 h) refl
+    some (x ∷ l) (suc k) g h = go (ltb x 256) (some l k (omega arith) h)
+      where
+        go : (b : Bool) → entries_below 256 l ≡ false → (b && entries_below 256 l) ≡ false
+        go true e = e
+        go false e = refl
 
 pub entry_at : (l : List ℕ) (k : ℕ) → entries_below 256 l ≡ true → k < length l → get_or l k 0 < 256
 unfolding entries_below

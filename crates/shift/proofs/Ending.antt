@@ -1,5 +1,5 @@
 -- What the end of a shift writes is its report. Assumes nothing.
-use Rattle.std.proofs.Common.{◌≡◌, ℕ, zero, suc, ◌+◌, ◌-◌, ◌*◌, ◌%◌, ◌^◌, ◌<◌, ◌≤◌, Bool, true, false, cond, eqb, ltb, ◌⊎◌, List, [], ◌∷◌, ◌++◌, length, get_or, set, sym, refl, ap, ◌∙◌, subst, inl, inr, lt_of_lt_of_le, add-zero, mod-eq_of_lt, pow-suc, add-one, arith, length-set, get_or-set_other, get_or-set_same, pow_mono, eqb-true}
+use Rattle.std.proofs.Common.{◌≡◌, ℕ, zero, suc, ◌+◌, ◌-◌, ◌*◌, ◌%◌, ◌^◌, ◌<◌, ◌≤◌, Bool, true, false, cond, eqb, ltb, ◌⊎◌, List, [], ◌∷◌, ◌++◌, length, get_or, set, sym, refl, ap, ◌∙◌, subst, inl, inr, mod-eq_of_lt, pow-suc, add-one, arith, length-set, get_or-set_other, get_or-set_same, eqb-true}
 use lib.Count.{ones, ones_in, ones_cat}
 use borrow.Author.Tests.{eqb-false}
 use Rattle.book.specs.Book.{Entry}
@@ -89,9 +89,6 @@ fed-done w w₀ i n u le h =
     let k : n - i ≡ 0 = omega arith in
     sym (ap (λ (m : ℕ). fed w (unsourced_from i m u)) k) ∙ h
 
-pub fed-begins : (w : List ℕ) (n : ℕ) (u : Piece) → fed w (unsourced_from 0 (n - 0) u) ≡ fed w (unsourced_from 0 n u)
-fed-begins w n u = ap (λ (m : ℕ). fed w (unsourced_from 0 m u)) (omega arith)
-
 -- what `shift_feed` promises
 pub fed-both : (w w₀ : List ℕ) (i n : ℕ) (u : Piece) → n ≤ i → fed w (unsourced_from i (n - i) u) ≡ fed w₀ (unsourced_from 0 n u) → n ≡ length_of u
     → (w ≡ fed w₀ (entries_in u)) × ((s : Shift) (es : List Entry) → Stands s es w₀ → Stands s (es ++ entries_in u) w)
@@ -159,9 +156,6 @@ written-more w f f₁ n x lt h e k =
         figures-apart f n x pin (omega (arith, d)) ∙ h.1 pin (omega (arith, d))
 
 -- the levels of pins as bits of a word
-pub word_small : (v j : ℕ) → v < 2 ^ j → j < 32 → v < 2147483648
-word_small v j h lt = lt_of_lt_of_le h (pow_mono {i = j} {j = 31} (omega arith))
-
 pub word_more : (v j b : ℕ) → v < 2 ^ j → b ≤ 1 → v * 2 + b < 2 ^ (j + 1)
 word_more v j b h k = rw (add-one j, pow-suc 2 j) (omega arith)
 
@@ -179,10 +173,6 @@ bits-more w first j v b h e k =
     let n : first + (j + 1) ≡ suc (first + j) = omega arith in
     let t : high_tracks w (suc (first + j)) ≡ high_tracks w (first + j) + cond (eqb (get_or w (4 * (first + j) + 1) 0) 1) 1 0 = refl in
     omega (arith, o, h, e, t, ap (λ (x : ℕ). high_tracks w x) n)
-
-pub bits_none : (w : List ℕ) (first : ℕ) → ones 0 + high_tracks w first ≡ high_tracks w (first + 0)
-unfolding ones ones_in
-bits_none w first = omega (arith, ap (λ (x : ℕ). high_tracks w x) (add-zero first))
 
 pub one_bit : (b : Bool) (r : ℕ) → r ≡ cond b 1 0 → r ≤ 1
 one_bit true r h = omega arith

@@ -2,10 +2,11 @@
 // feed, end. What is kept between the pieces is in words that the caller lends; figures are written at the end alone.
 #![tactic(auto)]
 
-ghost use Rattle.std.specs.Prelude.{◌≡◌, ℕ, ◌+◌, ◌-◌, ◌<◌, ◌≤◌, max, Bool, List, [], ◌++◌, length, if◌then◌else◌, count_ones, nat_eq, nat_lt};
+ghost use Rattle.std.specs.Prelude.{◌≡◌, ◌≢◌, ℕ, ◌+◌, ◌-◌, ◌<◌, ◌≤◌, true, false, List, [], ◌++◌, length, if◌then◌else◌, count_ones, nat_eq, nat_lt, MatchOption};
 ghost use Rattle.book.specs.Book.{Entry};
 ghost use Rattle.shift.specs.Shift.{piece, sourceless, Shift, shift, level_bit, entries_in, Reports};
-ghost use Rattle.shift.specs.Kept.{counts, turned_high, more_edges, took, track_at, put_track, fresh_track, Fresh, number_kept, number_given, entered, fed, put_figures, Written, high_tracks, Ended, Stands};
+ghost use Rattle.shift.specs.Kept.{counts, rest, turned_high, more_edges, took, track_at, put_track, fresh_track, Fresh, from_of, to_of, number_kept, number_given, strays, entered, fed, put_figures, Written, high_tracks, Ended, Stands};
+ghost use Rattle.shift.specs.Refused.{number_with};
 
 // The kept words: four a pin, from, to, the number.
 const FROM: usize = 512;
@@ -35,68 +36,104 @@ pub struct Summary {
     pub high: u32,
 }
 
-fn seen(s: &[u64]) {}
-
-// The words are as many as their type says. Nothing is done.
-fn sized(kept: &[u64; KEPT])
-    ensures { length kept.now ≡ 515 }
-{
-    seen(kept);
+// Why nothing is reported. The kept words and the summary hold its number.
+#[derive(Clone, Copy)]
+enum Refusal {
+    Reversed,
+    OutOfOrder,
 }
 
-fn sized_figures(figures: &[u64; FIGURES])
-    ensures { length figures.now ≡ 384 }
-{
-    seen(figures);
-}
-
-// A difference that stops at 0.
-fn less(a: u64, b: u64) -> u64
-    ensures { result ≡ a - b }
-{
-    if a < b { 0 } else { a - b }
-}
-
-fn later(a: u64, b: u64) -> u64
-    ensures { result ≡ max a b }
-{
-    if a < b { b } else { a }
-}
-
-fn counted(from: u64, to: u64, cycle: u64) -> bool
-    ensures { result ≡ counts from to cycle }
-{
-    if cycle < to {
-        return true;
+impl Refusal {
+    fn number(self) -> u32
+        ensures { result ≡ number_with self }
+    {
+        match self {
+            Refusal::Reversed => 9,
+            Refusal::OutOfOrder => 10,
+        }
     }
-    cycle <= from
+}
+
+// The shift's cycles, `to` excluded.
+#[derive(Clone, Copy)]
+struct Span {
+    from: u64,
+    to: u64,
+}
+
+impl Span {
+    // "Shift reversed", or 0.
+    fn number(self) -> u64
+        ensures { result ≡ (if nat_lt self.to self.from then 9 else 0) }
+    {
+        if self.to < self.from {
+            u64::from(Refusal::Reversed.number())
+        } else {
+            0
+        }
+    }
+
+    fn len(self) -> u64
+        ensures { result ≡ self.to - self.from }
+    {
+        self.to.saturating_sub(self.from)
+    }
+
+    // An entry at that cycle counts for the levels.
+    fn counts(self, cycle: u64) -> bool
+        ensures { result ≡ counts self.from self.to cycle }
+    {
+        cycle < self.to || cycle <= self.from
+    }
+
+    // The cycles from an entry on.
+    fn rest(self, cycle: u64) -> u64
+        ensures { result ≡ rest self.from self.to cycle }
+    {
+        self.to.saturating_sub(cycle.max(self.from))
+    }
+
+    // An entry at from is no edge.
+    fn more(self, edges: u64, cycle: u64) -> u64
+        ensures { result ≡ more_edges edges self.from cycle }
+    {
+        if self.from < cycle {
+            edges.wrapping_add(1)
+        } else {
+            edges
+        }
+    }
+
+    // A pin before its first entry: at one level to the end.
+    fn fresh(self, level: u64) -> Track
+        ensures { result ≡ fresh_track self.from self.to level }
+    {
+        Track {
+            last: 0,
+            level,
+            high: if level == 1 { self.len() } else { 0 },
+            edges: 0,
+        }
+    }
 }
 
 impl Track {
     // One entry of the pin.
-    fn took(self, from: u64, to: u64, level: u64, cycle: u64) -> Track
-        ensures { result ≡ took from to self level cycle }
+    #[tactic(auto, unfolding(crate::specs::Kept::took))]
+    fn took(self, span: Span, level: u64, cycle: u64) -> Track
+        ensures { result ≡ took span.from span.to self level cycle }
     {
-        let passed = Track {
-            last: cycle,
-            level: self.level,
-            high: self.high,
-            edges: self.edges,
-        };
-        if level == self.level {
-            return passed;
+        if level == self.level || !span.counts(cycle) {
+            return Track {
+                last: cycle,
+                ..self
+            };
         }
-        if !counted(from, to, cycle) {
-            return passed;
-        }
-        let rest = less(to, later(cycle, from));
-        let high = turned(self.high, rest, level);
-        let edges = more(self.edges, from, cycle);
         Track {
             last: cycle,
             level,
-            high,
-            edges,
+            high: turned(self.high, span.rest(cycle), level),
+            edges: span.more(self.edges, cycle),
         }
     }
 }
@@ -106,23 +143,15 @@ fn turned(high: u64, rest: u64, level: u64) -> u64
     ensures { result ≡ turned_high high rest level }
 {
     if level == 1 {
-        return std::num::wrapping_add_u64(high, rest);
+        high.wrapping_add(rest)
+    } else {
+        high.saturating_sub(rest)
     }
-    less(high, rest)
-}
-
-// An entry at from is no edge.
-fn more(edges: u64, from: u64, cycle: u64) -> u64
-    ensures { result ≡ more_edges edges from cycle }
-{
-    if from < cycle {
-        return std::num::wrapping_add_u64(edges, 1);
-    }
-    edges
 }
 
 // ---- the kept words
 
+// Field by field, here and in `store`: the names say which word is which.
 fn load(kept: &[u64; KEPT], pin: usize) -> Track
     requires { pin < 128 }
     ensures { result ≡ track_at kept.now pin }
@@ -136,6 +165,7 @@ fn load(kept: &[u64; KEPT], pin: usize) -> Track
     }
 }
 
+#[tactic(auto, unfolding(crate::specs::Kept::put_track))]
 fn store(kept: &mut [u64; KEPT], pin: usize, t: Track)
     requires { pin < 128 }
     ensures { kept.new ≡ put_track kept.old pin t }
@@ -147,34 +177,47 @@ fn store(kept: &mut [u64; KEPT], pin: usize, t: Track)
     kept[at + 3] = t.edges;
 }
 
+fn span_in(kept: &[u64; KEPT]) -> Span
+    ensures { result ≡ record { from = from_of kept.now; to = to_of kept.now } }
+{
+    Span {
+        from: kept[FROM],
+        to: kept[TO],
+    }
+}
+
+// The entry's pin after it; none if the entry is out of order.
+fn placed(kept: &[u64; KEPT], pin: u8, level: u8, cycle: u64) -> Option<Track>
+    ensures { MatchOption result (strays kept.now (sourceless pin level cycle) ≡ true) (λ t. (pin < 128) × (strays kept.now (sourceless pin level cycle) ≡ false) × (t ≡ took (from_of kept.now) (to_of kept.now) (track_at kept.now pin) level cycle)) }
+{
+    if pin > 127 || level > 1 {
+        return None;
+    }
+    let track = load(kept, usize::from(pin));
+    if cycle < track.last {
+        return None;
+    }
+    Some(track.took(span_in(kept), u64::from(level), cycle))
+}
+
 // One entry. Once there is a number, nothing.
+#[tactic(auto, unfolding(crate::specs::Kept::entered))]
 fn enter(kept: &mut [u64; KEPT], pin: u8, level: u8, cycle: u64)
     ensures { kept.new ≡ entered kept.old (sourceless pin level cycle) }
 {
     if kept[NUMBER] != 0 {
         return;
     }
-    if pin > 127 {
-        kept[NUMBER] = 10;
-        return;
+    match placed(kept, pin, level, cycle) {
+        Some(track) => store(kept, usize::from(pin), track),
+        None => kept[NUMBER] = u64::from(Refusal::OutOfOrder.number()),
     }
-    if level > 1 {
-        kept[NUMBER] = 10;
-        return;
-    }
-    let p = pin as usize;
-    let t = load(kept, p);
-    if cycle < t.last {
-        kept[NUMBER] = 10;
-        return;
-    }
-    let u = t.took(kept[FROM], kept[TO], level as u64, cycle);
-    store(kept, p, u);
 }
 
 // ---- begin
 
 // A pin's bit of the four level words.
+#[tactic(auto, unfolding(crate::specs::Shift::level_bit))]
 fn level_of(words: &[u32; 4], pin: usize) -> u64
     requires { pin < 128 }
     ensures { result ≡ level_bit words.now pin }
@@ -183,38 +226,13 @@ fn level_of(words: &[u32; 4], pin: usize) -> u64
     ((words[k] >> (pin % 32)) % 2) as u64
 }
 
-// A pin before its first entry: at one level to the end.
-fn fresh(from: u64, to: u64, level: u64) -> Track
-    ensures { result ≡ fresh_track from to level }
+fn begin_pins(kept: &mut [u64; KEPT], words: &[u32; 4], span: Span)
+    ensures { Fresh words.now span.from span.to 128 kept.new }
 {
-    let all = less(to, from);
-    let high = if level == 1 { all } else { 0 };
-    Track {
-        last: 0,
-        level,
-        high,
-        edges: 0,
-    }
-}
-
-fn begin_pins(kept: &mut [u64; KEPT], words: &[u32; 4], from: u64, to: u64)
-    ensures { Fresh words.now from to 128 kept.new }
-{
-    sized(kept);
-    let mut pin = 0;
-    while pin < 128 {
+    for pin in 0..128 {
         let level = level_of(words, pin);
-        let t = fresh(from, to, level);
-        store(kept, pin, t);
-        pin += 1;
+        store(kept, pin, span.fresh(level));
     }
-}
-
-// 9, "shift reversed", or 0.
-fn reversed(from: u64, to: u64) -> u64
-    ensures { result ≡ (if nat_lt to from then 9 else 0) }
-{
-    if to < from { 9 } else { 0 }
 }
 
 // A shift begins: every pin's level before the first entry, pin i at bit i mod 32 of word i div 32, and its two cycles.
@@ -222,10 +240,11 @@ fn reversed(from: u64, to: u64) -> u64
 pub extern "C" fn shift_begin(kept: &mut [u64; KEPT], words: &[u32; 4], from: u64, to: u64)
     ensures { Stands (shift words.now from to) [] kept.new }
 {
-    begin_pins(kept, words, from, to);
+    let span = Span { from, to };
+    begin_pins(kept, words, span);
     kept[FROM] = from;
     kept[TO] = to;
-    kept[NUMBER] = reversed(from, to);
+    kept[NUMBER] = span.number();
 }
 
 // ---- feed
@@ -236,16 +255,16 @@ pub extern "C" fn shift_feed(kept: &mut [u64; KEPT], pins: &[u8], levels: &[u8],
     ensures kept_after { kept.new ≡ fed kept.old (entries_in (piece pins.now levels.now cycles.now)) }
     ensures stands { (s : Shift) (es : List Entry) → Stands s es kept.old → Stands s (es ++ entries_in (piece pins.now levels.now cycles.now)) kept.new }
 {
-    let n = book::lesser(pins.len(), book::lesser(levels.len(), cycles.len()));
-    let mut i = 0;
-    while i < n {
+    // By an index: a zip of three slices would pair pairs.
+    let n = pins.len().min(levels.len().min(cycles.len()));
+    for i in 0..n {
         enter(kept, pins[i], levels[i], cycles[i]);
-        i += 1;
     }
 }
 
 // ---- end
 
+#[tactic(auto, unfolding(crate::specs::Kept::put_figures))]
 fn put_figures(figures: &mut [u64; FIGURES], pin: usize, high: u64, low: u64, edges: u64)
     requires { pin < 128 }
     ensures { figures.new ≡ put_figures figures.old pin (record { high = high; low = low; edges = edges }) }
@@ -259,14 +278,11 @@ fn put_figures(figures: &mut [u64; FIGURES], pin: usize, high: u64, low: u64, ed
 fn write_figures(kept: &[u64; KEPT], figures: &mut [u64; FIGURES])
     ensures { Written kept.now 128 figures.new }
 {
-    sized_figures(figures);
-    let all = less(kept[TO], kept[FROM]);
-    let mut pin = 0;
-    while pin < 128 {
+    let all = span_in(kept).len();
+    for pin in 0..128 {
         let t = load(kept, pin);
-        let low = less(all, t.high);
+        let low = all.saturating_sub(t.high);
         put_figures(figures, pin, t.high, low, t.edges);
-        pin += 1;
     }
 }
 
@@ -274,8 +290,7 @@ fn is_high(kept: &[u64; KEPT], pin: usize) -> u32
     requires { pin < 128 }
     ensures { result ≡ (if nat_eq (track_at kept.now pin).level 1 then 1 else 0) }
 {
-    let at = 4 * pin;
-    if kept[at + 1] == 1 { 1 } else { 0 }
+    u32::from(load(kept, pin).level == 1)
 }
 
 // The levels of 32 pins as a word, the first pin's in the highest bit.
@@ -284,11 +299,9 @@ fn level_word(kept: &[u64; KEPT], first: usize) -> u32
     ensures { (count_ones result + high_tracks kept.now first ≡ high_tracks kept.now (first + 32)) × (result < 4294967296) }
 {
     let mut word: u32 = 0;
-    let mut j = 0;
-    while j < 32 {
+    for j in 0..32 {
         let bit = is_high(kept, first + j);
         word = word * 2 + bit;
-        j += 1;
     }
     word
 }
@@ -297,32 +310,25 @@ fn high_in(kept: &[u64; KEPT], first: usize) -> u32
     requires { first + 32 ≤ 128 }
     ensures { (result + high_tracks kept.now first ≡ high_tracks kept.now (first + 32)) × (result ≤ 32) }
 {
-    let w = level_word(kept, first);
-    u32::count_ones(w)
+    level_word(kept, first).count_ones()
 }
 
 fn high_pins(kept: &[u64; KEPT]) -> u32
     ensures { result ≡ high_tracks kept.now 128 }
 {
-    let a = high_in(kept, 0);
-    let b = high_in(kept, 32);
-    let c = high_in(kept, 64);
-    let d = high_in(kept, 96);
-    a + b + c + d
+    high_in(kept, 0) + high_in(kept, 32) + high_in(kept, 64) + high_in(kept, 96)
 }
 
-// 0, 9, or 10 for anything else.
-fn number_of(kept: &[u64; KEPT]) -> u32
-    ensures { result ≡ number_given (number_kept kept.now) }
+// Any number but those of a shift that is well or reversed is that of a book out of order.
+#[tactic(auto, unfolding(crate::specs::Kept::number_given))]
+fn refusal_in(kept: &[u64; KEPT]) -> Option<Refusal>
+    ensures { MatchOption result (number_given (number_kept kept.now) ≡ 0) (λ refusal. (number_given (number_kept kept.now) ≡ number_with refusal) × (number_with refusal ≢ 0)) }
 {
-    let n = kept[NUMBER];
-    if n == 0 {
-        return 0;
+    match kept[NUMBER] {
+        0 => None,
+        9 => Some(Refusal::Reversed),
+        _ => Some(Refusal::OutOfOrder),
     }
-    if n == 9 {
-        return 9;
-    }
-    10
 }
 
 // The report: high, low and edges of pin i at the places 3 i, 3 i + 1, 3 i + 2, and how many pins are high at the end. With 9 or 10 no figure is
@@ -332,8 +338,8 @@ pub extern "C" fn shift_end(kept: &[u64; KEPT], figures: &mut [u64; FIGURES]) ->
     ensures ended { Ended kept.now result figures.old figures.new }
     ensures reports { (s : Shift) (es : List Entry) → Stands s es kept.now → length es < 18446744073709551616 → Reports s es result.number result.high figures.old figures.new }
 {
-    let number = number_of(kept);
-    if number != 0 {
+    if let Some(refusal) = refusal_in(kept) {
+        let number = refusal.number();
         return Summary { number, high: 0 };
     }
     write_figures(kept, figures);

@@ -2,406 +2,369 @@
 // `replay` writes them: an answer's three numbers before its entries are passed over. Each entry is fed by itself, so memory stays constant.
 #![tactic(auto)]
 
-use reply::OUT;
+use reply::{Failure, Output};
 use shift::{FIGURES, KEPT};
+use std::io;
 use std::io::Read;
 use std::process::ExitCode;
-use text::{Number, Reading};
-
-// Places of the state: the number of the line; whether a comment runs, a carriage return waits, a word runs.
-const LINE: usize = 0;
-
-const COMMENT: usize = 1;
-
-const RETURN: usize = 2;
-
-const WORD: usize = 3;
-// The number that is being read.
-const STEP: usize = 4;
-
-const BASE: usize = 5;
-
-const VALUE: usize = 6;
-// Whether the shift has begun; how many numbers of the line were read; whether it had an entry; which part of an entry is being read.
-const BEGUN: usize = 7;
-
-const NUMBERS: usize = 8;
-
-const ENTRY: usize = 9;
-
-const PART: usize = 10;
-// The parts of an entry.
-const PIN: usize = 11;
-
-const LEVEL: usize = 12;
-
-const CYCLE: usize = 13;
-
-const STATE: usize = 14;
-
-// What a byte leads to: nothing yet, or why the run ends (the reasons of `reply`).
-const GO_ON: u8 = 0;
-
-const MISSING: u8 = 3;
-
-const SURPLUS: u8 = 4;
-
-const NOT_A_NUMBER: u8 = 5;
-
-const TOO_LARGE: u8 = 6;
-
-// What a read leads to beside them: the input has ended, or cannot be read.
-const END: u8 = 255;
-
-const UNREAD: u8 = 254;
+use text::{Reading, Reason};
 
 // How much of the input is read at once.
 const BYTES: usize = 65536;
 
-const SHORT: u64 = 4294967295;
-
-fn byte(x: u64) -> u8 {
-    (x % 256) as u8
-}
-
-fn short(x: u64) -> u32 {
-    (x % 4294967296) as u32
+// The number of 32 bits that a word is.
+fn short(reading: Reading) -> Result<u32, Reason> {
+    u32::try_from(reading.told()?).map_err(|_| Reason::TooLarge)
 }
 
 // A pin or a level as a byte: one that a byte does not hold is as wrong as 255.
-fn at_most_byte(x: u64) -> u8 {
-    if x < 255 {
-        return byte(x);
-    }
-    255
-}
-
-fn next(x: u64) -> u64 {
-    if x < 18446744073709551615 {
-        return x + 1;
-    }
-    x
-}
-
-// A byte of a number.
-fn digit(state: &mut [u64; STATE], b: u8) {
-    let r = Reading {
-        step: byte(state[STEP]),
-        base: state[BASE],
-        value: state[VALUE],
-    };
-    let s = r.next(b);
-    state[STEP] = s.step as u64;
-    state[BASE] = s.base;
-    state[VALUE] = s.value;
-}
-
-// A number ends: its value is in place VALUE, or why there is none.
-fn number_end(state: &mut [u64; STATE], wide: bool) -> u8 {
-    let r = Reading {
-        step: byte(state[STEP]),
-        base: state[BASE],
-        value: state[VALUE],
-    };
-    state[STEP] = 0;
-    let told = r.told();
-    match told {
-        Number::Value(v) => {
-            if wide {
-                return GO_ON;
-            }
-            if SHORT < v {
-                return TOO_LARGE;
-            }
-            GO_ON
-        }
-        Number::NotANumber => NOT_A_NUMBER,
-        Number::TooLarge => TOO_LARGE,
-    }
+fn at_most_byte(x: u32) -> u8 {
+    u8::try_from(x).unwrap_or(u8::MAX)
 }
 
 // ---- the first line
 
-// Its numbers: from and to are 64 bits wide, the level words 32.
-fn first_number(state: &mut [u64; STATE], first: &mut [u64; 6]) -> u8 {
-    let k = state[NUMBERS];
-    if 6 <= k {
-        return SURPLUS;
-    }
-    let e = number_end(state, k < 2);
-    if e != GO_ON {
-        return e;
-    }
-    let at = k as usize;
-    first[at] = state[VALUE];
-    state[NUMBERS] = k + 1;
-    GO_ON
+// Its numbers so far: from and to are 64 bits wide, the level words 32.
+#[derive(Clone, Copy, Default)]
+struct First {
+    from: u64,
+    to: u64,
+    levels: [u32; 4],
+    count: usize,
 }
 
-fn first_line(state: &mut [u64; STATE], first: &[u64; 6], kept: &mut [u64; KEPT]) -> u8 {
-    let k = state[NUMBERS];
-    if k == 0 {
-        return GO_ON;
+impl First {
+    fn number(&mut self, reading: Reading) -> Result<(), Reason> {
+        match self.count {
+            0 => self.from = reading.told()?,
+            1 => self.to = reading.told()?,
+            k @ 2..=5 => self.levels[k - 2] = short(reading)?,
+            _ => return Err(Reason::SurplusNumber),
+        }
+        self.count += 1;
+        Ok(())
     }
-    if k < 6 {
-        return MISSING;
+
+    // Whether it has all its numbers; an empty line, or one of a comment, has none of them.
+    fn is_whole(&self) -> Result<bool, Reason> {
+        match self.count {
+            0 => Ok(false),
+            1..=5 => Err(Reason::MissingNumber),
+            _ => Ok(true),
+        }
     }
-    let words = [
-        short(first[2]),
-        short(first[3]),
-        short(first[4]),
-        short(first[5]),
-    ];
-    shift::shift_begin(kept, &words, first[0], first[1]);
-    state[BEGUN] = 1;
-    GO_ON
 }
 
 // ---- entries
 
-// A part of an entry ends at its mark.
-fn part_end(state: &mut [u64; STATE], part: u64) -> u8 {
-    let e = number_end(state, part == 2);
-    if e != GO_ON {
-        return e;
-    }
-    if part == 0 {
-        state[PIN] = state[VALUE];
-    }
-    if part == 1 {
-        state[LEVEL] = state[VALUE];
-    }
-    if part == 2 {
-        state[CYCLE] = state[VALUE];
-    }
-    state[PART] = next(part);
-    GO_ON
+#[derive(Clone, Copy)]
+struct Entry {
+    pin: u32,
+    level: u32,
+    cycle: u64,
 }
 
-// Whether a byte ends the part of an entry: `:` a pin, `@` a level, `/` a cycle.
-fn is_mark(part: u64, b: u8) -> bool {
-    if part == 0 {
-        return b == b':';
-    }
-    if part == 1 {
-        return b == b'@';
-    }
-    if part == 2 {
-        return b == b'/';
-    }
-    false
+// The part of an entry that is being read, with those before it: `:` ends a pin, `@` a level, `/` a cycle.
+#[derive(Clone, Copy)]
+enum Part {
+    Pin,
+    Level { pin: u32 },
+    Cycle { pin: u32, level: u32 },
+    Source(Entry),
 }
 
-// A number that stands alone: one of an answer's three.
-fn answer_number(state: &mut [u64; STATE]) -> u8 {
-    let e = number_end(state, true);
-    if e != GO_ON {
-        return e;
-    }
-    if state[ENTRY] != 0 {
-        return SURPLUS;
-    }
-    if 3 <= state[NUMBERS] {
-        return SURPLUS;
-    }
-    state[NUMBERS] = next(state[NUMBERS]);
-    GO_ON
+// A word: an entry, or one number.
+#[derive(Clone, Copy)]
+struct Word {
+    part: Part,
+    reading: Reading,
 }
 
-// An answer's three numbers, or none.
-fn answer_whole(state: &[u64; STATE]) -> u8 {
-    let k = state[NUMBERS];
-    if k == 0 {
-        return GO_ON;
+impl Word {
+    fn new() -> Word {
+        Word {
+            part: Part::Pin,
+            reading: Reading::new(),
+        }
     }
-    if k < 3 {
-        return MISSING;
+
+    // A letter of a number.
+    fn digit(&mut self, b: u8) {
+        self.reading = self.reading.next(b);
     }
-    GO_ON
+
+    // A letter of a number, or the mark that ends a part.
+    fn letter(&mut self, b: u8) -> Result<(), Reason> {
+        self.part = match (self.part, b) {
+            (Part::Pin, b':') => Part::Level {
+                pin: short(self.reading)?,
+            },
+            (Part::Level { pin }, b'@') => Part::Cycle {
+                pin,
+                level: short(self.reading)?,
+            },
+            (Part::Cycle { pin, level }, b'/') => Part::Source(Entry {
+                pin,
+                level,
+                cycle: self.reading.told()?,
+            }),
+            _ => {
+                self.digit(b);
+                return Ok(());
+            }
+        };
+        self.reading = Reading::new();
+        Ok(())
+    }
+
+    // The word ends: its entry, or none where a number stands alone.
+    fn end(self) -> Result<Option<Entry>, Reason> {
+        match self.part {
+            Part::Pin => {
+                self.reading.told()?;
+                Ok(None)
+            }
+            Part::Level { .. } => {
+                short(self.reading)?;
+                Err(Reason::MissingNumber)
+            }
+            Part::Cycle { pin, level } => Ok(Some(Entry {
+                pin,
+                level,
+                cycle: self.reading.told()?,
+            })),
+            Part::Source(entry) => {
+                short(self.reading)?;
+                Ok(Some(entry))
+            }
+        }
+    }
 }
 
-fn entry(state: &mut [u64; STATE], kept: &mut [u64; KEPT]) -> u8 {
-    let e = answer_whole(state);
-    if e != GO_ON {
-        return e;
-    }
-    state[ENTRY] = 1;
-    let pins = [at_most_byte(state[PIN])];
-    let levels = [at_most_byte(state[LEVEL])];
-    let cycles = [state[CYCLE]];
-    shift::shift_feed(kept, &pins, &levels, &cycles);
-    GO_ON
+// What a line of entries has had: numbers that stand alone, those of an answer, and whether an entry.
+#[derive(Clone, Copy, Default)]
+struct Answer {
+    numbers: u8,
+    entry: bool,
 }
 
-// A word of entries ends.
-fn entry_end(state: &mut [u64; STATE], kept: &mut [u64; KEPT]) -> u8 {
-    let part = state[PART];
-    state[PART] = 0;
-    if part == 0 {
-        return answer_number(state);
+impl Answer {
+    fn number(&mut self) -> Result<(), Reason> {
+        if self.entry || self.numbers >= 3 {
+            return Err(Reason::SurplusNumber);
+        }
+        self.numbers += 1;
+        Ok(())
     }
-    let e = part_end(state, part);
-    state[PART] = 0;
-    if e != GO_ON {
-        return e;
+
+    // An answer has three numbers, or the line none.
+    fn whole(&self) -> Result<(), Reason> {
+        match self.numbers {
+            1 | 2 => Err(Reason::MissingNumber),
+            _ => Ok(()),
+        }
     }
-    if part == 1 {
-        return MISSING;
+
+    fn entry(&mut self) -> Result<(), Reason> {
+        self.whole()?;
+        self.entry = true;
+        Ok(())
     }
-    entry(state, kept)
 }
 
 // ---- bytes, words, lines
 
-fn letter(state: &mut [u64; STATE], b: u8) -> u8 {
-    state[WORD] = 1;
-    if state[BEGUN] != 0 {
-        let part = state[PART];
-        if is_mark(part, b) {
-            return part_end(state, part);
+#[derive(Clone, Copy)]
+enum Phase {
+    First(First),
+    Entries(Answer),
+}
+
+// How far the input has been taken, and what the report needs of it.
+#[derive(Drop)]
+struct Shift {
+    line: u64,
+    comment: bool,
+    // A carriage return belongs to the line's end, or else to a word.
+    carriage_return: bool,
+    word: Option<Word>,
+    phase: Phase,
+    kept: [u64; KEPT],
+}
+
+impl Shift {
+    fn new() -> Shift {
+        Shift {
+            line: 1,
+            comment: false,
+            carriage_return: false,
+            word: None,
+            phase: Phase::First(First::default()),
+            kept: [0; KEPT],
         }
     }
-    digit(state, b);
-    GO_ON
-}
 
-fn word_end(state: &mut [u64; STATE], first: &mut [u64; 6], kept: &mut [u64; KEPT]) -> u8 {
-    if state[WORD] == 0 {
-        return GO_ON;
+    fn letter(&mut self, b: u8) -> Result<(), Reason> {
+        let word = self.word.get_or_insert_with(Word::new);
+        match self.phase {
+            Phase::First(_) => word.digit(b),
+            Phase::Entries(_) => word.letter(b)?,
+        }
+        Ok(())
     }
-    state[WORD] = 0;
-    if state[BEGUN] == 0 {
-        return first_number(state, first);
-    }
-    entry_end(state, kept)
-}
 
-// The line ends, or the input.
-fn line_end(state: &mut [u64; STATE], first: &mut [u64; 6], kept: &mut [u64; KEPT]) -> u8 {
-    state[COMMENT] = 0;
-    state[RETURN] = 0;
-    let e = word_end(state, first, kept);
-    if e != GO_ON {
-        return e;
+    fn entry(&mut self, entry: Entry) {
+        shift::shift_feed(
+            &mut self.kept,
+            &[at_most_byte(entry.pin)],
+            &[at_most_byte(entry.level)],
+            &[entry.cycle],
+        );
     }
-    let f = if state[BEGUN] == 0 {
-        first_line(state, first, kept)
-    } else {
-        answer_whole(state)
-    };
-    if f != GO_ON {
-        return f;
-    }
-    state[NUMBERS] = 0;
-    state[ENTRY] = 0;
-    state[LINE] = next(state[LINE]);
-    GO_ON
-}
 
-// A byte that is no line end and no part of a comment.
-fn mark(state: &mut [u64; STATE], first: &mut [u64; 6], kept: &mut [u64; KEPT], b: u8) -> u8 {
-    if b == b'\r' {
-        state[RETURN] = 1;
-        return GO_ON;
+    fn word_end(&mut self) -> Result<(), Reason> {
+        let Some(word) = self.word.take() else {
+            return Ok(());
+        };
+        match &mut self.phase {
+            Phase::First(first) => first.number(word.reading)?,
+            Phase::Entries(answer) => match word.end()? {
+                None => answer.number()?,
+                Some(entry) => {
+                    answer.entry()?;
+                    self.entry(entry);
+                }
+            },
+        }
+        Ok(())
     }
-    if b == b'#' {
-        state[COMMENT] = 1;
-        return word_end(state, first, kept);
-    }
-    if text::is_space(b) {
-        return word_end(state, first, kept);
-    }
-    letter(state, b)
-}
 
-// The next byte of the input.
-fn feed(state: &mut [u64; STATE], first: &mut [u64; 6], kept: &mut [u64; KEPT], b: u8) -> u8 {
-    if b == b'\n' {
-        return line_end(state, first, kept);
+    // The line ends, or the input.
+    fn line_end(&mut self) -> Result<(), Reason> {
+        self.comment = false;
+        self.carriage_return = false;
+        self.word_end()?;
+        match self.phase {
+            Phase::First(first) => {
+                if !first.is_whole()? {
+                    return Ok(());
+                }
+                shift::shift_begin(&mut self.kept, &first.levels, first.from, first.to);
+            }
+            Phase::Entries(answer) => answer.whole()?,
+        }
+        self.phase = Phase::Entries(Answer::default());
+        Ok(())
     }
-    if state[COMMENT] != 0 {
-        return GO_ON;
+
+    // The next byte of the input.
+    fn feed(&mut self, b: u8) -> Result<(), Reason> {
+        if b == b'\n' {
+            self.line_end()?;
+            self.line = self.line.saturating_add(1);
+            return Ok(());
+        }
+        if self.comment {
+            return Ok(());
+        }
+        if self.carriage_return {
+            self.carriage_return = false;
+            self.letter(b'\r')?;
+        }
+        match b {
+            b'\r' => self.carriage_return = true,
+            b'#' => {
+                self.comment = true;
+                self.word_end()?;
+            }
+            _ if text::is_space(b) => self.word_end()?,
+            _ => self.letter(b)?,
+        }
+        Ok(())
     }
-    if state[RETURN] != 0 {
-        state[RETURN] = 0;
-        let e = letter(state, b'\r');
-        if e != GO_ON {
-            return e;
+
+    // The input has ended, perhaps in the middle of a line.
+    fn end(&mut self) -> Result<(), Reason> {
+        self.line_end()?;
+        match self.phase {
+            Phase::First(_) => Err(Reason::MissingNumber),
+            Phase::Entries(_) => Ok(()),
         }
     }
-    mark(state, first, kept, b)
-}
 
-// Takes the bytes of a part of the input, to the first that is wrong.
-fn pass(part: &[u8], state: &mut [u64; STATE], first: &mut [u64; 6], kept: &mut [u64; KEPT]) -> u8 {
-    let mut i = 0;
-    while i < part.len() {
-        let e = feed(state, first, kept, part[i]);
-        if e != GO_ON {
-            return e;
+    fn pass(&mut self, part: &[u8]) -> Result<(), Reason> {
+        for b in part {
+            self.feed(*b)?;
         }
-        i += 1;
+        Ok(())
     }
-    GO_ON
-}
 
-// ---- the report as text
-
-// `PIN HIGH LOW EDGES`: 128 lines of at most 67 bytes, which the buffer holds.
-fn pin_line(out: &mut [u8; OUT], n: usize, pin: usize, figures: &[u64; FIGURES]) -> usize {
-    if 128 <= pin {
-        return n;
-    }
-    let at = 3 * pin;
-    let a = reply::number(out, n, pin as u64);
-    let b = reply::put(out, a, b' ');
-    let c = reply::number(out, b, figures[at]);
-    let d = reply::put(out, c, b' ');
-    let e = reply::number(out, d, figures[at + 1]);
-    let f = reply::put(out, e, b' ');
-    let g = reply::number(out, f, figures[at + 2]);
-    reply::put(out, g, b'\n')
-}
-
-// `NUMBER HIGH`, and where NUMBER is 0 a line for each pin.
-fn report(kept: &[u64; KEPT], out: &mut [u8; OUT]) -> usize {
-    let mut figures = [0u64; FIGURES];
-    let r = shift::shift_end(kept, &mut figures);
-    let a = reply::number(out, 0, r.number as u64);
-    let b = reply::put(out, a, b' ');
-    let c = reply::number(out, b, r.high as u64);
-    let mut n = reply::put(out, c, b'\n');
-    let mut pin = 0;
-    while pin < 128 {
-        if r.number == 0 {
-            n = pin_line(out, n, pin, &figures);
+    // Takes the input, to its end or to the first byte that is wrong. A proved loop has to end, and nothing says that the input does:
+    // so it has more turns than any run uses up.
+    fn take(&mut self, input: &mut impl Read) -> io::Result<Result<(), Reason>> {
+        let mut part = [0; BYTES];
+        for _ in 0..u64::MAX {
+            let n = input.read(&mut part)?;
+            if n == 0 {
+                break;
+            }
+            if let Err(reason) = self.pass(&part[..n]) {
+                return Ok(Err(reason));
+            }
         }
-        pin += 1;
+        Ok(self.end())
     }
-    n
+
+    // `NUMBER HIGH`, and where NUMBER is 0 a line `PIN HIGH LOW EDGES` for each pin: 128 lines of at most 67 bytes, which the buffer holds.
+    fn report<R: Print>(&self, output: &mut Output<'_, R>) {
+        let mut figures = [0; FIGURES];
+        let summary = shift::shift_end(&self.kept, &mut figures);
+        output.number(u64::from(summary.number));
+        output.put(b' ');
+        output.number(u64::from(summary.high));
+        output.put(b'\n');
+        if summary.number != 0 {
+            return;
+        }
+        for (pin, of_pin) in (0..).zip(figures.chunks_exact(3)) {
+            output.number(pin);
+            for figure in of_pin {
+                output.put(b' ');
+                output.number(*figure);
+            }
+            output.put(b'\n');
+        }
+    }
 }
 
-// The input has ended, perhaps in the middle of a line, or was wrong before: what there is to write.
-fn told(
-    rt: &impl Print,
-    reason: u8,
-    state: &mut [u64; STATE],
-    first: &mut [u64; 6],
-    kept: &mut [u64; KEPT],
-    out: &mut [u8; OUT],
-) -> usize {
-    if reason != GO_ON {
-        return reply::malformed(rt, out, 0, state[LINE], reason);
+// Why the report is missing or not whole.
+#[derive(Drop)]
+enum Stop {
+    Read,
+    Write(Failure),
+}
+
+impl From<Failure> for Stop {
+    fn from(failure: Failure) -> Stop {
+        Stop::Write(failure)
     }
-    let line = state[LINE];
-    let e = line_end(state, first, kept);
-    if e != GO_ON {
-        return reply::malformed(rt, out, 0, line, e);
+}
+
+impl From<io::Error> for Stop {
+    fn from(_: io::Error) -> Stop {
+        Stop::Read
     }
-    if state[BEGUN] == 0 {
-        return reply::malformed(rt, out, 0, line, MISSING);
+}
+
+// A report of a part of the input would be a wrong one: if it cannot be read to its end there is none.
+fn run<R: Print>(input: &mut impl Read, output: &mut Output<'_, R>) -> Result<(), Stop> {
+    let mut shift = Shift::new();
+    match shift.take(input)? {
+        Ok(()) => shift.report(output),
+        Err(reason) => output.malformed(shift.line, reason)?,
     }
-    report(kept, out)
+    output.flush()?;
+    Ok(())
 }
 
 // Tells something on standard error, if that can be written.
@@ -409,70 +372,17 @@ fn tell(rt: &impl Eprint, text: &str) {
     let _ = rt.eprint(text);
 }
 
-// What could not be written is told on standard error, and the exit status is 0 all the same. Where nobody reads any more nothing is told, and the
-// status is what a shell gives for a program that SIGPIPE ends.
-fn ended(rt: &impl Eprint, left: usize) -> ExitCode {
-    if reply::is_unread(left) {
-        return ExitCode::from(141);
-    }
-    if left != 0 {
-        tell(rt, "shifts: a write failed: the report is not whole\n");
+// What could not be read or written is told on standard error, and the exit status is 0 all the same. Where nobody reads any more nothing is told,
+// and the status is what a shell gives for a program that SIGPIPE ends.
+fn main(rt: HostRuntime) -> ExitCode {
+    let mut output = Output::new(&rt);
+    match run(&mut rt.stdin(), &mut output) {
+        Ok(()) => {}
+        Err(Stop::Read) => tell(&rt, "shifts: a read failed: there is no report\n"),
+        Err(Stop::Write(Failure::Lost)) => {
+            tell(&rt, "shifts: a write failed: the report is not whole\n");
+        }
+        Err(Stop::Write(Failure::Unread)) => return ExitCode::from(141),
     }
     ExitCode::SUCCESS
-}
-
-// A report of a part of the input would be a wrong one: if it cannot be read to its end there is none.
-fn finish(
-    rt: &(impl Print + Eprint),
-    reason: u8,
-    state: &mut [u64; STATE],
-    first: &mut [u64; 6],
-    kept: &mut [u64; KEPT],
-    out: &mut [u8; OUT],
-) -> ExitCode {
-    if reason == UNREAD {
-        tell(rt, "shifts: a read failed: there is no report\n");
-        return ExitCode::SUCCESS;
-    }
-    let n = told(rt, reason, state, first, kept, out);
-    ended(rt, reply::send(rt, out, n))
-}
-
-// Reads a part of the input and takes it: GO_ON, END, UNREAD, or a reason.
-fn turn(
-    input: &mut impl Read,
-    state: &mut [u64; STATE],
-    first: &mut [u64; 6],
-    kept: &mut [u64; KEPT],
-) -> u8 {
-    let mut part = [0u8; BYTES];
-    let n = match input.read(&mut part) {
-        Ok(n) => n,
-        Err(_) => return UNREAD,
-    };
-    if n == 0 {
-        return END;
-    }
-    pass(&part[..n], state, first, kept)
-}
-
-// A proved loop has to end, and nothing says that the input does. So the loop counts its turns down from a number that no run
-// uses up.
-fn main(rt: HostRuntime) -> ExitCode {
-    let mut state = [0u64; STATE];
-    state[LINE] = 1;
-    let mut first = [0u64; 6];
-    let mut kept = [0u64; KEPT];
-    let mut out = [0u8; OUT];
-    let mut input = rt.stdin();
-    let mut reason = GO_ON;
-    let mut turns = u64::MAX;
-    while turns > 0 && reason == GO_ON {
-        reason = turn(&mut input, &mut state, &mut first, &mut kept);
-        turns -= 1;
-    }
-    if reason == END {
-        reason = GO_ON;
-    }
-    finish(&rt, reason, &mut state, &mut first, &mut kept, &mut out)
 }

@@ -21,17 +21,11 @@ pub fn tim(timer: u8, ch: u8) -> u16
 }
 
 // Whether `s` is signal `k` of a UART.
+#[tactic(auto, unfolding(crate::specs::Signal::is_uart))]
 fn is_uart(s: u16, k: u16) -> bool
     ensures { result ≡ is_uart s k }
 {
-    let p = s / 16;
-    if p < 1 {
-        return false;
-    }
-    if p > UARTS as u16 {
-        return false;
-    }
-    s % 16 == k
+    (1..=u16::from(UARTS)).contains(&(s / 16)) && s % 16 == k
 }
 
 // Whether `s` is an input signal: a UART's receive signal.
@@ -45,5 +39,5 @@ pub fn is_input(s: u16) -> bool
 pub fn idle_level(s: u16) -> u8
     ensures { result ≡ idle_level s }
 {
-    if is_uart(s, 0) { 1 } else { 0 }
+    u8::from(is_uart(s, 0))
 }

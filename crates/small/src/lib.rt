@@ -7,9 +7,9 @@ ghost use Rattle.small.specs.Small.{count, given, nothing, listed};
 // The largest n that is served.
 pub const WIDEST: u32 = 7;
 
-// A number, 0 or 12, and a setting: down is 0 for up, 1 for down.
+// As C is handed it: a number, 0 or 12, and a setting: down is 0 for up, 1 for down.
 #[repr(C)]
-#[derive(Clone, Copy)]
+#[derive(Clone, Copy, Default)]
 pub struct Listed {
     pub number: u32,
     pub reload: u32,
@@ -20,6 +20,7 @@ pub struct Listed {
 }
 
 // How many there are.
+#[tactic(auto, unfolding(crate::specs::Small::count))]
 fn size(n: u32) -> u32
     requires { n ≤ 7 }
     ensures { result ≡ count n }
@@ -28,29 +29,19 @@ fn size(n: u32) -> u32
     4 * square * (n + 2)
 }
 
-// No setting.
-fn nothing(number: u32) -> Listed
-    ensures { result ≡ given number nothing }
-{
-    Listed {
-        number,
-        reload: 0,
-        prescaler: 0,
-        compare: 0,
-        mode: 0,
-        down: 0,
-    }
-}
-
 // The setting at place k of those up to n.
+#[tactic(auto, unfolding(crate::specs::Small::listed))]
 pub fn pilot(n: u32, k: u32) -> Listed
     ensures { result ≡ listed n k }
 {
     if n > WIDEST {
-        return nothing(12);
+        return Listed {
+            number: 12,
+            ..Listed::default()
+        };
     }
     if k >= size(n) {
-        return nothing(0);
+        return Listed::default();
     }
     let compares = k / 4;
     let prescalers = compares / (n + 2);

@@ -13,6 +13,7 @@ use lib.Ieee.{Float, nan}
 use Rattle.nvic.specs.Nvic.{line_of, line_at}
 use Rattle.nvic.proofs.Laws.{word_at}
 use Rattle.scheduler.specs.Booking.{rebook}
+use Rattle.pins.specs.Pins.{source_of}
 use Rattle.gpio.specs.declared.Gpio.{Gpio}
 use Rattle.codec.specs.Codec.{decode_timer}
 use Rattle.codec.specs.Pin.{decode_gpio}
@@ -154,9 +155,9 @@ module _ (w : List ℕ) (x : List Float) where
     unfolding decode_gpio
     pin_level_lem = ap (λ (g : Gpio). g.pin.level) (gpio-read p h) ∙ ap (λ (n : ℕ). n % 2) (gpio-word p 14 (lit≤ tt))
 
-    pub pin-source : (pin_at (view w x) p).pin.source ≡ (get_or w (1116 + (p * 16 + 14)) 0 / 2 % 4 + 3) % 4 + 1
+    pub pin-source : (pin_at (view w x) p).pin.source ≡ source_of (get_or w (1116 + (p * 16 + 14)) 0 / 2 % 4)
     unfolding decode_gpio
-    pin-source = ap (λ (g : Gpio). g.pin.source) (gpio-read p h) ∙ ap (λ (n : ℕ). (n / 2 % 4 + 3) % 4 + 1) (gpio-word p 14 (lit≤ tt))
+    pin-source = ap (λ (g : Gpio). g.pin.source) (gpio-read p h) ∙ ap (λ (n : ℕ). source_of (n / 2 % 4)) (gpio-word p 14 (lit≤ tt))
 
     pub pin-signal : (pin_at (view w x) p).sig ≡ get_or w (1116 + (p * 16 + 15)) 0 % 256
     unfolding decode_gpio

@@ -6,15 +6,17 @@ ghost use Rattle.std.proofs.Math.Seq.{paste};
 ghost use Rattle.tim.specs.Timer.{Fit};
 ghost use Rattle.gpio.specs.Gpio.{GpioFit};
 ghost use Rattle.nvic.specs.Nvic.{set_line, clear_pending, line_at, state_of};
-ghost use Rattle.scheduler.specs.Booking.{least};
+ghost use Rattle.scheduler.specs.Booking.{holding, least};
 ghost use Rattle.machine.specs.Board.{timer_at, with_timer, with_nvic, with_last};
 ghost use Rattle.state.specs.Board.{Divided, pin_at, route_at, sig_level_at, af_at, enr_at, booked_at, with_inst, pin_set, with_af_at, route_set, sig_level_set, booking_set, with_tree, with_clock, with_enr, with_sizes};
+ghost use Rattle.state.specs.Lent.{lent_board, seen_board, SameLoan};
 ghost use Rattle.state.specs.Parts.{front};
 ghost use Rattle.state.specs.View.{view, divider_held, tree_of};
 
 use clk::ClockTree;
 use gpio::Gpio;
 use pins::ClockModel;
+use scheduler::Scheduler;
 use tim::Timer;
 
 // ---- the layout: this crate's, and of fields, levels and blank, which store words of it
@@ -78,50 +80,142 @@ const SPARE_REALS: usize = 261;
 
 pub const REALS: usize = 264;
 
+// ---- the lent memory
+
+// The words and the reals of one board, lent to be changed.
+#[derive(Drop)]
+pub struct LentBoard<'a> {
+    pub words: &'a mut [u64; WORDS],
+    pub reals: &'a mut [f64; REALS],
+}
+
+// The same, lent to be read.
+#[derive(Clone, Copy)]
+pub struct SeenBoard<'a> {
+    pub words: &'a [u64; WORDS],
+    pub reals: &'a [f64; REALS],
+}
+
+impl SeenBoard<'_> {
+    // Pin p.
+    pub fn load_gpio(self, p: usize) -> Gpio
+        requires { p < 128 }
+        ensures { result ≡ pin_at (seen_board self.entry) p }
+    {
+        let mut b = [0u64; 16];
+        get(self.words, GPIO + p * codec::GPIO_WORDS, &mut b);
+        codec::unpack_gpio(
+            b,
+            self.reals[GPIO_REALS + p * 2],
+            self.reals[GPIO_REALS + (p * 2 + 1)],
+        )
+    }
+
+    pub fn tree(self) -> ClockTree
+        ensures { result ≡ (seen_board self.entry).clocks.tree }
+    {
+        ClockTree {
+            sysclk_hz: self.reals[SYSCLK_HZ],
+            hclk_hz: self.reals[HCLK_HZ],
+            ppre1: divider_of(self.words[DIVIDERS]),
+            ppre2: divider_of(self.words[DIVIDERS + 1]),
+            ppre3: divider_of(self.words[DIVIDERS + 2]),
+            ppre4: divider_of(self.words[DIVIDERS + 3]),
+            tim1: divider_of(self.words[DIVIDERS + 4]),
+            tim2: divider_of(self.words[DIVIDERS + 5]),
+        }
+    }
+
+    pub fn clock(self) -> ClockModel
+        ensures { result ≡ (seen_board self.entry).clocks.clock }
+    {
+        ClockModel {
+            hz: self.reals[HZ],
+            seg_cycle: self.words[SEG_CYCLE],
+            seg_time: self.reals[SEG_TIME],
+        }
+    }
+}
+
+impl LentBoard<'_> {
+    pub fn seen(&self) -> SeenBoard<'_>
+        ensures words { result.words.now ≡ self.now.words.now }
+        ensures reals { result.reals.now ≡ self.now.reals.now }
+    {
+        SeenBoard {
+            words: self.words,
+            reals: self.reals,
+        }
+    }
+
+    // Pin p.
+    pub fn load_gpio(&self, p: usize) -> Gpio
+        requires { p < 128 }
+        ensures { result ≡ pin_at (lent_board self.now) p }
+    {
+        let board = self.seen();
+        board.load_gpio(p)
+    }
+
+    pub fn store_gpio(&mut self, p: usize, g: Gpio)
+        requires { (p < 128) × (GpioFit g) }
+        ensures same_loan { SameLoan self.old self.new }
+        ensures board { lent_board self.new ≡ pin_set (lent_board self.old) p g }
+    {
+        known_lengths(self.words, self.reals);
+        let b = codec::pack_gpio(g);
+        put(self.words, GPIO + p * codec::GPIO_WORDS, &b);
+        self.reals[GPIO_REALS + p * 2] = g.pin.volts;
+        self.reals[GPIO_REALS + (p * 2 + 1)] = codec::ext_volts(g);
+    }
+
+    pub fn set_tree(&mut self, t: ClockTree)
+        requires { Divided t }
+        ensures same_loan { SameLoan self.old self.new }
+        ensures board { lent_board self.new ≡ with_tree (lent_board self.old) t }
+    {
+        known_lengths(self.words, self.reals);
+        let b = pack_dividers(t);
+        put(self.words, DIVIDERS, &b);
+        self.reals[SYSCLK_HZ] = t.sysclk_hz;
+        self.reals[HCLK_HZ] = t.hclk_hz;
+    }
+
+    pub fn set_clock(&mut self, k: ClockModel)
+        ensures same_loan { SameLoan self.old self.new }
+        ensures board { lent_board self.new ≡ with_clock (lent_board self.old) k }
+    {
+        known_lengths(self.words, self.reals);
+        self.words[SEG_CYCLE] = k.seg_cycle;
+        self.reals[HZ] = k.hz;
+        self.reals[SEG_TIME] = k.seg_time;
+    }
+}
+
+// The check knows an array's length where it is a parameter, and not where a struct lends it. Nothing is done.
+pub fn known_lengths(words: &[u64; WORDS], reals: &[f64; REALS])
+    ensures words { length words.now ≡ 5276 }
+    ensures reals { length reals.now ≡ 264 }
+{}
+
 // ---- blocks of words
 
-fn seen(s: &[u64]) {}
-
-fn seen_reals(s: &[f64]) {}
-
-// The words are as many as their type says. Nothing is done.
-pub fn sized(words: &[u64; WORDS])
-    ensures { length words.now ≡ 5276 }
-{
-    seen(words);
-}
-
-// The reals the same.
-pub fn sized_reals(reals: &[f64; REALS])
-    ensures { length reals.now ≡ 264 }
-{
-    seen_reals(reals);
-}
-
 // Copies words from `at` on.
+#[inline(always)]
 fn get(words: &[u64; WORDS], at: usize, b: &mut [u64])
     requires { at + length b.old ≤ 5276 }
     ensures { b.new ≡ front 0 (length b.old) (drop at words.now) }
 {
-    sized(words);
-    let mut j = 0;
-    while j < b.len() {
-        b[j] = words[at + j];
-        j += 1;
-    }
+    b.copy_from_slice(&words[at..at + b.len()]);
 }
 
 // Copies b to the words from `at` on.
+#[inline(always)]
 fn put(words: &mut [u64; WORDS], at: usize, b: &[u64])
     requires { at + length b.now ≤ 5276 }
     ensures { words.new ≡ paste words.old at b.now (length b.now) }
 {
-    sized(words);
-    let mut j = 0;
-    while j < b.len() {
-        words[at + j] = b[j];
-        j += 1;
-    }
+    words[at..at + b.len()].copy_from_slice(b);
 }
 
 // ---- timers
@@ -139,7 +233,6 @@ pub fn store_timer(words: &mut [u64; WORDS], i: usize, t: Timer)
     requires { (i < 8) × (Fit t) }
     ensures { (x : List Float) → view words.new x ≡ with_timer (view words.old x) i t }
 {
-    sized(words);
     let b = codec::pack_timer(t);
     put(words, TIMERS + i * codec::TIMER_WORDS, &b);
 }
@@ -149,37 +242,11 @@ pub fn store_live(words: &mut [u64; WORDS], i: usize, t: Timer)
     requires { (i < 8) × (Fit t) }
     ensures { (x : List Float) → view words.new x ≡ with_timer (view words.old x) i (with_inst t (timer_at (view words.old x) i).inst) }
 {
-    sized(words);
     let b = codec::pack_timer(t);
     put(words, TIMERS + (i * codec::TIMER_WORDS + 7), &b[7..39]);
 }
 
 // ---- pins
-
-pub fn load_gpio(words: &[u64; WORDS], reals: &[f64; REALS], p: usize) -> Gpio
-    requires { p < 128 }
-    ensures { result ≡ pin_at (view words.now reals.now) p }
-{
-    let mut b = [0u64; 16];
-    get(words, GPIO + p * codec::GPIO_WORDS, &mut b);
-    codec::unpack_gpio(
-        b,
-        reals[GPIO_REALS + p * 2],
-        reals[GPIO_REALS + (p * 2 + 1)],
-    )
-}
-
-pub fn store_gpio(words: &mut [u64; WORDS], reals: &mut [f64; REALS], p: usize, g: Gpio)
-    requires { (p < 128) × (GpioFit g) }
-    ensures { view words.new reals.new ≡ pin_set (view words.old reals.old) p g }
-{
-    sized(words);
-    sized_reals(reals);
-    let b = codec::pack_gpio(g);
-    put(words, GPIO + p * codec::GPIO_WORDS, &b);
-    reals[GPIO_REALS + p * 2] = g.pin.volts;
-    reals[GPIO_REALS + (p * 2 + 1)] = codec::ext_volts(g);
-}
 
 // The signal of function f of pin p.
 pub fn af(words: &[u64; WORDS], p: usize, f: usize) -> u32
@@ -194,7 +261,6 @@ pub fn set_af(words: &mut [u64; WORDS], k: usize, s: u32)
     requires { (k < 2048) × (s < 256) }
     ensures { (x : List Float) → view words.new x ≡ with_af_at (view words.old x) k s }
 {
-    sized(words);
     words[AF + k] = s as u64;
 }
 
@@ -225,7 +291,6 @@ pub fn set_route(words: &mut [u64; WORDS], s: usize, p: usize)
     requires { (s < 256) × (p ≤ 128) }
     ensures { (x : List Float) → view words.new x ≡ route_set (view words.old x) s p }
 {
-    sized(words);
     words[ROUTE + s] = p as u64;
 }
 
@@ -240,7 +305,6 @@ pub fn set_sig_level(words: &mut [u64; WORDS], s: usize, level: u8)
     requires { (s < 256) × (level ≤ 1) }
     ensures { (x : List Float) → view words.new x ≡ sig_level_set (view words.old x) s level }
 {
-    sized(words);
     words[SIG_LEVEL + s] = level as u64;
 }
 
@@ -250,21 +314,6 @@ fn divider_of(w: u64) -> u32
     ensures { result ≡ divider_held w }
 {
     (w % 8192 + 1) as u32
-}
-
-pub fn tree(words: &[u64; WORDS], reals: &[f64; REALS]) -> ClockTree
-    ensures { result ≡ (view words.now reals.now).clocks.tree }
-{
-    ClockTree {
-        sysclk_hz: reals[SYSCLK_HZ],
-        hclk_hz: reals[HCLK_HZ],
-        ppre1: divider_of(words[DIVIDERS]),
-        ppre2: divider_of(words[DIVIDERS + 1]),
-        ppre3: divider_of(words[DIVIDERS + 2]),
-        ppre4: divider_of(words[DIVIDERS + 3]),
-        tim1: divider_of(words[DIVIDERS + 4]),
-        tim2: divider_of(words[DIVIDERS + 5]),
-    }
 }
 
 // The six dividers as words.
@@ -282,38 +331,6 @@ fn pack_dividers(t: ClockTree) -> [u64; 6]
     ]
 }
 
-pub fn set_tree(words: &mut [u64; WORDS], reals: &mut [f64; REALS], t: ClockTree)
-    requires { Divided t }
-    ensures { view words.new reals.new ≡ with_tree (view words.old reals.old) t }
-{
-    sized(words);
-    sized_reals(reals);
-    let b = pack_dividers(t);
-    put(words, DIVIDERS, &b);
-    reals[SYSCLK_HZ] = t.sysclk_hz;
-    reals[HCLK_HZ] = t.hclk_hz;
-}
-
-pub fn clock(words: &[u64; WORDS], reals: &[f64; REALS]) -> ClockModel
-    ensures { result ≡ (view words.now reals.now).clocks.clock }
-{
-    ClockModel {
-        hz: reals[HZ],
-        seg_cycle: words[SEG_CYCLE],
-        seg_time: reals[SEG_TIME],
-    }
-}
-
-pub fn set_clock(words: &mut [u64; WORDS], reals: &mut [f64; REALS], k: ClockModel)
-    ensures { view words.new reals.new ≡ with_clock (view words.old reals.old) k }
-{
-    sized(words);
-    sized_reals(reals);
-    words[SEG_CYCLE] = k.seg_cycle;
-    reals[HZ] = k.hz;
-    reals[SEG_TIME] = k.seg_time;
-}
-
 pub fn enr(words: &[u64; WORDS], i: usize) -> u32
     requires { i < 9 }
     ensures { (x : List Float) → result ≡ enr_at (view words.now x) i }
@@ -325,47 +342,43 @@ pub fn set_enr(words: &mut [u64; WORDS], i: usize, v: u32)
     requires { i < 9 }
     ensures { (x : List Float) → view words.new x ≡ with_enr (view words.old x) i v }
 {
-    sized(words);
     words[ENR + i] = v as u64;
 }
 
 // ---- booking
 
-// The table of the booked cycles.
-fn bookings(words: &[u64; WORDS]) -> [u64; 8]
-    ensures { (x : List Float) → result ≡ (view words.now x).booking }
+// The booked cycles.
+fn bookings(words: &[u64; WORDS]) -> Scheduler
+    ensures { (x : List Float) → result ≡ holding (view words.now x).booking }
 {
     let mut cycles = [0u64; 8];
     get(words, BOOKING, &mut cycles);
-    cycles
+    Scheduler::from(cycles)
 }
 
 pub fn booked(words: &[u64; WORDS], owner: usize) -> u64
     requires { owner < 8 }
     ensures { (x : List Float) → result ≡ booked_at (view words.now x) owner }
 {
-    let cycles = bookings(words);
-    scheduler::booked_at(cycles, owner)
+    bookings(words).is_scheduled(owner)
 }
 
-// Books owner at a cycle, or cancels its booking by the cycle 2^64 - 1. All booking goes through here: the table is lent to the
-// scheduler, and the one word that changed is stored.
+// Books owner at a cycle, or cancels its booking by the cycle 2^64 - 1. All booking goes through here: the bookings are lent to the
+// scheduler's method, and the one word that changed is stored.
 pub fn book(words: &mut [u64; WORDS], owner: usize, cycle: u64)
     requires { owner < 8 }
     ensures { (x : List Float) → view words.new x ≡ booking_set (view words.old x) owner cycle }
 {
-    sized(words);
-    let cycles = bookings(words);
-    let next = scheduler::book(cycles, owner, cycle);
-    words[BOOKING + owner] = next[owner];
+    let mut scheduler = bookings(words);
+    scheduler.book(owner, cycle);
+    words[BOOKING + owner] = scheduler.cycles[owner];
 }
 
 // The least booked cycle.
 pub fn next_booked(words: &[u64; WORDS]) -> u64
     ensures { (x : List Float) → result ≡ least (view words.now x).booking }
 {
-    let cycles = bookings(words);
-    scheduler::next_of(cycles)
+    bookings(words).next()
 }
 
 // ---- interrupt lines
@@ -385,7 +398,6 @@ pub fn set_line(words: &mut [u64; WORDS], irq: u32, i: usize, level: bool)
     requires { i < 8 }
     ensures { (x : List Float) → view words.new x ≡ with_nvic (view words.old x) (set_line (view words.old x).nvic irq i level) }
 {
-    sized(words);
     let n = irq as usize;
     if has_line(words, n) {
         let at = LINES + n;
@@ -397,7 +409,6 @@ pub fn set_line(words: &mut [u64; WORDS], irq: u32, i: usize, level: bool)
 pub fn clear_pending(words: &mut [u64; WORDS], irq: u32)
     ensures { (x : List Float) → view words.new x ≡ with_nvic (view words.old x) (clear_pending (view words.old x).nvic irq) }
 {
-    sized(words);
     let n = irq as usize;
     if has_line(words, n) {
         let at = LINES + n;
@@ -445,7 +456,6 @@ pub fn set_sizes(words: &mut [u64; WORDS], timers: usize, pins: usize, lines: u3
     requires { (timers ≤ 8) × ((pins ≤ 128) × (lines ≤ 256)) }
     ensures { (x : List Float) → view words.new x ≡ with_sizes (view words.old x) timers pins lines }
 {
-    sized(words);
     words[TIMER_COUNT] = timers as u64;
     words[PIN_COUNT] = pins as u64;
     words[LINE_COUNT] = lines as u64;
@@ -460,7 +470,6 @@ pub fn last_cycle(words: &[u64; WORDS]) -> u64
 pub fn set_last(words: &mut [u64; WORDS], cycle: u64)
     ensures { (x : List Float) → view words.new x ≡ with_last (view words.old x) cycle }
 {
-    sized(words);
     words[LAST] = cycle;
 }
 

@@ -9,11 +9,12 @@ use lib.Ieee.{Float}
 use lib.ListN.{length}
 use lib.Seq.{get_or-set_same}
 use borrow.Author.Tests.{eq-eqb, ne_eqb}
+use Rattle.pins.specs.declared.Source.{Source}
 use Rattle.pins.specs.Pins.{by_chip}
 use Rattle.gpio.specs.declared.Gpio.{Gpio}
 use Rattle.gpio.specs.declared.PinCfg.{PinCfg}
-use Rattle.gpio.specs.declared.Change.{Change}
-use Rattle.gpio.specs.declared.Change.TheVariants.{Same}
+use Rattle.std.specs.Prelude.{Option, None}
+use Rattle.gpio.specs.declared.Edge.{Edge}
 use Rattle.gpio.specs.declared.Moved.{Moved}
 use Rattle.gpio.specs.Gpio.{signal_of, drives, changed, updated, refreshed, is_push_pull, push_pull, configured}
 use Rattle.gpio.proofs.Laws.{level-change, own-signal, signal-wins}
@@ -33,24 +34,16 @@ module _ (b b₁ : Board) (i : ℕ) (g : Gpio) (v : Float) (m : Moved) (load : g
   unfolding update_pin
   update-moves h = moved (updated i (gpio_at b.pads i) b.pads.vcc) (h ∙ ap (λ (x : Gpio). updated i x v) load ∙ ap (updated i (gpio_at b.pads i)) supply) _ refl
 
-  pub refresh-sets : (s l : ℕ) → s ≡ signal_of g → l ≡ level_of b.pads s → m ≡ refreshed i g l v → b₁ ≡ with_pads b (refresh_pin b.pads i).pads
+  pub loaded-moves : (s l : ℕ) → s ≡ signal_of g → l ≡ level_of b.pads s → m ≡ refreshed i g l v → Moves (refresh_pin b.pads i) b b₁ m.change
   unfolding refresh_pin
-  refresh-sets s l q r h =
-      (moved (refreshed i (gpio_at b.pads i) (level_of b.pads (signal_of (gpio_at b.pads i))) b.pads.vcc)
+  loaded-moves s l q r h =
+      moved (refreshed i (gpio_at b.pads i) (level_of b.pads (signal_of (gpio_at b.pads i))) b.pads.vcc)
       (h ∙ ap (λ (x : ℕ). refreshed i g x v) (r ∙ ap (level_of b.pads) q)
       ∙ ap (λ (x : Gpio). refreshed i x (level_of b.pads (signal_of x)) v) load
       ∙ ap (refreshed i (gpio_at b.pads i) (level_of b.pads (signal_of (gpio_at b.pads i)))) supply)
-      (refresh_pin b.pads i) refl).board
+      (refresh_pin b.pads i) refl
 
 -- ---- a pin refreshed
-pub both_left : (x y : Bool) → x && y ≡ true → x ≡ true
-both_left true y e = refl
-both_left false y e = e
-
-pub both_right : (x y : Bool) → x && y ≡ true → y ≡ true
-both_right true y e = e
-both_right false y e = absurd (let z : ◌≡◌ {A = ℕ} 0 1 = cc in omega arith)
-
 module _ (b b₁ : Board) (i : ℕ) where
   -- a push-pull pin that its signal drives
   push-sets : (s l : ℕ) → is_push_pull (gpio_at b.pads i).cfg ≡ true → s ≡ (gpio_at b.pads i).sig → drives s ≡ true → l ≡ level_of b.pads s
@@ -81,9 +74,9 @@ module _ (b b₁ : Board) (i : ℕ) where
       ∙ ap (λ (x : Gpio). x.pin.source) (get_or-set_same b.pads.gpio i (push_pull (gpio_at b.pads i) l b.pads.vcc) no_gpio h))
 
   -- its change, from its level before and after, and its source after
-  pub refresh-moves : i < length b.pads.gpio → b₁ ≡ with_pads b (refresh_pin b.pads i).pads
-      → (was now by : ℕ) → was ≡ (gpio_at b.pads i).pin.level → now ≡ (gpio_at b₁.pads i).pin.level → by ≡ (gpio_at b₁.pads i).pin.source
-      → (r : Change) → r ≡ changed i was now by → Moves (refresh_pin b.pads i) b b₁ r
+  refresh-moves : i < length b.pads.gpio → b₁ ≡ with_pads b (refresh_pin b.pads i).pads
+      → (was now : ℕ) (by : Source) → was ≡ (gpio_at b.pads i).pin.level → now ≡ (gpio_at b₁.pads i).pin.level → by ≡ (gpio_at b₁.pads i).pin.source
+      → (r : Option Edge) → r ≡ changed i was now by → Moves (refresh_pin b.pads i) b b₁ r
   unfolding refresh_pin
   refresh-moves h e was now by p q o r c =
       let g : Gpio = gpio_at b.pads i in
@@ -105,7 +98,7 @@ module _ (b b₁ : Board) (i : ℕ) where
   pub push-moves : i < length b.pads.gpio → (s l was : ℕ) → is_push_pull (gpio_at b.pads i).cfg ≡ true → s ≡ (gpio_at b.pads i).sig → drives s ≡ true
       → l ≡ level_of b.pads s → was ≡ (gpio_at b.pads i).pin.level
       → b₁ ≡ with_pads b (with_gpio b.pads i (push_pull (gpio_at b.pads i) l b.pads.vcc))
-      → (r : Change) → r ≡ changed i was l by_chip → Moves (refresh_pin b.pads i) b b₁ r
+      → (r : Option Edge) → r ≡ changed i was l by_chip → Moves (refresh_pin b.pads i) b b₁ r
   push-moves h s l was p q d k o e r c = refresh-moves h (push-sets s l p q d k e) was l by_chip o (push-level l h e) (push-source l h e) r c
 
 -- ---- a pin configured, and its routes
@@ -124,19 +117,15 @@ select-sets b b₁ b₂ b₃ i g g₁ c f new load sel conf p q r =
     r ∙ ap (λ (y : Board). with_pads y (take y.pads i new)) e₂ ∙ ap (λ (n : ℕ). with_pads x₂ (take x₂.pads i n)) sel
 
 -- one thing done to the pads, then a pin moved
-pub then-moves : (b b₁ b₂ : Board) (p : Pads) (f : Pads → Move) (r : Change) → b₁ ≡ with_pads b p → Moves (f b₁.pads) b₁ b₂ r → Moves (f p) b b₂ r
+pub then-moves : (b b₁ b₂ : Board) (p : Pads) (f : Pads → Move) (r : Option Edge) → b₁ ≡ with_pads b p → Moves (f b₁.pads) b₁ b₂ r → Moves (f p) b b₂ r
 then-moves b b₁ b₂ p f r e m = record {
   board = m.board ∙ ap (λ (y : Board). with_pads y (f y.pads).pads) e;
   change = m.change ∙ ap (λ (y : Board). (f y.pads).change) e;
 }
 
--- the change as another call told it
-pub told : (m : Move) (b b₁ : Board) (c r : Change) → r ≡ c → Moves m b b₁ c → Moves m b b₁ r
-told m b b₁ c r e h = record { board = h.board; change = e ∙ h.change }
-
 -- ---- a signal
 module _ (b : Board) (s l : ℕ) where
-  pub sig_same : level_of b.pads s ≡ l → Moves (sig_out b.pads s l) b b Same
+  pub sig_same : level_of b.pads s ≡ l → Moves (sig_out b.pads s l) b b None
   unfolding sig_out
   sig_same h = simp (eq-eqb (level_of b.pads s) l h) (record { board = refl; change = refl })
 
@@ -144,11 +133,11 @@ module _ (b : Board) (s l : ℕ) where
     routed : route_of b₁.pads s ≡ route_of b.pads s
     routed = ap (λ (y : Board). route_of y.pads s) e
 
-    pub sig_none : route_of b₁.pads s ≡ 128 → Moves (sig_out b.pads s l) b b₁ Same
+    pub sig_none : route_of b₁.pads s ≡ 128 → Moves (sig_out b.pads s l) b b₁ None
     unfolding sig_out
     sig_none h = simp (ne_eqb (level_of b.pads s) l n, eq-eqb (route_of b.pads s) 128 (sym routed ∙ h)) (record { board = e; change = refl })
 
-    pub sig-pin : (p : ℕ) → p ≡ route_of b₁.pads s → (p ≡ 128 → ⊥) → (b₂ : Board) (r : Change) → Moves (refresh_pin b₁.pads p) b₁ b₂ r
+    pub sig-pin : (p : ℕ) → p ≡ route_of b₁.pads s → (p ≡ 128 → ⊥) → (b₂ : Board) (r : Option Edge) → Moves (refresh_pin b₁.pads p) b₁ b₂ r
         → Moves (sig_out b.pads s l) b b₂ r
     unfolding sig_out
     sig-pin p q k b₂ r m =
@@ -160,13 +149,13 @@ module _ (b : Board) (s l : ℕ) where
 -- i pins of n are reset: what is left leads to the same pads and the same book
 pub record Resetting (n cycle i : ℕ) (b : Board) (k₀ : Book) (y : Board) (k : Book) : Type 0 where
   pub within : i ≤ n
-  pub few : k.count ≤ i
+  pub few : k.count ≤ k₀.count + i
   pub board : y ≡ with_pads b y.pads
   pub pads : (reset_from (n - i) i y.pads).pads ≡ (reset_from n 0 b.pads).pads
   pub entries : puts k (changes_of cycle (reset_from (n - i) i y.pads).changes) ≡ puts k₀ (changes_of cycle (reset_from n 0 b.pads).changes)
 
-pub reset-begins : (n cycle : ℕ) (b : Board) (k₀ : Book) → k₀.count ≡ 0 → Resetting n cycle 0 b k₀ b k₀
-reset-begins n cycle b k₀ h = record {
+pub reset-begins : (n cycle : ℕ) (b : Board) (k₀ : Book) → Resetting n cycle 0 b k₀ b k₀
+reset-begins n cycle b k₀ = record {
   within = omega arith;
   few = omega arith;
   board = refl;
@@ -194,7 +183,7 @@ unfolding reset_from changes_of puts
 none-entries k i cycle p = refl
 
 module _ (n cycle i : ℕ) (b : Board) (k₀ : Book) (y : Board) (k : Book) (h : Resetting n cycle i b k₀ y k) where
-  pub reset-goes : i < n → (y₁ : Board) (c : Change) → Moves (reset_pin y.pads i) y y₁ c → (k₁ : Book) → k₁ ≡ puts k (entry_of cycle c) → k₁.count ≤ k.count + 1
+  pub reset-goes : i < n → (y₁ : Board) (c : Option Edge) → Moves (reset_pin y.pads i) y y₁ c → (k₁ : Book) → k₁ ≡ puts k (entry_of cycle c) → k₁.count ≤ k.count + 1
       → Resetting n cycle (i + 1) b k₀ y₁ k₁
   reset-goes l y₁ c m k₁ e f =
       let d : n - i ≡ suc (n - (i + 1)) = omega arith in
@@ -206,7 +195,7 @@ module _ (n cycle i : ℕ) (b : Board) (k₀ : Book) (y : Board) (k : Book) (h :
         pads = ap (λ (p : Pads). (reset_from (n - (i + 1)) (i + 1) p).pads) q ∙ sym (reset-next (n - (i + 1)) i y.pads) ∙ ap (λ (j : ℕ). (reset_from j i y.pads).pads) (sym d) ∙ h.pads;
         entries =
             ap (λ (p : Pads). puts k₁ (changes_of cycle (reset_from (n - (i + 1)) (i + 1) p).changes)) q
-            ∙ ap (λ (z : Book). puts z (changes_of cycle (reset_from (n - (i + 1)) (i + 1) (reset_pin y.pads i).pads).changes)) (e ∙ ap (λ (x : Change). puts k (entry_of cycle x)) m.change)
+            ∙ ap (λ (z : Book). puts z (changes_of cycle (reset_from (n - (i + 1)) (i + 1) (reset_pin y.pads i).pads).changes)) (e ∙ ap (λ (x : Option Edge). puts k (entry_of cycle x)) m.change)
             ∙ sym (puts-append k (entry_of cycle (reset_pin y.pads i).change) (changes_of cycle (reset_from (n - (i + 1)) (i + 1) (reset_pin y.pads i).pads).changes))
             ∙ ap (puts k) (sym (reset-more (n - (i + 1)) i cycle y.pads))
             ∙ ap (λ (j : ℕ). puts k (changes_of cycle (reset_from j i y.pads).changes)) (sym d)

@@ -1,17 +1,16 @@
--- A pin's signal is one of the 256, and which signals are taken. Assumes nothing.
-use mathlib.Core.Path.{◌≡◌, ◌∙◌, sym, ap}
+-- A pin's signal is one of the 256. Assumes nothing.
+use mathlib.Core.Path.{◌≡◌, ◌∙◌, sym}
 use native.Mathlib.Omega.{arith}
-use mathlib.Core.Bool.{Bool, true, false, cond, not}
+use mathlib.Core.Bool.{Bool, true, false, cond}
 use mathlib.Core.List.{List}
 use Prim.Native.Nat.{ℕ, ◌≤◌, ◌<◌}
 use lib.Dec.{eqb, ltb, lit<}
-use borrow.Author.Tests.{ltb-true, ltb-false, eq-eqb, ne_eqb}
+use borrow.Author.Tests.{ltb-true, ltb-false}
 use lib.Ieee.{Float}
 use lib.ListN.{length}
 use Rattle.gpio.specs.declared.Gpio.{Gpio}
 use Rattle.gpio.specs.Gpio.{signal_of}
-use Rattle.machine.specs.Board.{Pads, gpio_at, route_of, level_of}
-use Rattle.machine.specs.Sys.{taken}
+use Rattle.machine.specs.Board.{gpio_at, route_of, level_of}
 use Rattle.state.specs.View.{view}
 use Rattle.state.proofs.InRange.{bounded}
 
@@ -44,13 +43,3 @@ level-small w x s e = omega (arith, (bounded w x).level-le s)
 -- the pads hold each of the 128 pins
 pub pin-there : (w : List ℕ) (x : List Float) {i : ℕ} → i < 128 → i < length (view w x).pads.gpio
 pin-there w x h = omega (arith, (bounded w x).gpio-length)
-
--- signal 0 is never taken, nor one that no pin routes; else it is the question which pin routes it
-pub taken_none : (p : Pads) (i s : ℕ) → s ≡ 0 → false ≡ taken p i s
-taken_none p i s e = rw (eq-eqb s 0 e)
-
-pub taken_free : (p : Pads) (i s : ℕ) → (s ≡ 0 → ⊥) → route_of p s ≡ 128 → false ≡ taken p i s
-taken_free p i s z r = rw (ne_eqb s 0 z, eq-eqb (route_of p s) 128 r)
-
-pub taken-other : (p : Pads) (i s r : ℕ) → (s ≡ 0 → ⊥) → r ≡ route_of p s → (r ≡ 128 → ⊥) → not (eqb r i) ≡ taken p i s
-taken-other p i s r z e n = rw (ne_eqb s 0 z, ne_eqb (route_of p s) 128 (λ y. n (e ∙ y))) (ap (λ (q : ℕ). not (eqb q i)) e)

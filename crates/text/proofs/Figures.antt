@@ -2,11 +2,13 @@
 use mathlib.Core.Path.{◌≡◌, refl}
 use mathlib.Core.List.{List, [], ◌∷◌, map}
 use Prim.Native.Nat.{ℕ}
-use Rattle.text.specs.declared.Number.{Number}
-use Rattle.text.specs.declared.Number.TheVariants.{Value, NotANumber, TooLarge}
-use Rattle.text.specs.Numbers.{digit_of, are_digits, value_from, fitted, told_from, number_in, value_of}
+use Rattle.std.specs.Prelude.{None, Some, Ok, Err}
+use Rattle.text.specs.declared.NumberError.TheVariants.{NotANumber, TooLarge}
+use Rattle.text.specs.declared.Command.TheVariants.{Setup, ResetPins, Reset, Clear, Why, Pilot, Unrecord1}
+use Rattle.text.specs.declared.Operand.TheVariants.{Short, Wide, Kind}
+use Rattle.text.specs.Numbers.{Number, digit_of, are_digits, value_from, fitted, told_from, number_in, value_of}
 use Rattle.text.specs.Digits.{places_in, last_digits, digits_of}
-use Rattle.text.specs.Words.{same_word, place_in, call_of, field_of}
+use Rattle.text.specs.Words.{same_word, place_in, call_of, command_at, field_of}
 
 -- the empty word, 0, 007, 0x1F, 0Xff, 0x, 00x1, 1f, -1, 18446744073709551615, 18446744073709551616, 0x10000000000000000, 99999999999999999999x
 words : List (List ℕ)
@@ -28,7 +30,7 @@ words =
 
 told : List Number
 told =
-    NotANumber ∷ Value 0 ∷ Value 7 ∷ Value 31 ∷ Value 255 ∷ NotANumber ∷ NotANumber ∷ NotANumber ∷ NotANumber ∷ Value 18446744073709551615 ∷ TooLarge ∷ TooLarge ∷ NotANumber ∷ []
+    Err NotANumber ∷ Ok 0 ∷ Ok 7 ∷ Ok 31 ∷ Ok 255 ∷ Err NotANumber ∷ Err NotANumber ∷ Err NotANumber ∷ Err NotANumber ∷ Ok 18446744073709551615 ∷ Err TooLarge ∷ Err TooLarge ∷ Err NotANumber ∷ []
 
 as_read : map value_of words ≡ told
 unfolding words told value_of number_in told_from are_digits value_from digit_of fitted
@@ -40,11 +42,11 @@ unfolding places_in last_digits
 as_written = refl
 
 -- setup, reset-pins, reset, clear, why, pilot, unrecord1, Reset
-named : map call_of ((115 ∷ 101 ∷ 116 ∷ 117 ∷ 112 ∷ []) ∷ (114 ∷ 101 ∷ 115 ∷ 101 ∷ 116 ∷ 45 ∷ 112 ∷ 105 ∷ 110 ∷ 115 ∷ []) ∷ (114 ∷ 101 ∷ 115 ∷ 101 ∷ 116 ∷ []) ∷ (99 ∷ 108 ∷ 101 ∷ 97 ∷ 114 ∷ []) ∷ (119 ∷ 104 ∷ 121 ∷ []) ∷ (112 ∷ 105 ∷ 108 ∷ 111 ∷ 116 ∷ []) ∷ (117 ∷ 110 ∷ 114 ∷ 101 ∷ 99 ∷ 111 ∷ 114 ∷ 100 ∷ 49 ∷ []) ∷ (82 ∷ 101 ∷ 115 ∷ 101 ∷ 116 ∷ []) ∷ []) ≡ 0 ∷ 5 ∷ 9 ∷ 17 ∷ 18 ∷ 19 ∷ 22 ∷ 23 ∷ []
-unfolding call_of place_in same_word
+named : map call_of ((115 ∷ 101 ∷ 116 ∷ 117 ∷ 112 ∷ []) ∷ (114 ∷ 101 ∷ 115 ∷ 101 ∷ 116 ∷ 45 ∷ 112 ∷ 105 ∷ 110 ∷ 115 ∷ []) ∷ (114 ∷ 101 ∷ 115 ∷ 101 ∷ 116 ∷ []) ∷ (99 ∷ 108 ∷ 101 ∷ 97 ∷ 114 ∷ []) ∷ (119 ∷ 104 ∷ 121 ∷ []) ∷ (112 ∷ 105 ∷ 108 ∷ 111 ∷ 116 ∷ []) ∷ (117 ∷ 110 ∷ 114 ∷ 101 ∷ 99 ∷ 111 ∷ 114 ∷ 100 ∷ 49 ∷ []) ∷ (82 ∷ 101 ∷ 115 ∷ 101 ∷ 116 ∷ []) ∷ []) ≡ Some Setup ∷ Some ResetPins ∷ Some Reset ∷ Some Clear ∷ Some Why ∷ Some Pilot ∷ Some Unrecord1 ∷ None ∷ []
+unfolding call_of command_at place_in same_word
 named = refl
 
 -- a drive's KIND and VOLTS, and what stands behind its BOOK
-a-drive : map (field_of 4) (0 ∷ 1 ∷ 2 ∷ 3 ∷ 4 ∷ 5 ∷ []) ≡ 1 ∷ 3 ∷ 2 ∷ 2 ∷ 2 ∷ 0 ∷ []
+a-drive : map (field_of 4) (0 ∷ 1 ∷ 2 ∷ 3 ∷ 4 ∷ 5 ∷ []) ≡ Some Short ∷ Some Kind ∷ Some Wide ∷ Some Wide ∷ Some Wide ∷ None ∷ []
 unfolding field_of
 a-drive = refl

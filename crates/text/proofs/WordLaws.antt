@@ -1,138 +1,84 @@
--- Words compared byte by byte, a word's place among others, and the table of numbers.
-use mathlib.Core.Path.{◌≡◌, refl, sym, ap, ◌∙◌}
-use mathlib.Core.Bool.{Bool, true, false, ◌&&◌}
-use mathlib.Core.List.{List, [], ◌∷◌, ◌++◌}
-use Prim.Native.Nat.{ℕ, zero, suc, ◌+◌, ◌-◌, ◌*◌, ◌/◌, ◌%◌, ◌^◌, ◌<◌, ◌≤◌}
+-- Words compared byte by byte, and a word's place among others.
+use Rattle.std.proofs.Common.{◌≡◌, refl, ℕ, Bool, true, false, ◌&&◌, List, [], ◌∷◌, eqb, map, nat_eq, rules, ◌∙◌, ◌≤◌, zero, suc, length, arith, ap, cond, ◌+◌, Some, slice_get}
 use native.Mathlib.Numerals.{add-one}
-use native.Mathlib.Omega.{arith}
-use lib.Dec.{T, leb, eqb, eqb→eq, leb→le}
-use lib.ListN.{length, get_or, replicate, take, drop, drop_of_length-le, get_or-eq_default}
-use lib.Seq.{drop-cons}
-use borrow.Author.Tests.{eq-eqb, ne_eqb}
-use Rattle.text.specs.Words.{same_word, place_in, calls, call_of, shapes, field_of}
-use Rattle.text.proofs.Table.{every, at, both_left, both_right}
+use Rattle.std.specs.Cmp.Lexicographic.{pointwise}
+use Rattle.std.specs.List.{find}
+use Rattle.std.specs.Prelude.{Option, None}
+use lib.Dec.{T, eqb→eq}
+use lib.ListN.{get_or-eq_default}
+use Rattle.std.specs.Option.{option_copied}
+use Rattle.std.specs.Slice.{IsItemAt}
+use Rattle.std.proofs.lemmas.Option.{slice_get_past, slice_get_read}
+use denote.Ref.{Bor}
+use mathlib.Core.Path.{sym}
+use Rattle.text.specs.Words.{same_word, place_in, call_of, command_at, commands, word_of, number_of, field_of, shapes}
+use Rattle.text.specs.declared.Command.{Command}
 
--- ---- comparing
-
-pub longer-differs : (a b : List ℕ) → (length a ≡ length b → ⊥) → same_word a b ≡ false
+-- what `==` of two slices says
+pub same_pointwise : (a b : List ℕ) → pointwise nat_eq a b ≡ same_word a b
 unfolding same_word
-longer-differs [] [] h = absurd (h refl)
-longer-differs [] (y ∷ ys) h = refl
-longer-differs (x ∷ xs) [] h = refl
-longer-differs (x ∷ xs) (y ∷ ys) h = rw (longer-differs xs ys (λ e. h (ap suc e))) (never (eqb x y))
+same_pointwise [] [] = refl
+same_pointwise [] (y ∷ ys) = refl
+same_pointwise (x ∷ xs) [] = refl
+same_pointwise (x ∷ xs) (y ∷ ys) = rw (same_pointwise xs ys)
+
+-- the first call of a list that a word names stands at the word's place among theirs
+found_in : (w : List ℕ) (cs : List Command) → find (λ c. same_word w (word_of c)) cs ≡ slice_get cs (place_in w (map word_of cs))
+unfolding place_in
+found_in w [] = refl
+found_in w (c ∷ cs) = go (same_word w (word_of c)) refl (found_in w cs)
   where
-    never : (t : Bool) → (t && false) ≡ false
-    never true = refl
-    never false = refl
+    p : ℕ
+    p = place_in w (map word_of cs)
 
-pub same_step : (a b : List ℕ) (i : ℕ) → i < length a → length a ≡ length b → get_or a i 0 ≡ get_or b i 0
-    → same_word (drop (i + 1) a) (drop (i + 1) b) ≡ same_word (drop i a) (drop i b)
-unfolding same_word
-same_step a b i h l e = rw (add-one i, drop-cons a i 0 h, drop-cons b i 0 (omega arith), eq-eqb (get_or a i 0) (get_or b i 0) e)
+    go : (t : Bool) → same_word w (word_of c) ≡ t → find (λ c. same_word w (word_of c)) cs ≡ slice_get cs p → cond (same_word w (word_of c)) (Some c) (find (λ c. same_word w (word_of c)) cs) ≡ slice_get (c ∷ cs) (cond (same_word w (word_of c)) 0 (p + 1))
+    go true e h = rw e
+    go false e h = rw (e, add-one p) h
 
-pub same-stops : (a b : List ℕ) (i : ℕ) → i < length a → length a ≡ length b → (get_or a i 0 ≡ get_or b i 0 → ⊥) → same_word (drop i a) (drop i b) ≡ false
-unfolding same_word
-same-stops a b i h l e = rw (drop-cons a i 0 h, drop-cons b i 0 (omega arith), ne_eqb (get_or a i 0) (get_or b i 0) e)
+pub found : (w : List ℕ) → find (λ c. same_word w (word_of c)) commands ≡ call_of w
+unfolding call_of command_at
+found w = found_in w commands
 
-pub same_ends : (a b : List ℕ) (i : ℕ) → length a ≤ i → length a ≡ length b → same_word (drop i a) (drop i b) ≡ true
-unfolding same_word
-same_ends a b i h l = rw (drop_of_length-le a h, drop_of_length-le b {i = i} (omega arith))
+-- what `get` of a slice says, as what stands at a place of the list
+pub got : {X : Type 0} (xs : List X) (i : ℕ) (r : Option (Bor X)) → IsItemAt xs i r → option_copied r ≡ slice_get xs i
+got xs i None h = sym (slice_get_past xs i h.3)
+got xs i (Some x) h = sym (slice_get_read xs (length xs) i x.now refl h.3.0 (h.3.1 x.now))
 
--- ---- a place among others
+-- ---- numbers
 
--- how many words the table has
-abbrev pub words : ℕ
-words = 23
+both_left : (a b : Bool) → T (a && b) → T a
+both_left true b t = tt
+both_left false b t = t
 
--- the words one behind the other
-abbrev pub joined : List (List ℕ) → List ℕ
-joined [] = []
-joined (x ∷ xs) = x ++ joined xs
+both_right : (a b : Bool) → T (a && b) → T b
+both_right true b t = t
+both_right false b t = absurd t
 
--- where they start, and where the last ends
-abbrev pub starts : ℕ → List (List ℕ) → List ℕ
-starts n [] = n ∷ []
-starts n (x ∷ xs) = n ∷ starts (n + length x) xs
+-- each call's number is its place, counted from i
+abbrev in_order : ℕ → List Command → Bool
+in_order i [] = true
+in_order i (c ∷ cs) = eqb (number_of c) i && in_order (suc i) cs
 
--- what stands between two places of them
-abbrev pub piece : List ℕ → List ℕ → ℕ → List ℕ
-piece text at k = take (get_or at (k + 1) 0 - get_or at k 0) (drop (get_or at k 0) text)
+place-number : (cs : List Command) (i : ℕ) → T (in_order i cs) → (k : ℕ) (c : Command) → slice_get cs k ≡ Some c → number_of c ≡ i + k
+place-number [] i t k c e = absurd (search rules)
+place-number (x ∷ cs) i t zero c e =
+    let m : number_of x ≡ i = eqb→eq (number_of x) i (both_left (eqb (number_of x) i) (in_order (suc i) cs) t) in
+    let n : x ≡ c = search rules in
+    sym (ap number_of n) ∙ m ∙ omega arith
+place-number (x ∷ cs) i t (suc k) c e = place-number cs (suc i) (both_right (eqb (number_of x) i) (in_order (suc i) cs) t) k c e ∙ omega arith
 
-same_word_lem : (a b : List ℕ) → T (same_word a b) → a ≡ b
-unfolding same_word
-same_word_lem [] [] t = refl
-same_word_lem [] (y ∷ ys) t = absurd t
-same_word_lem (x ∷ xs) [] t = absurd t
-same_word_lem (x ∷ xs) (y ∷ ys) t = cc (eqb→eq x y (both_left (eqb x y) (same_word xs ys) t), same_word_lem xs ys (both_right (eqb x y) (same_word xs ys) t))
+pub number_at : (n : ℕ) (c : Command) → Some c ≡ command_at n → number_of c ≡ n
+unfolding command_at
+number_at n c e = place-number commands 0 tt n c (sym e) ∙ omega arith
 
--- of a text and places in it: piece k is word k, and lies in the text
-unfoldable pub word-there : List ℕ → List ℕ → ℕ → ℕ → Bool
-word-there text at k x = leb (get_or at k 0) (get_or at (k + 1) 0) && (leb (get_or at (k + 1) 0) (length text) && same_word (piece text at k) (get_or calls k []))
+past : {X : Type 0} (xs : List X) (k : ℕ) → slice_get xs k ≡ None → length xs ≤ k
+past [] k e = omega arith
+past (x ∷ xs) zero e = absurd (search rules)
+past (x ∷ xs) (suc k) e = omega (arith, past xs k e)
 
-pub record There (text at : List ℕ) (k : ℕ) : Type 0 where
-  pub from : get_or at k 0 ≤ get_or at (k + 1) 0
-  pub to : get_or at (k + 1) 0 ≤ length text
-  pub word : piece text at k ≡ get_or calls k []
+pub field_none : (n k : ℕ) → None ≡ command_at n → None ≡ field_of n k
+unfolding command_at field_of
+field_none n k e = rw (get_or-eq_default shapes [] {n = n} (past commands n (sym e)))
 
-pub piece-there : (text at : List ℕ) → T (every (word-there text at) 0 (replicate words 0)) → (k : ℕ) → k < words → There text at k
-unfolding word-there
-piece-there text p t k h =
-    let f : Bool = leb (get_or p k 0) (get_or p (k + 1) 0) in
-    let g : Bool = leb (get_or p (k + 1) 0) (length text) in
-    let w : Bool = same_word (piece text p k) (get_or calls k []) in
-    let u : T (f && (g && w)) = at (word-there text p) (replicate words 0) t k h in
-    record {
-      from = leb→le (get_or p k 0) (get_or p (k + 1) 0) (both_left f (g && w) u);
-      to = leb→le (get_or p (k + 1) 0) (length text) (both_left g w (both_right f (g && w) u));
-      word = same_word_lem (piece text p k) (get_or calls k []) (both_right g w (both_right f (g && w) u));
-    }
-
--- the place of a word, if it is none of the first k
-module _ (w : List ℕ) where
-  pub call-start : call_of w ≡ 0 + place_in w (drop 0 calls)
-  unfolding call_of
-  call-start = omega arith
-
-  module _ (k : ℕ) (x : List ℕ) (r : Bool) (h : k < words) (e : x ≡ get_or calls k []) (i : call_of w ≡ k + place_in w (drop k calls)) (s : r ≡ same_word w x) where
-    pub call-here : r ≡ true → k ≡ call_of w
-    unfolding place_in
-    call-here t = sym (i ∙ rw (drop-cons calls k [] h, sym (ap (same_word w) e) ∙ sym s ∙ t) (omega arith))
-
-    pub call_next : r ≡ false → call_of w ≡ (k + 1) + place_in w (drop (k + 1) calls)
-    unfolding place_in
-    call_next t = i ∙ rw (add-one k, drop-cons calls k [] h, sym (ap (same_word w) e) ∙ sym s ∙ t) (omega arith)
-
-  pub call_none : (k : ℕ) → k ≡ words → call_of w ≡ k + place_in w (drop k calls) → words ≡ call_of w
-  unfolding place_in
-  call_none k h i = sym (i ∙ rw (drop_of_length-le calls {i = k} (omega arith)) (omega arith))
-
--- ---- the table
-
--- a row of the code has the numbers of a call, the first in its lowest digit
-unfoldable pub right : ℕ → ℕ → Bool
-right c r = every (λ (k x : ℕ). eqb (r / 2 ^ (4 * k) % 16) (field_of c k)) 0 (replicate 9 0)
-
-pub field_at : (t : List ℕ) → T (every right 0 t) → (c k : ℕ) → k < 9 → c < length t → get_or t c 0 / 2 ^ (4 * k) % 16 ≡ field_of c k
-unfolding right
-field_at t h c k l m =
-    eqb→eq (get_or t c 0 / 2 ^ (4 * k) % 16) (field_of c k)
-    (at (λ (k x : ℕ). eqb (get_or t c 0 / 2 ^ (4 * k) % 16) (field_of c k)) (replicate 9 0) (at right t h c m) k l)
-
--- every call has at most nine numbers before its end, `setup` before its timers
-short : List (List ℕ) → Bool
-short [] = true
-short (r ∷ rs) = leb (length r) 9 && short rs
-
-short-past : (rs : List (List ℕ)) → T (short rs) → (i k : ℕ) → 9 ≤ k → get_or (get_or rs i []) k 0 ≡ 0
-unfolding short
-short-past [] t i k h = refl
-short-past (r ∷ rs) t zero k h = get_or-eq_default r 0 {n = k} (omega (arith, leb→le (length r) 9 (both_left (leb (length r) 9) (short rs) t)))
-short-past (r ∷ rs) t (suc i) k h = short-past rs (both_right (leb (length r) 9) (short rs) t) i k h
-
-pub field_past : (c k : ℕ) → 9 ≤ k → 0 ≡ field_of c k
-unfolding field_of short
-field_past c k h = sym (short-past shapes tt c k h)
-
-pub field-none : (c k : ℕ) → words ≤ c → 0 ≡ field_of c k
-unfolding field_of
-field-none c k h = rw (get_or-eq_default shapes [] {n = c} h)
+pub field_some : (n k : ℕ) (c : Command) → Some c ≡ command_at n → field_of (number_of c) k ≡ field_of n k
+field_some n k c e = ap (λ m. field_of m k) (number_at n c e)

@@ -1,7 +1,5 @@
 -- Numbers as docs/CALLS.md writes them: "All its numbers are decimal".
-use Rattle.std.specs.Prelude.{◌≡◌, Bool, cond, List, [], ◌∷◌, ◌++◌, ℕ, zero, suc, ◌+◌, ◌/◌, ◌%◌, ltb, leb, length, take, drop}
-use Rattle.text.specs.declared.Written.{Written}
-use Rattle.text.specs.declared.Written.TheVariants.{To, NoRoom}
+use Rattle.std.specs.Prelude.{◌≡◌, Bool, cond, List, [], ◌∷◌, ◌++◌, ℕ, zero, suc, ◌+◌, ◌/◌, ◌%◌, ltb, leb, length, take, drop, Option, None, Some}
 
 -- how many decimal digits n has, if it has at most `most`: one, and one more for each tenth part that is not 0
 unfoldable pub places_in : ℕ → ℕ → ℕ
@@ -28,6 +26,6 @@ over xs at old = take at old ++ (xs ++ drop (at + length xs) old)
 abbrev pub fits : ℕ → ℕ → List ℕ → Bool
 fits n at out = leb (at + places_of n) (length out)
 
-pub record Wrote (n at : ℕ) (out out₁ : List ℕ) (r : Written) : Type 0 where
-  pub place : r ≡ cond (fits n at out) (To (at + places_of n)) NoRoom
+pub record Wrote (n at : ℕ) (out out₁ : List ℕ) (r : Option ℕ) : Type 0 where
+  pub place : r ≡ cond (fits n at out) (Some (at + places_of n)) None
   pub bytes : out₁ ≡ cond (fits n at out) (over (digits_of n) at out) out

@@ -1,138 +1,142 @@
 // The call list as text (docs/CALLS.md): numbers read and written digit by digit, words, and the numbers of each call.
 #![tactic(auto)]
 
-ghost use Rattle.std.specs.Prelude.{◌≡◌, ◌+◌, ◌-◌, ◌*◌, ◌≤◌, ◌<◌, length, take, drop};
+ghost use Rattle.std.specs.Prelude.{◌≡◌, ◌+◌, ◌-◌, ◌*◌, ◌≤◌, ◌<◌, ◌^◌, length, slice_index_or, [], SomeIff};
 ghost use Rattle.text.specs.Numbers.{digit_of, next_of, more_of, large_of, first_of, second_of, told_of, start, value_of};
-ghost use Rattle.text.specs.Words.{is_space, same_word, call_of, field_of};
-ghost use Rattle.text.specs.Digits.{places_of, digits_of, last_digits, over, Wrote};
+ghost use Rattle.text.specs.Words.{is_space, same_word, call_of, field_of, shapes, number_of, word_of, command_at, words_of, reason_of};
+ghost use Rattle.text.specs.Digits.{places_of, last_digits, over, Wrote};
 
-// What a word in a number's place is.
-#[derive(Clone, Copy)]
-pub enum Number {
-    Value(u64),
+use std::error::Error;
+use std::fmt;
+
+// Why a word in a number's place is no number of 64 bits.
+#[derive(Clone, Copy, Debug, PartialEq, Eq)]
+pub enum NumberError {
     NotANumber,
     TooLarge,
 }
 
-// How far a word has been read. Steps: 0 no byte, 1 a single 0, 2 a 0x, 3 digits, 4 digits of a number that 64 bits do not
-// hold, 5 no number.
-#[derive(Clone, Copy)]
-pub struct Reading {
-    pub step: u8,
-    pub base: u64,
-    pub value: u64,
+// Why a line is no call (docs/CALLS.md, "What ends the run"), each with its number.
+#[derive(Clone, Copy, Debug, PartialEq, Eq)]
+pub enum Reason {
+    UnknownWord = 2,
+    MissingNumber,
+    SurplusNumber,
+    NotANumber,
+    TooLarge,
 }
 
-// A number was written up to a place, or the room does not hold it.
-#[derive(Clone, Copy)]
-pub enum Written {
-    To(usize),
-    NoRoom,
+impl Reason {
+    // The words that tell it.
+    pub fn words(self) -> &'static str
+        ensures { result.now ≡ words_of self }
+    {
+        match self {
+            Reason::UnknownWord => "unknown word",
+            Reason::MissingNumber => "missing number",
+            Reason::SurplusNumber => "surplus number",
+            Reason::NotANumber => "not a number",
+            Reason::TooLarge => "number too large",
+        }
+    }
 }
 
-// The digit that a byte is, in either case; 16 if it is none.
-pub fn digit(b: u8) -> u64
+impl fmt::Display for Reason {
+    fn fmt<W: fmt::Write>(&self, f: &mut fmt::Formatter<W>) -> fmt::Result {
+        f.write_str(self.words())
+    }
+}
+
+impl Error for Reason {}
+
+impl From<NumberError> for Reason {
+    ghost from_gives = { λ e r. r ≡ reason_of e };
+
+    fn from(e: NumberError) -> Reason {
+        match e {
+            NumberError::NotANumber => Reason::NotANumber,
+            NumberError::TooLarge => Reason::TooLarge,
+        }
+    }
+}
+
+// How far a word has been read: no byte, a single 0, a 0x, digits, digits of a number that 64 bits do not hold, or what is no
+// number.
+#[derive(Clone, Copy, Debug, PartialEq, Eq)]
+pub enum Reading {
+    Empty,
+    Zero,
+    Prefix,
+    Digits { base: u64, value: u64 },
+    Large { base: u64 },
+    Wrong,
+}
+
+// The digit that a byte is, in either case.
+#[tactic(auto, unfolding(crate::specs::Numbers::digit_of))]
+pub fn digit(b: u8) -> Option<u64>
     ensures { result ≡ digit_of b }
 {
-    if b < 48 {
-        return 16;
+    match b {
+        b'0'..=b'9' => Some((b - b'0') as u64),
+        b'A'..=b'F' => Some((b - b'A') as u64 + 10),
+        b'a'..=b'f' => Some((b - b'a') as u64 + 10),
+        _ => None,
     }
-    if b < 58 {
-        return (b - 48) as u64;
-    }
-    if b < 65 {
-        return 16;
-    }
-    if b < 71 {
-        return (b - 55) as u64;
-    }
-    if b < 97 {
-        return 16;
-    }
-    if b < 103 {
-        return (b - 87) as u64;
-    }
-    16
+}
+
+// A value with a digit more behind it, if 64 bits hold it.
+fn appended(base: u64, value: u64, digit: u64) -> Option<u64>
+    ensures { SomeIff result (value * base + digit < 2 ^ 64) (value * base + digit) }
+{
+    value.checked_mul(base)?.checked_add(digit)
 }
 
 // One digit more behind those of a value.
+#[tactic(auto, unfolding(crate::specs::Numbers::more_of, crate::specs::Numbers::held))]
 fn more(base: u64, value: u64, b: u8) -> Reading
     ensures { result ≡ more_of base value b }
 {
-    let d = digit(b);
-    if base <= d {
-        return Reading {
-            step: 5,
-            base: 0,
-            value: 0,
-        };
-    }
-    let most = (18446744073709551615 - d) / base;
-    if most < value {
-        return Reading {
-            step: 4,
-            base: base,
-            value: 0,
-        };
-    }
-    Reading {
-        step: 3,
-        base: base,
-        value: value * base + d,
+    match digit(b) {
+        Some(d) if d < base => match appended(base, value, d) {
+            Some(value) => Reading::Digits { base, value },
+            None => Reading::Large { base },
+        },
+        _ => Reading::Wrong,
     }
 }
 
 // One digit more behind digits that are too many.
+#[tactic(auto, unfolding(crate::specs::Numbers::large_of))]
 fn large(base: u64, b: u8) -> Reading
     ensures { result ≡ large_of base b }
 {
-    if digit(b) < base {
-        return Reading {
-            step: 4,
-            base: base,
-            value: 0,
-        };
-    }
-    Reading {
-        step: 5,
-        base: 0,
-        value: 0,
+    match digit(b) {
+        Some(d) if d < base => Reading::Large { base },
+        _ => Reading::Wrong,
     }
 }
 
 // The first byte of a word: a 0 may begin a 0x.
+#[tactic(auto, unfolding(crate::specs::Numbers::first_of))]
 fn first(b: u8) -> Reading
     ensures { result ≡ first_of b }
 {
-    if b == 48 {
-        return Reading {
-            step: 1,
-            base: 10,
-            value: 0,
-        };
+    match b {
+        b'0' => Reading::Zero,
+        _ => more(10, 0, b),
     }
-    more(10, 0, b)
 }
 
 // The byte behind a single 0.
+#[tactic(auto, unfolding(crate::specs::Numbers::second_of))]
 fn second(b: u8) -> Reading
     ensures { result ≡ second_of b }
 {
-    if b == 120 {
-        return Reading {
-            step: 2,
-            base: 16,
-            value: 0,
-        };
+    match b {
+        b'x' | b'X' => Reading::Prefix,
+        _ => more(10, 0, b),
     }
-    if b == 88 {
-        return Reading {
-            step: 2,
-            base: 16,
-            value: 0,
-        };
-    }
-    more(10, 0, b)
 }
 
 impl Reading {
@@ -140,221 +144,313 @@ impl Reading {
     pub fn new() -> Reading
         ensures { result ≡ start }
     {
-        Reading {
-            step: 0,
-            base: 0,
-            value: 0,
-        }
+        Reading::Empty
     }
 
     // A byte more of the word.
     pub fn next(self, b: u8) -> Reading
         ensures { result ≡ next_of self b }
     {
-        let step = self.step;
-        let base = self.base;
-        let value = self.value;
-        if step == 0 {
-            return first(b);
-        }
-        if step == 1 {
-            return second(b);
-        }
-        if step < 4 {
-            return more(base, value, b);
-        }
-        if step == 4 {
-            return large(base, b);
-        }
-        Reading {
-            step: 5,
-            base: 0,
-            value: 0,
+        match self {
+            Reading::Empty => first(b),
+            Reading::Zero => second(b),
+            Reading::Prefix => more(16, 0, b),
+            Reading::Digits { base, value } => more(base, value, b),
+            Reading::Large { base } => large(base, b),
+            Reading::Wrong => Reading::Wrong,
         }
     }
 
     // What the word is, if it ends here.
-    pub fn told(self) -> Number
+    pub fn told(self) -> Result<u64, NumberError>
         ensures { result ≡ told_of self }
     {
-        let step = self.step;
-        let value = self.value;
-        if step == 1 {
-            return Number::Value(value);
+        match self {
+            Reading::Zero => Ok(0),
+            Reading::Digits { value, .. } => Ok(value),
+            Reading::Large { .. } => Err(NumberError::TooLarge),
+            Reading::Empty | Reading::Prefix | Reading::Wrong => Err(NumberError::NotANumber),
         }
-        if step == 3 {
-            return Number::Value(value);
-        }
-        if step == 4 {
-            return Number::TooLarge;
-        }
-        Number::NotANumber
     }
 }
 
 // What a word in a number's place is.
-pub fn read_number(word: &[u8]) -> Number
+pub fn read_number(word: &[u8]) -> Result<u64, NumberError>
     ensures { result ≡ value_of word.now }
 {
-    let mut r = Reading::new();
-    let mut i = 0;
-    while i < word.len() {
-        r = r.next(word[i]);
-        i += 1;
+    let mut reading = Reading::new();
+    for b in word {
+        reading = reading.next(*b);
     }
-    r.told()
+    reading.told()
 }
 
 // How many decimal digits a number has.
+#[tactic(auto, using(crate::proofs::ReadsBack::places_log, crate::proofs::ReadsBack::places_zero))]
 pub fn places(n: u64) -> usize
     ensures { result ≡ places_of n }
 {
-    let mut rest = n;
-    let mut k = 1;
-    while 10 <= rest {
-        rest = rest / 10;
-        k += 1;
+    match n.checked_ilog10() {
+        Some(power) => power as usize + 1,
+        None => 1,
     }
-    k
 }
 
-// Lays the last k digits of a number over the bytes from a place on.
-fn spell(n: u64, k: usize, out: &mut [u8], at: usize)
-    requires { at + k ≤ length out.old }
-    ensures { out.new ≡ over (last_digits k n) at out.old }
+// Lays the last digits of a number over all these bytes.
+fn spell(n: u64, out: &mut [u8])
+    ensures { out.new ≡ last_digits (length out.old) n }
 {
     let mut rest = n;
-    let mut i = k;
-    while 0 < i {
-        i -= 1;
-        out[at + i] = 48 + (rest % 10) as u8;
-        rest = rest / 10;
+    for i in (0..out.len()).rev() {
+        out[i] = b'0' + (rest % 10) as u8;
+        rest /= 10;
     }
 }
 
-// Writes the decimal digits of a number from a place on, if they fit.
-pub fn write_number(n: u64, out: &mut [u8], at: usize) -> Written
+// Writes the decimal digits of a number from a place on, if they fit: the place behind them.
+pub fn write_number(n: u64, out: &mut [u8], at: usize) -> Option<usize>
     ensures { Wrote n at out.old out.new result }
 {
-    let k = places(n);
-    if out.len() < k {
-        return Written::NoRoom;
+    let end = at.checked_add(places(n))?;
+    if out.len() < end {
+        return None;
     }
-    if out.len() - k < at {
-        return Written::NoRoom;
-    }
-    spell(n, k, out, at);
-    Written::To(at + k)
+    spell(n, &mut out[at..end]);
+    Some(end)
 }
 
 // Whether a byte parts words.
 pub fn is_space(b: u8) -> bool
     ensures { result ≡ is_space b }
 {
-    if b == 32 {
-        return true;
-    }
-    b == 9
+    matches!(b, b' ' | b'\t')
 }
 
 // Whether two words are the same.
+#[tactic(auto, using(crate::proofs::WordLaws::same_pointwise))]
 pub fn same(a: &[u8], b: &[u8]) -> bool
     ensures { result ≡ same_word a.now b.now }
 {
-    if a.len() != b.len() {
-        return false;
-    }
-    let mut i = 0;
-    while i < a.len() {
-        if a[i] != b[i] {
-            return false;
-        }
-        i += 1;
-    }
-    true
+    a == b
 }
 
-// Whether a word is the part of a text from one place up to another.
-fn is_part(word: &[u8], text: &[u8], from: usize, to: usize) -> bool
-    requires { (from ≤ to) × (to ≤ length text.now) }
-    ensures { result ≡ same_word word.now (take (to - from) (drop from text.now)) }
-{
-    same(word, &text[from..to])
+// The calls of the table (docs/CALLS.md), each with its number: the board's, then what asks the board nothing.
+#[derive(Clone, Copy, Debug, PartialEq, Eq)]
+pub enum Command {
+    Setup,
+    Clock,
+    Enable,
+    Pin,
+    Drive,
+    ResetPins,
+    Read,
+    Write,
+    Peek,
+    Reset,
+    Deliver,
+    Booked,
+    Next,
+    Level,
+    Volts,
+    Line,
+    Time,
+    Clear,
+    Why,
+    Pilot,
+    Record,
+    Unrecord,
+    Unrecord1,
 }
 
-// How many words there are: the board's calls, then what asks the board nothing.
-const WORDS: usize = 23;
+// What stands in a number's place: a number of 32 bits, one of 64, one that is at most 3, or bytes.
+#[derive(Clone, Copy, Debug, PartialEq, Eq)]
+pub enum Operand {
+    Short,
+    Wide,
+    Kind,
+    Bytes,
+}
 
-// What `call_of` gives for an unknown word.
-pub const UNKNOWN: u8 = 23;
-
-// Where the words start in the text that has one behind the other, and where the last ends.
-const STARTS: [usize; 24] = [
-    0, 5, 10, 16, 19, 24, 34, 38, 43, 47, 52, 59, 65, 69, 74, 79, 83, 87, 92, 95, 100, 106, 114,
-    123,
-];
-
-// The call that a first word names, by its place in the table; 23 if it is an unknown word.
-pub fn call_of(word: &[u8]) -> u8
+// The call that a first word names.
+#[tactic(auto, using(crate::proofs::WordLaws::found))]
+pub fn call_of(word: &[u8]) -> Option<Command>
     ensures { result ≡ call_of word.now }
 {
-    let mut k = 0;
-    while k < WORDS {
-        let from = STARTS[k];
-        let to = STARTS[k + 1];
-        if is_part(
-            word,
-            b"setupclockenablepindrivereset-pinsreadwritepeekresetdeliverbookednextlevelvoltslinetimeclearwhypilotrecordunrecordunrecord1",
-            from,
-            to,
-        ) {
-            return k as u8;
-        }
-        k += 1;
-    }
-    UNKNOWN
+    Command::ALL
+        .iter()
+        .find(|command| same(word, command.word()))
+        .copied()
 }
 
-// What stands in the places of each call's numbers, the first in the lowest hexadecimal digit: 0 no number, 1 one of 32 bits, 2 one
-// of 64 bits, 3 one that is at most 3, 4 bytes.
-const FIELDS: [u64; WORDS] = [
-    0x11122,
-    0x211111122,
-    0x11,
-    0x221111111,
-    0x22231,
-    0x22,
-    0x2111,
-    0x221111,
-    0x211,
-    0x221,
-    0x221,
-    1,
-    0,
-    1,
-    1,
-    1,
-    2,
-    1,
-    0x21,
-    0x11,
-    0x222222222,
-    4,
-    4,
-];
+impl Command {
+    // All, in the table's order.
+    pub const ALL: [Command; 23] = [
+        Command::Setup,
+        Command::Clock,
+        Command::Enable,
+        Command::Pin,
+        Command::Drive,
+        Command::ResetPins,
+        Command::Read,
+        Command::Write,
+        Command::Peek,
+        Command::Reset,
+        Command::Deliver,
+        Command::Booked,
+        Command::Next,
+        Command::Level,
+        Command::Volts,
+        Command::Line,
+        Command::Time,
+        Command::Clear,
+        Command::Why,
+        Command::Pilot,
+        Command::Record,
+        Command::Unrecord,
+        Command::Unrecord1,
+    ];
 
-// What stands in place k of a call's numbers.
-pub fn field(call: u8, k: usize) -> u8
+    // The word that names it.
+    pub fn word(self) -> &'static [u8]
+        ensures { result.now ≡ word_of self }
+    {
+        match self {
+            Command::Setup => b"setup",
+            Command::Clock => b"clock",
+            Command::Enable => b"enable",
+            Command::Pin => b"pin",
+            Command::Drive => b"drive",
+            Command::ResetPins => b"reset-pins",
+            Command::Read => b"read",
+            Command::Write => b"write",
+            Command::Peek => b"peek",
+            Command::Reset => b"reset",
+            Command::Deliver => b"deliver",
+            Command::Booked => b"booked",
+            Command::Next => b"next",
+            Command::Level => b"level",
+            Command::Volts => b"volts",
+            Command::Line => b"line",
+            Command::Time => b"time",
+            Command::Clear => b"clear",
+            Command::Why => b"why",
+            Command::Pilot => b"pilot",
+            Command::Record => b"record",
+            Command::Unrecord => b"unrecord",
+            Command::Unrecord1 => b"unrecord1",
+        }
+    }
+
+    // The one that has a number.
+    pub fn numbered(number: u8) -> Option<Command>
+        ensures { result ≡ command_at number }
+    {
+        Command::ALL.get(number as usize).copied()
+    }
+
+    // Its number: its place in the table.
+    pub fn number(self) -> u8
+        ensures { result ≡ number_of self }
+    {
+        self as u8
+    }
+
+    // What stands in the places of its numbers, in order: of `setup` in those before its timers.
+    pub fn operands(self) -> &'static [Operand]
+        ensures { result.now ≡ slice_index_or shapes (number_of self) [] }
+    {
+        match self {
+            Command::Setup => &[
+                Operand::Wide,
+                Operand::Wide,
+                Operand::Short,
+                Operand::Short,
+                Operand::Short,
+            ],
+            Command::Clock => &[
+                Operand::Wide,
+                Operand::Wide,
+                Operand::Short,
+                Operand::Short,
+                Operand::Short,
+                Operand::Short,
+                Operand::Short,
+                Operand::Short,
+                Operand::Wide,
+            ],
+            Command::Enable => &[Operand::Short, Operand::Short],
+            Command::Pin => &[
+                Operand::Short,
+                Operand::Short,
+                Operand::Short,
+                Operand::Short,
+                Operand::Short,
+                Operand::Short,
+                Operand::Short,
+                Operand::Wide,
+                Operand::Wide,
+            ],
+            Command::Drive => &[
+                Operand::Short,
+                Operand::Kind,
+                Operand::Wide,
+                Operand::Wide,
+                Operand::Wide,
+            ],
+            Command::ResetPins => &[Operand::Wide, Operand::Wide],
+            Command::Read => &[
+                Operand::Short,
+                Operand::Short,
+                Operand::Short,
+                Operand::Wide,
+            ],
+            Command::Write => &[
+                Operand::Short,
+                Operand::Short,
+                Operand::Short,
+                Operand::Short,
+                Operand::Wide,
+                Operand::Wide,
+            ],
+            Command::Peek => &[Operand::Short, Operand::Short, Operand::Wide],
+            Command::Reset => &[Operand::Short, Operand::Wide, Operand::Wide],
+            Command::Deliver => &[Operand::Short, Operand::Wide, Operand::Wide],
+            Command::Booked => &[Operand::Short],
+            Command::Next => &[],
+            Command::Level => &[Operand::Short],
+            Command::Volts => &[Operand::Short],
+            Command::Line => &[Operand::Short],
+            Command::Time => &[Operand::Wide],
+            Command::Clear => &[Operand::Short],
+            Command::Why => &[Operand::Short, Operand::Wide],
+            Command::Pilot => &[Operand::Short, Operand::Short],
+            Command::Record => &[
+                Operand::Wide,
+                Operand::Wide,
+                Operand::Wide,
+                Operand::Wide,
+                Operand::Wide,
+                Operand::Wide,
+                Operand::Wide,
+                Operand::Wide,
+                Operand::Wide,
+            ],
+            Command::Unrecord => &[Operand::Bytes],
+            Command::Unrecord1 => &[Operand::Bytes],
+        }
+    }
+
+    // What stands in place k of its numbers.
+    pub fn operand(self, k: usize) -> Option<Operand>
+        ensures { result ≡ field_of (number_of self) k }
+    {
+        self.operands().get(k).copied()
+    }
+}
+
+// What stands in place k of the numbers of the call that has a number.
+pub fn field(call: u8, k: usize) -> Option<Operand>
     ensures { result ≡ field_of call k }
 {
-    if UNKNOWN <= call {
-        return 0;
-    }
-    if 9 <= k {
-        return 0;
-    }
-    let row = call as usize;
-    let fields = FIELDS[row];
-    let place = 4 * k as u64;
-    ((fields >> place) % 16) as u8
+    Command::numbered(call)?.operand(k)
 }

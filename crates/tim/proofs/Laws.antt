@@ -2,7 +2,8 @@
 use mathlib.Core.Path.{◌≡◌, refl, ap, sym, ◌∙◌}
 use mathlib.Core.Bool.{Bool, true, false, cond, not, ◌&&◌}
 use mathlib.Core.List.{[], ◌∷◌}
-use Prim.Native.Nat.{ℕ, ◌+◌, ◌-◌, ◌*◌, ◌%◌, ◌^◌, ◌≤◌, ◌<◌}
+use Rattle.std.proofs.Common.{Option, Some, None, add-one}
+use Prim.Native.Nat.{ℕ, zero, suc, ◌+◌, ◌-◌, ◌*◌, ◌%◌, ◌^◌, ◌≤◌, ◌<◌}
 use lib.Dec.{ltb, leb, eqb}
 use native.Mathlib.Omega.{arith}
 use native.Mathlib.Nat.{add-zero, le_refl, le_trans, mul-le-mul, mod-lt}
@@ -10,15 +11,15 @@ use borrow.Author.Tests.{eq-eqb, ne_eqb, lt-ltb, le-ltb, ltb-true, leb-true, leb
 use mir.Val.{bool_byte}
 use Rattle.tim.specs.declared.Timer.{Timer}
 use Rattle.tim.specs.declared.Ahead.{Ahead}
-use Rattle.tim.specs.declared.Next.TheVariants.{Compare}
+use Rattle.tim.specs.declared.Next.TheVariants.{Compare, Update}
 use Rattle.tim.specs.declared.Due.TheVariants.{At, Stopped}
 use Rattle.rm0440.specs.Bits.{UDIS, OPM}
 use Rattle.rm0440.specs.Update.{shadow}
 use Rattle.rm0440.specs.Output as Out
-use Rattle.tim.specs.Timer.{down, Fit, with_cr1}
+use Rattle.tim.specs.Timer.{down, Fit, with_cr1, ccr_in_use}
 use Rattle.tim.specs.Count.{counts}
 use Rattle.tim.specs.Change.{reloaded, loaded, with_flag, UIF, with_running, without_cen, pulse_ends, ended}
-use Rattle.tim.specs.Next.{update_steps, ahead, waiting, compares, compare_steps, nearer, consider, next_steps, next_event}
+use Rattle.tim.specs.Next.{update_steps, ahead, waiting, compares, compare_steps, steps_to, nearer, consider, next_steps, next_event}
 
 -- an event that is considered can only be nearer
 consider-le : (t : Timer) (ch : ℕ) (best : Ahead) → (consider t ch best).steps ≤ best.steps
@@ -89,6 +90,53 @@ pub opened : (t : Timer) (ch : ℕ) (best : Ahead) → waiting t ch ≡ true
     → consider t ch best ≡ cond (ahead t ch) (nearer (compare_steps t ch) ch best) best
 unfolding consider compares
 opened t ch best h = rw h
+
+-- by the steps to its compare, if it lies ahead
+considered-by : Timer → ℕ → Ahead → Option ℕ → Ahead
+considered-by t ch best None = best
+considered-by t ch best (Some n) = nearer n ch best
+
+by-steps : (t : Timer) (ch : ℕ) (best : Ahead) → waiting t ch ≡ true
+    → consider t ch best ≡ considered-by t ch best (steps_to t (ccr_in_use t ch))
+unfolding considered-by
+by-steps t ch best h =
+    opened t ch best h ∙ go (down t) (leb (ccr_in_use t ch) t.count.cnt0) (leb t.count.cnt0 (ccr_in_use t ch)) (leb (ccr_in_use t ch) t.count.arr_act)
+  where
+    go : (d low high in_period : Bool)
+        → cond (cond d low (high && in_period)) (nearer (cond d (t.count.cnt0 - ccr_in_use t ch) (ccr_in_use t ch - t.count.cnt0)) ch best) best
+        ≡ considered-by t ch best (cond d (cond low (Some (t.count.cnt0 - ccr_in_use t ch)) None) (cond in_period (cond high (Some (ccr_in_use t ch - t.count.cnt0)) None) None))
+    go true true h p = refl
+    go true false h p = refl
+    go false l true true = refl
+    go false l true false = refl
+    go false l false true = refl
+    go false l false false = refl
+
+pub steps-some : (t : Timer) (ch : ℕ) (best : Ahead) (n : ℕ) → waiting t ch ≡ true → steps_to t (ccr_in_use t ch) ≡ Some n
+    → consider t ch best ≡ nearer n ch best
+unfolding considered-by
+steps-some t ch best n h e = by-steps t ch best h ∙ ap (considered-by t ch best) e
+
+pub steps-none : (t : Timer) (ch : ℕ) (best : Ahead) → waiting t ch ≡ true → steps_to t (ccr_in_use t ch) ≡ None → consider t ch best ≡ best
+unfolding considered-by
+steps-none t ch best h e = by-steps t ch best h ∙ ap (considered-by t ch best) e
+
+-- the first n channels considered after the update
+pub first_of : Timer → ℕ → Ahead
+first_of t zero = record { steps = update_steps t; next = Update }
+first_of t (suc n) = consider t n (first_of t n)
+
+pub first-step : (t : Timer) (n : ℕ) → first_of t (n + 1) ≡ consider t n (first_of t n)
+unfolding first_of
+first-step t n = rw add-one refl
+
+pub first-none : (t : Timer) (k : ℕ) → k ≡ update_steps t → record { steps = k; next = Update } ≡ first_of t 0
+unfolding first_of
+first-none t k e = rw e
+
+pub first-four : (t : Timer) → first_of t 4 ≡ next_steps t
+unfolding next_steps first_of
+first-four t = refl
 
 -- ---- the output reference
 

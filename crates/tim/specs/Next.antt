@@ -1,5 +1,5 @@
 -- The next event (document 01, "Events due"; the Rust's next_event).
-use Rattle.std.specs.Prelude.{Bool, false, cond, not, ◌&&◌, ℕ, ◌+◌, ◌-◌, ◌*◌, ltb, leb, get_or}
+use Rattle.std.specs.Prelude.{Bool, false, cond, not, ◌&&◌, ℕ, ◌+◌, ◌-◌, ◌*◌, ltb, leb, get_or, Option, Some, None}
 use Rattle.tim.specs.declared.Timer.{Timer}
 use Rattle.tim.specs.declared.Ahead.{Ahead}
 use Rattle.tim.specs.declared.Next.TheVariants.{Update, Compare}
@@ -11,6 +11,13 @@ use Rattle.tim.specs.Count.{counts}
 -- steps to the update: past 0 downward, past the reload upward; a counter above the reload is there already (docs/DIFFERENCES.md, above-reload, clamp-down)
 abbrev pub update_steps : Timer → ℕ
 update_steps t = cond (down t) (t.count.cnt0 + 1) (t.count.arr_act + 1 - t.count.cnt0)
+
+-- steps to a compare value that lies ahead of the counter, as `ahead` and `compare_steps` say it of a channel's
+abbrev pub steps_to : Timer → ℕ → Option ℕ
+steps_to t ccr =
+    cond (down t)
+    (cond (leb ccr t.count.cnt0) (Some (t.count.cnt0 - ccr)) None)
+    (cond (leb ccr t.count.arr_act) (cond (leb t.count.cnt0 ccr) (Some (ccr - t.count.cnt0)) None) None)
 
 -- channel ch's compare is ahead of the counter: downward at or below it, upward from it to the reload
 abbrev pub ahead : Timer → ℕ → Bool

@@ -8,7 +8,7 @@ ghost use Rattle.rm0440.specs.Output as Out;
 ghost use Rattle.tim.specs.Timer as T;
 ghost use Rattle.tim.specs.Timer.{Fit, with_count};
 ghost use Rattle.tim.specs.Count.{blocked, counts, up_from, down_from, ticks_at, count_after, cnt_at, synced, at_count};
-ghost use Rattle.tim.specs.Next.{update_steps, waiting, nearer, consider, next_steps, next_event};
+ghost use Rattle.tim.specs.Next.{update_steps, waiting, steps_to, nearer, consider, next_steps, next_event};
 ghost use Rattle.tim.specs.Change as C;
 
 // What set-up fixes: the timer's number, width, channel count, bus, interrupt and enable bit, and manual mode (document 02).
@@ -58,6 +58,8 @@ pub struct Count {
     pub running: bool,
 }
 
+// Its bounds (`Fit`) are no ghost field: tried, and the definitions that set any registers, counter or divider (`with_regs`,
+// `with_count`, `reset_state`) would owe them.
 #[derive(Clone, Copy)]
 pub struct Timer {
     pub inst: Inst,
@@ -113,12 +115,6 @@ fn count_down(reload: u32, cnt: u32, ticks: u64) -> u32
     (last - (ticks - from - 1) % period) as u32
 }
 
-fn lesser(a: u32, b: u32) -> u32
-    ensures { result ≡ min a b }
-{
-    if a <= b { a } else { b }
-}
-
 // Cycles per step.
 pub fn step_cycles(psc: u32, div: u32) -> u32
     requires { (psc < 65536) × (div ≤ 8192) }
@@ -136,36 +132,21 @@ pub fn cycles_of(steps: u64, tick: u32) -> u64
 }
 
 fn cc_flag(ch: usize) -> u32
+    requires { ch < 4 }
     ensures { result ≡ C.cc_flag ch }
 {
-    if ch == 0 {
-        return 2;
-    }
-    if ch == 1 {
-        return 4;
-    }
-    if ch == 2 {
-        return 8;
-    }
-    16
+    2 << ch
 }
 
 fn at_match(mode: u32, latched: bool) -> bool
     ensures { result ≡ Out.at_match mode latched }
 {
-    if mode >= 4 {
-        return latched;
+    match mode {
+        1 => true,
+        2 => false,
+        3 => !latched,
+        _ => latched,
     }
-    if mode == 1 {
-        return true;
-    }
-    if mode == 2 {
-        return false;
-    }
-    if mode == 3 {
-        return !latched;
-    }
-    latched
 }
 
 fn pwm1(down: bool, cnt: u32, ccr: u32) -> bool
@@ -238,30 +219,21 @@ impl Timer {
     pub fn down(self) -> bool
         ensures { result ≡ T.down self }
     {
-        if self.inst.channels == 0 {
-            return false;
-        }
-        self.regs.cr1 / 16 % 2 == 1
+        self.inst.channels != 0 && self.regs.cr1 / 16 % 2 == 1
     }
 
     // A reload of 0 in manual mode. The reload comes first: whoever asks counts by it.
     fn is_blocked(self) -> bool
         ensures { result ≡ blocked self }
     {
-        if self.count.arr_act == 0 {
-            return self.inst.manual;
-        }
-        false
+        self.count.arr_act == 0 && self.inst.manual
     }
 
     // Runs, and is not blocked.
     pub fn counts(self) -> bool
         ensures { result ≡ counts self }
     {
-        if self.is_blocked() {
-            return false;
-        }
-        self.count.running
+        !self.is_blocked() && self.count.running
     }
 
     // Whole steps from the reference to a cycle.
@@ -278,7 +250,7 @@ impl Timer {
     fn after_down(self, ticks: u64) -> u32
         ensures { result ≡ down_from self.count.arr_act (min self.count.cnt0 self.count.arr_act) ticks }
     {
-        let from = lesser(self.count.cnt0, self.count.arr_act);
+        let from = self.count.cnt0.min(self.count.arr_act);
         count_down(self.count.arr_act, from, ticks)
     }
 
@@ -347,9 +319,7 @@ impl Timer {
         requires { ch < 4 }
         ensures { result ≡ T.ccmr_byte self ch }
     {
-        let ccmr = self.chan.ccmr;
-        let w = ccmr[ch / 2];
-        (w >> (8 * (ch % 2))) % 256
+        (self.chan.ccmr[ch / 2] >> (8 * (ch % 2))) % 256
     }
 
     pub fn oc_mode(self, ch: usize) -> u32
@@ -364,10 +334,7 @@ impl Timer {
         requires { ch < 4 }
         ensures { result ≡ T.is_output self ch }
     {
-        if ch < self.inst.channels as usize {
-            return self.ccmr_byte(ch) % 4 == 0;
-        }
-        false
+        ch < self.inst.channels as usize && self.ccmr_byte(ch) % 4 == 0
     }
 
     // Steps to the update event.
@@ -379,10 +346,7 @@ impl Timer {
             return cnt + 1;
         }
         let period = self.count.arr_act as u64 + 1;
-        if period <= cnt {
-            return 0;
-        }
-        period - cnt
+        period.saturating_sub(cnt)
     }
 
     // Channel ch is an output and not done in this period.
@@ -390,48 +354,39 @@ impl Timer {
         requires { ch < 4 }
         ensures { result ≡ waiting self ch }
     {
-        let done = self.chan.cc_done;
-        if done[ch] {
-            return false;
-        }
-        self.is_output(ch)
+        !self.chan.cc_done[ch] && self.is_output(ch)
     }
 
-    // The nearer of what is nearest so far and channel ch's compare, counting upward.
-    pub fn consider_up(self, ch: usize, best: Ahead) -> Ahead
-        requires { (ch < 4) × (T.down self ≡ false) }
+    // Steps to a compare value that lies ahead of the counter: downward at or below it, upward from it to the reload.
+    fn steps_to(self, ccr: u32) -> Option<u32>
+        ensures { result ≡ steps_to self ccr }
+    {
+        if self.down() {
+            self.count.cnt0.checked_sub(ccr)
+        } else if ccr <= self.count.arr_act {
+            ccr.checked_sub(self.count.cnt0)
+        } else {
+            None
+        }
+    }
+
+    // The nearer of what is nearest so far and channel ch's compare.
+    #[inline(always)]
+    pub fn consider(self, ch: usize, best: Ahead) -> Ahead
+        requires { ch < 4 }
         ensures { result ≡ consider self ch best }
     {
         if !self.is_waiting(ch) {
             return best;
         }
-        let act = self.chan.ccr_act;
-        let ccr = act[ch];
-        if ccr < self.count.cnt0 {
-            return best;
+        match self.steps_to(self.chan.ccr_act[ch]) {
+            Some(steps) => nearer(steps as u64, ch, best),
+            None => best,
         }
-        if ccr > self.count.arr_act {
-            return best;
-        }
-        nearer((ccr - self.count.cnt0) as u64, ch, best)
     }
 
-    // The same, counting downward.
-    pub fn consider_down(self, ch: usize, best: Ahead) -> Ahead
-        requires { (ch < 4) × (T.down self ≡ true) }
-        ensures { result ≡ consider self ch best }
-    {
-        if !self.is_waiting(ch) {
-            return best;
-        }
-        let act = self.chan.ccr_act;
-        let ccr = act[ch];
-        if ccr > self.count.cnt0 {
-            return best;
-        }
-        nearer((self.count.cnt0 - ccr) as u64, ch, best)
-    }
-
+    // The channels are written out: a timer of constant places stays in registers. By a loop over them an event takes twice the Rust's time.
+    #[inline(always)]
     fn next_steps(self) -> Ahead
         ensures { result ≡ next_steps self }
     {
@@ -439,19 +394,14 @@ impl Timer {
             steps: self.update_steps(),
             next: Next::Update,
         };
-        if self.down() {
-            let a = self.consider_down(0, update);
-            let b = self.consider_down(1, a);
-            let c = self.consider_down(2, b);
-            return self.consider_down(3, c);
-        }
-        let a = self.consider_up(0, update);
-        let b = self.consider_up(1, a);
-        let c = self.consider_up(2, b);
-        self.consider_up(3, c)
+        let a = self.consider(0, update);
+        let b = self.consider(1, a);
+        let c = self.consider(2, b);
+        self.consider(3, c)
     }
 
-    // The next event after the reference: the update and every pending compare.
+    // The next event after the reference: the update and every pending compare. It is compiled into its callers: a booking and the delivery's loop.
+    #[inline(always)]
     pub fn next_event(self) -> Due
         requires { Fit self }
         ensures { result ≡ next_event self }
@@ -460,11 +410,8 @@ impl Timer {
             return Due::Stopped;
         }
         let first = self.next_steps();
-        let next = first.next;
-        Due::At(
-            self.count.base + cycles_of(first.steps, self.count.tick),
-            next,
-        )
+        let at = self.count.base + cycles_of(first.steps, self.count.tick);
+        Due::At(at, first.next)
     }
 
     // The compare value ccr lies behind the counter.
@@ -482,77 +429,69 @@ impl Timer {
         requires { ch < 4 }
         ensures { result ≡ C.behind self ch }
     {
-        let act = self.chan.ccr_act;
-        let ccr = act[ch];
-        self.is_past(ccr)
+        self.is_past(self.chan.ccr_act[ch])
     }
 
     fn is_done(self, ch: usize) -> bool
         requires { ch < 4 }
         ensures { result ≡ C.done_now self ch }
     {
-        if ch < self.inst.channels as usize {
-            return self.is_behind(ch);
-        }
-        false
+        ch < self.inst.channels as usize && self.is_behind(ch)
     }
 
     fn is_done_after_update(self, ch: usize) -> bool
         requires { ch < 4 }
         ensures { result ≡ C.done_after_update self ch }
     {
-        let act = self.chan.ccr_act;
-        let ccr = act[ch];
-        if ch < self.inst.channels as usize {
-            return self.count.arr_act < ccr;
-        }
-        false
+        ch < self.inst.channels as usize && self.count.arr_act < self.chan.ccr_act[ch]
     }
 
     pub fn with_done(mut self, done: [bool; 4]) -> Timer
         ensures { result ≡ C.with_done self done }
     {
-        let mut h = self.chan;
-        h.cc_done = done;
-        self.chan = h;
+        self.chan.cc_done = done;
         self
     }
 
-    // Marks channels whose compare lies behind the counter as done for this period.
+    // Marks channels whose compare lies behind the counter as done for this period. Four calls and no `array::from_fn`: tried, and the proof didn't
+    // close, there and below.
     pub fn recompute_cc_done(self) -> Timer
         ensures { result ≡ C.recomputed self }
     {
-        let done = [
+        self.with_done([
             self.is_done(0),
             self.is_done(1),
             self.is_done(2),
             self.is_done(3),
-        ];
-        self.with_done(done)
+        ])
     }
 
     // After an update the counter restarts: every channel compares again, including a compare equal to the restart value.
     pub fn recompute_cc_done_after_update(self) -> Timer
         ensures { result ≡ C.recomputed_after_update self }
     {
-        let done = [
+        self.with_done([
             self.is_done_after_update(0),
             self.is_done_after_update(1),
             self.is_done_after_update(2),
             self.is_done_after_update(3),
-        ];
-        self.with_done(done)
+        ])
     }
 
-    // The output reference of channel ch at a count.
+    // The output reference of channel ch at a count. By ranges: an arm for each mode is compiled to a table of jumps, in each of an event's channels.
     pub fn ocref(self, ch: usize, cnt: u32) -> bool
         requires { ch < 4 }
         ensures { result ≡ C.ocref self ch cnt }
     {
         let mode = self.oc_mode(ch);
-        let act = self.chan.ccr_act;
-        let oc = self.chan.oc;
-        ref_of(mode, self.down(), cnt, act[ch], oc[ch])
+        match mode {
+            0..=3 => self.chan.oc[ch],
+            4..=5 => mode == 5,
+            _ => {
+                let active = pwm1(self.down(), cnt, self.chan.ccr_act[ch]);
+                if mode == 6 { active } else { !active }
+            }
+        }
     }
 
     // The level that channel ch drives at a count: OCxREF with CCxE and CCxP.
@@ -577,8 +516,7 @@ impl Timer {
     fn with_flag(mut self, flag: u32) -> Timer
         ensures { result ≡ C.with_flag self flag }
     {
-        let sr = self.regs.sr | flag;
-        self.regs.sr = sr;
+        self.regs.sr |= flag;
         self
     }
 
@@ -586,14 +524,10 @@ impl Timer {
     fn load(mut self) -> Timer
         ensures { result ≡ C.loaded self }
     {
-        let mut h = self.chan;
-        let ccr = h.ccr;
-        h.ccr_act = ccr;
-        self.chan = h;
-        let psc = self.regs.psc;
-        let arr = self.regs.arr;
-        self.count.psc_act = psc;
-        self.count.arr_act = arr;
+        let ccr = self.chan.ccr;
+        self.chan.ccr_act = ccr;
+        self.count.psc_act = self.regs.psc;
+        self.count.arr_act = self.regs.arr;
         self
     }
 
@@ -620,10 +554,8 @@ impl Timer {
         requires { (self.count.psc_act < 65536) × (div ≤ 8192) }
         ensures { result ≡ C.restarted self at div }
     {
-        let first = self.first_count();
-        let tick = step_cycles(self.count.psc_act, div);
-        self.count.cnt0 = first;
-        self.count.tick = tick;
+        self.count.cnt0 = self.first_count();
+        self.count.tick = step_cycles(self.count.psc_act, div);
         self.count.base = at;
         self
     }
@@ -639,14 +571,14 @@ impl Timer {
     fn pulse_ends(self) -> bool
         ensures { result ≡ C.pulse_ends self }
     {
-        (self.regs.cr1 / 8 % 2 == 1) & !(self.inst.manual & (self.regs.cr1 / 2 % 2 == 1))
+        self.regs.cr1 / 8 % 2 == 1 && !(self.inst.manual && self.regs.cr1 / 2 % 2 == 1)
     }
 
     // A pulse ends, and in manual mode CEN with it.
     fn drops_cen(self) -> bool
         ensures { result ≡ (C.pulse_ends self && self.inst.manual) }
     {
-        self.pulse_ends() & self.inst.manual
+        self.pulse_ends() && self.inst.manual
     }
 
     fn end_cr1(self) -> u32
@@ -661,10 +593,7 @@ impl Timer {
     fn end_running(self) -> bool
         ensures { result ≡ cond (C.pulse_ends self) false self.count.running }
     {
-        if self.pulse_ends() {
-            return false;
-        }
-        self.count.running
+        !self.pulse_ends() && self.count.running
     }
 
     // What ends at an update: one-pulse, and in manual mode CEN with it. Both fields are always stored: with a return for each case an event takes
@@ -672,9 +601,8 @@ impl Timer {
     fn end(mut self) -> Timer
         ensures { result ≡ C.ended self }
     {
-        let cr1 = self.end_cr1();
         let running = self.end_running();
-        self.regs.cr1 = cr1;
+        self.regs.cr1 = self.end_cr1();
         self.count.running = running;
         self
     }
@@ -684,10 +612,10 @@ impl Timer {
         requires { (Fit self) × (div ≤ 8192) }
         ensures { result ≡ C.updated self at div }
     {
-        let r = self.reload();
-        let s = r.restart(at, div);
-        let d = s.recompute_cc_done_after_update();
-        d.end()
+        self.reload()
+            .restart(at, div)
+            .recompute_cc_done_after_update()
+            .end()
     }
 
     // A match of channel ch: the reference that its mode latches, and its flag.
@@ -695,13 +623,7 @@ impl Timer {
         requires { ch < 4 }
         ensures { result ≡ C.matched self ch }
     {
-        let mode = self.oc_mode(ch);
-        let mut h = self.chan;
-        let mut oc = h.oc;
-        let latched = at_match(mode, oc[ch]);
-        oc[ch] = latched;
-        h.oc = oc;
-        self.chan = h;
+        self.chan.oc[ch] = at_match(self.oc_mode(ch), self.chan.oc[ch]);
         self.with_flag(cc_flag(ch))
     }
 
@@ -710,10 +632,9 @@ impl Timer {
         requires { ch < 4 }
         ensures { result ≡ C.compared self ch }
     {
-        let mut done = self.chan.cc_done;
-        done[ch] = true;
-        let m = self.matched(ch);
-        m.with_done(done)
+        let mut m = self.matched(ch);
+        m.chan.cc_done[ch] = true;
+        m
     }
 
     fn run_from(mut self, now: u64, tick: u32) -> Timer
@@ -729,16 +650,15 @@ impl Timer {
         requires { (Fit self) × (div ≤ 8192) }
         ensures { result ≡ C.started self now div }
     {
-        let t = self.run_from(now, step_cycles(self.count.psc_act, div));
-        t.recompute_cc_done()
+        self.run_from(now, step_cycles(self.count.psc_act, div))
+            .recompute_cc_done()
     }
 
     pub fn stop(self, now: u64) -> Timer
         requires { (Fit self) × (now < 9223372036854775808) }
         ensures { result ≡ C.stopped self now }
     {
-        let s = self.sync(now);
-        s.with_running(false)
+        self.sync(now).with_running(false)
     }
 
     fn with_tick(mut self, tick: u32) -> Timer
@@ -753,8 +673,7 @@ impl Timer {
         ensures { result ≡ C.retimed self now div }
     {
         let tick = step_cycles(self.count.psc_act, div);
-        let s = self.sync(now);
-        s.with_tick(tick)
+        self.sync(now).with_tick(tick)
     }
 
     // The update that EGR's UG makes.
@@ -762,20 +681,17 @@ impl Timer {
         requires { (Fit self) × (div ≤ 8192) }
         ensures { result ≡ C.generated self now div }
     {
-        let l = self.load();
-        let s = l.restart(now, div);
-        let d = s.recompute_cc_done_after_update();
-        d.flag_generated()
+        self.load()
+            .restart(now, div)
+            .recompute_cc_done_after_update()
+            .flag_generated()
     }
 
     // UIF, unless URS or UDIS.
     fn flag_generated(self) -> Timer
         ensures { result ≡ C.flagged_generated self }
     {
-        if self.regs.cr1 / 4 % 2 == 1 {
-            return self;
-        }
-        if self.regs.cr1 / 2 % 2 == 1 {
+        if self.regs.cr1 / 4 % 2 == 1 || self.regs.cr1 / 2 % 2 == 1 {
             return self;
         }
         self.with_flag(1)
@@ -803,21 +719,4 @@ fn nearer(steps: u64, ch: usize, best: Ahead) -> Ahead
         };
     }
     best
-}
-
-fn ref_of(mode: u32, down: bool, cnt: u32, ccr: u32, latched: bool) -> bool
-    requires { mode < 8 }
-    ensures { result ≡ Out.ocref mode down cnt ccr latched }
-{
-    if mode >= 6 {
-        let p = pwm1(down, cnt, ccr);
-        if mode == 6 {
-            return p;
-        }
-        return !p;
-    }
-    if mode >= 4 {
-        return mode == 5;
-    }
-    latched
 }

@@ -31,7 +31,11 @@ use Rattle.state.proofs.InRange.{bounded}
 use Rattle.answer.specs.declared.Answer.{Answer}
 use Rattle.answer.specs.Promise.{answer, Answers}
 use Rattle.answer.proofs.Given.{away}
-use Rattle.why.specs.Tests.{pin_tests, channel_tests}
+use Rattle.std.proofs.Common.{Option, Some, None}
+use Rattle.std.specs.Option.{unwrap_or}
+use Rattle.why.specs.declared.Reason.{Reason}
+use Rattle.why.specs.declared.Reason.TheVariants.{Unknown}
+use Rattle.why.specs.Tests.{number_of, number_or, pin_tests, channel_tests}
 
 -- ---- the timer that feeds a signal
 
@@ -226,6 +230,11 @@ module _ (t : Timer) (ch level cycle : ℕ) where
         pub channel-none : r ≡ false → 3 ≡ first_true (channel_tests t ch level cycle)
         unfolding first_true
         channel-none h = rw (on, lt-leb (oc_mode t ch) 5 (omega (arith, is, pwm)), sym counts ∙ h)
+
+-- no reason of the channel's is the last of all
+pub unwrapped : (o : Option Reason) → number_of (unwrap_or o Unknown) ≡ number_or 10 o
+unwrapped None = refl
+unwrapped (Some r) = refl
 
 -- a first part that has one decides, a first part without one leaves it to the rest
 first-early : (ts us : List Bool) → first_true ts < length ts → first_true ts ≡ first_true (ts ++ us)

@@ -1,22 +1,51 @@
 // Why a pin is low (document 02, F-12): the first true of the reasons of crates/machine/specs/Why.antt. A query: nothing changes.
 #![tactic(auto)]
 
-ghost use Rattle.std.specs.Prelude.{◌≡◌, true, List, ◌<◌, eqb, ltb, Float};
+ghost use Rattle.std.specs.Prelude.{◌≡◌, true, List, ◌+◌, ◌<◌, eqb, ltb, Float, IfSome};
 ghost use Rattle.tim.specs.Timer.{Fit};
-ghost use Rattle.tim.specs.Next.{next_steps, next_event};
+ghost use Rattle.tim.specs.Next.{next_event};
 ghost use Rattle.machine.specs.Board.{timer_at, route_of, level_of};
 ghost use Rattle.machine.specs.Deliver.{due_by};
 ghost use Rattle.machine.specs.Call as C;
 ghost use Rattle.machine.specs.Step.{step};
 ghost use Rattle.machine.specs.Why as W;
-ghost use Rattle.answer.specs.Promise.{Answers};
+ghost use Rattle.answer.specs.Promise.{Tells};
+ghost use Rattle.answer.specs.Refused.{told};
+ghost use Rattle.state.specs.Lent.{seen_board};
 ghost use Rattle.state.specs.View.{view};
-ghost use Rattle.why.specs.Tests.{pin_tests, channel_tests};
+ghost use Rattle.why.specs.Tests.{number_of, number_or, pin_tests, channel_tests};
 
-use answer::Answer;
+use answer::{Answer, Refusal};
 use gpio::{Gpio, PinCfg};
-use state::{REALS, WORDS};
-use tim::{Ahead, Due, Inst, Next, Timer};
+use state::{SeenBoard, WORDS};
+use tim::{Due, Inst, Timer};
+
+// ---- the reasons
+
+// Why a pin is low, in the order in which they are asked.
+#[derive(Clone, Copy)]
+enum Reason {
+    High,
+    DrivesNothing,
+    OutputsZero,
+    SelectsNone,
+    Released,
+    Unfed,
+    Unrouted,
+    Off,
+    Held,
+    Counted,
+    Unknown,
+}
+
+impl Reason {
+    // The number in the answer.
+    fn number(self) -> u64
+        ensures { result ≡ number_of self }
+    {
+        self as u64
+    }
+}
 
 // ---- the timer
 
@@ -56,51 +85,12 @@ fn feeder(words: &[u64; WORDS], s: u32) -> usize
     ensures { (x : List Float) → result ≡ W.feeder (view words.now x) s }
 {
     let n = state::timer_count(words);
-    let mut i = 0;
-    while i < n {
-        let k = fields::inst(words, i);
-        if feeds(k, s) {
+    for i in 0..n {
+        if feeds(fields::inst(words, i), s) {
             return i;
         }
-        i += 1;
     }
     n
-}
-
-// The next event and its steps. It and `due_of` are tim's own, written out here as in crate `delivery`: so tim's has one caller, and is compiled
-// into `context::rebook`. Called from here too, a write of CCR1 takes an eighth more instructions.
-fn first_of(t: Timer) -> Ahead
-    ensures { result ≡ next_steps t }
-{
-    let update = Ahead {
-        steps: t.update_steps(),
-        next: Next::Update,
-    };
-    if t.down() {
-        let a = t.consider_down(0, update);
-        let b = t.consider_down(1, a);
-        let c = t.consider_down(2, b);
-        return t.consider_down(3, c);
-    }
-    let a = t.consider_up(0, update);
-    let b = t.consider_up(1, a);
-    let c = t.consider_up(2, b);
-    t.consider_up(3, c)
-}
-
-fn due_of(t: Timer) -> Due
-    requires { Fit t }
-    ensures { result ≡ next_event t }
-{
-    if !t.counts() {
-        return Due::Stopped;
-    }
-    let first = first_of(t);
-    let next = first.next;
-    Due::At(
-        t.count.base + tim::cycles_of(first.steps, t.count.tick),
-        next,
-    )
 }
 
 // An event of the timer is due at or before a cycle.
@@ -108,8 +98,7 @@ fn is_due(t: Timer, cycle: u64) -> bool
     requires { Fit t }
     ensures { result ≡ due_by (next_event t) cycle }
 {
-    let due = due_of(t);
-    match due {
+    match t.next_event() {
         Due::At(at, _) => at <= cycle,
         Due::Stopped => false,
     }
@@ -131,28 +120,19 @@ fn is_behind(words: &[u64; WORDS], i: usize, cycle: u64) -> bool
 fn drives_nothing(c: PinCfg) -> bool
     ensures { result ≡ W.drives_nothing c }
 {
-    if c.mode == 1 {
-        return false;
-    }
-    c.mode != 2
+    c.mode != 1 && c.mode != 2
 }
 
 fn outputs_zero(c: PinCfg) -> bool
     ensures { result ≡ W.outputs_zero c }
 {
-    if c.mode == 1 {
-        return c.odr == 0;
-    }
-    false
+    c.mode == 1 && c.odr == 0
 }
 
 fn selects_none(g: Gpio) -> bool
     ensures { result ≡ W.selects_none g }
 {
-    if g.cfg.mode == 2 {
-        return g.sig == 0;
-    }
-    false
+    g.cfg.mode == 2 && g.sig == 0
 }
 
 // An open-drain 1: the output bit, or the level of the signal.
@@ -172,27 +152,28 @@ fn is_released(g: Gpio, level: u8) -> bool
     false
 }
 
-// Reasons 0 to 4; 5 where none is true.
-fn of_pin(g: Gpio, level: u8) -> u64
+// The first of the pin's own reasons, 0 to 4.
+fn of_pin(g: Gpio, level: u8) -> Option<Reason>
     requires { g.sig < 65536 }
-    ensures { result ≡ W.first_true (pin_tests g level) }
+    ensures value { number_or 5 result ≡ W.first_true (pin_tests g level) }
+    ensures below { IfSome result (λ r. number_of r < 5) }
 {
     if g.pin.level == 1 {
-        return 0;
+        return Some(Reason::High);
     }
     if drives_nothing(g.cfg) {
-        return 1;
+        return Some(Reason::DrivesNothing);
     }
     if outputs_zero(g.cfg) {
-        return 2;
+        return Some(Reason::OutputsZero);
     }
     if selects_none(g) {
-        return 3;
+        return Some(Reason::SelectsNone);
     }
     if is_released(g, level) {
-        return 4;
+        return Some(Reason::Released);
     }
-    5
+    None
 }
 
 // ---- the channel
@@ -226,72 +207,70 @@ fn counts_low(t: Timer, ch: usize, cycle: u64) -> bool
     !active
 }
 
-// Reasons 7 to 9, counted from 0; 3 where none is true.
-fn of_channel(t: Timer, ch: usize, level: u8, cycle: u64) -> u64
+// The first of the channel's reasons, 7 to 9.
+fn of_channel(t: Timer, ch: usize, level: u8, cycle: u64) -> Option<Reason>
     requires { (Fit t) × ((ch < 4) × (cycle < 9223372036854775808)) }
-    ensures value { result ≡ W.first_true (channel_tests t ch level cycle) }
-    ensures upper_bound { result < 4 }
+    ensures { number_or 10 result ≡ 7 + W.first_true (channel_tests t ch level cycle) }
 {
     if is_off(t, ch) {
-        return 0;
+        return Some(Reason::Off);
     }
     if level != 0 {
-        return 3;
+        return None;
     }
     if t.oc_mode(ch) <= 5 {
-        return 1;
+        return Some(Reason::Held);
     }
     if counts_low(t, ch, cycle) {
-        return 2;
+        return Some(Reason::Counted);
     }
-    3
+    None
 }
 
 // ---- the reason
 
 // Of pin p, as g, with the selected signal s, which timer i feeds if there is one of that index.
-fn reason(words: &[u64; WORDS], p: usize, g: Gpio, s: u32, i: usize, cycle: u64) -> u64
+fn first_reason(words: &[u64; WORDS], p: usize, g: Gpio, s: u32, i: usize, cycle: u64) -> Reason
     requires { (g.sig < 65536) × ((s < 256) × ((cycle < 9223372036854775808) × ((x : List Float) → i < (view words.now x).counts.timers → W.feeds (timer_at (view words.now x) i).inst s ≡ true))) }
-    ensures { (x : List Float) → result ≡ W.first_true (W.tests g (level_of (view words.now x).pads s) (ltb i (view words.now x).counts.timers) (eqb (route_of (view words.now x).pads s) p) (timer_at (view words.now x) i) (W.channel_of (timer_at (view words.now x) i).inst s) cycle) }
+    ensures { (x : List Float) → number_of result ≡ W.first_true (W.tests g (level_of (view words.now x).pads s) (ltb i (view words.now x).counts.timers) (eqb (route_of (view words.now x).pads s) p) (timer_at (view words.now x) i) (W.channel_of (timer_at (view words.now x) i).inst s) cycle) }
 {
     let level = state::sig_level(words, s as usize);
-    let first = of_pin(g, level);
-    if first < 5 {
+    if let Some(first) = of_pin(g, level) {
         return first;
     }
     if g.cfg.mode != 2 {
-        return 10;
+        return Reason::Unknown;
     }
     if state::timer_count(words) <= i {
-        return 5;
+        return Reason::Unfed;
     }
     if state::route(words, s as usize) != p {
-        return 6;
+        return Reason::Unrouted;
     }
     let t = state::load_timer(words, i);
     let ch = channel_of(t.inst, s);
-    7 + of_channel(t, ch, level, cycle)
+    of_channel(t, ch, level, cycle).unwrap_or(Reason::Unknown)
 }
 
 // ---- the query
 
-// 8 while the timer that feeds the pin's signal has an event due by the cycle: no value, and nothing changes.
-pub fn why(words: &[u64; WORDS], reals: &[f64; REALS], pin: u32, cycle: u64) -> Answer
-    ensures { Answers (step (view words.now reals.now) (C.query_why pin cycle)) result words.now words.now reals.now reals.now }
+// Refused while the timer that feeds the pin's signal has an event due by the cycle: nothing changes.
+pub fn why(board: SeenBoard<'_>, pin: u32, cycle: u64) -> Result<Answer, Refusal>
+    ensures { Tells (step (seen_board board.entry) (C.query_why pin cycle)) (told result) board.entry }
 {
     let p = pin as usize;
-    if state::pin_count(words) <= p {
-        return answer::refused(2);
+    if state::pin_count(board.words) <= p {
+        return Err(Refusal::NoSuchIndex);
     }
-    if answer::is_astray(words, cycle) {
-        return answer::refused(5);
+    if answer::is_astray(board.words, cycle) {
+        return Err(Refusal::ClockAstray);
     }
-    let g = state::load_gpio(words, reals, p);
+    let g = board.load_gpio(p);
     let s = gpio::signal_of(g);
-    let i = feeder(words, s);
-    if is_behind(words, i, cycle) {
-        return answer::refused(8);
+    let i = feeder(board.words, s);
+    if is_behind(board.words, i, cycle) {
+        return Err(Refusal::EventsDue);
     }
-    let r = reason(words, p, g, s, i, cycle);
-    answer::served(r)
+    let r = first_reason(board.words, p, g, s, i, cycle);
+    Ok(answer::served(r.number()))
 }

@@ -1,4 +1,6 @@
 -- A write over any board: the callees' equations in, step's answer out. Assumes nothing.
+use Rattle.std.specs.Option.{is_some}
+use Rattle.std.proofs.Common.{Option, Some, None}
 use mathlib.Core.Path.{◌≡◌, refl, ap, sym, subst, ◌∙◌}
 use mathlib.Core.Bool.{Bool, true, false, cond, ◌&&◌, false≢true}
 use mathlib.Core.List.{List, [], ◌∷◌}
@@ -42,7 +44,7 @@ use Rattle.mmio.proofs.Laws.{asked, after-stored, drives-on, follows}
 use Rattle.outputs.specs.Outputs as O
 use Rattle.fields.specs.Field.{with_reg}
 use Rattle.fields.proofs.Words.{same-timer}
-use Rattle.write.specs.Writes.{written_by, written_on, answer_of}
+use Rattle.write.specs.Writes.{written_by, written_on}
 
 -- stored but for its fixed parts, which a write leaves
 stored-live : (b b₁ : Board) (i : ℕ) (t : Timer) → t.inst ≡ (timer_at b i).inst → b₁ ≡ with_timer b i (with_inst t (timer_at b i).inst) → b₁ ≡ with_timer b i t
@@ -50,10 +52,10 @@ stored-live b b₁ i t h e = e ∙ ap (λ (k : Inst). with_timer b i (with_inst 
 
 -- what follows from it, of the board before
 pub stored-follows : (b b₁ b₂ : Board) (i cycle : ℕ) (u : Written) (k k₁ : Book) → i < length b.timers → u.timer.inst ≡ (timer_at b i).inst
-    → b₁ ≡ with_timer b i (with_inst u.timer (timer_at b i).inst) → Leaves (after b₁ i cycle u.drive u.cnt u.line u.book) b₂ k k₁ → Leaves (followed b i cycle u) b₂ k k₁
+    → b₁ ≡ with_timer b i (with_inst u.timer (timer_at b i).inst) → Leaves (after b₁ i cycle u.drive u.line u.book) b₂ k k₁ → Leaves (followed b i cycle u) b₂ k k₁
 unfolding followed
 stored-follows b b₁ b₂ i cycle u k k₁ l h e m =
-    subst (λ (o : Outcome). Leaves o b₂ k k₁) (after-stored b b₁ i cycle u.cnt u.timer u.drive u.line u.book l (stored-live b b₁ i u.timer h e)) m
+    subst (λ (o : Outcome). Leaves o b₂ k k₁) (after-stored b b₁ i cycle u.timer u.drive u.line u.book l (stored-live b b₁ i u.timer h e)) m
 
 -- ---- writes
 pub loaded-ready : (w : List ℕ) (x : List Float) (i cycle div : ℕ) (t : Timer) → t ≡ timer_at (view w x) i → cycle ≤ 4611686018427387904 → 1 ≤ div → div ≤ 8192
@@ -111,35 +113,10 @@ module _ (w : List ℕ) (x : List Float) (i offset size value cycle v : ℕ)
       → Holds (written_on (view w x) i offset size value cycle).entries s s₁ k
   on-merged-book s s₁ k m = subst (λ (z : ℕ). Holds (written_by (view w x) i (register offset) z cycle).entries s s₁ k) e m
 
--- a whole write of a register
-module _ (w : List ℕ) (x : List Float) (i off size v cycle : ℕ) (e : register off ≡ off) (z : size ≡ 4) where
-  whole_by : written_on (view w x) i off size v cycle ≡ written_by (view w x) i off v cycle
-  unfolding lane_write
-  whole_by = ap (λ (n : ℕ). written_on (view w x) i off n v cycle) z ∙ ap (λ (k : ℕ). written_by (view w x) i k v cycle) e
-
-  pub as-whole : (r : Answer) (w₁ : List ℕ) (x₁ : List Float) → Answers (written_on (view w x) i off size v cycle) r w w₁ x x₁ → Answers (written_by (view w x) i off v cycle) r w w₁ x x₁
-  as-whole r w₁ x₁ m = subst (λ (o : Outcome). Answers o r w w₁ x x₁) whole_by m
-
-  pub as-whole-book : (s s₁ : Lent) (k : ℕ) → Holds (written_on (view w x) i off size v cycle).entries s s₁ k → Holds (written_by (view w x) i off v cycle).entries s s₁ k
-  as-whole-book s s₁ k m = subst (λ (o : Outcome). Holds o.entries s s₁ k) whole_by m
-
 -- a whole write is its value
 pub whole : (old offset size value : ℕ) → size ≡ 4 → value ≡ lane_write old offset size value
 unfolding lane_write
 whole old offset size value h = rw (eq-eqb size 4 h)
-
--- the answer that a number stands for
-pub coded : (o : Outcome) (a r : Answer) (w w₁ : List ℕ) (x x₁ : List Float) → r ≡ a → Answers o a w w₁ x x₁ → Answers o r w w₁ x x₁
-coded o a r w w₁ x x₁ e m = subst (λ (y : Answer). Answers o y w w₁ x x₁) (sym e) m
-
-pub coded-book : (es : List Entry) (a r : Answer) (s s₁ : Lent) → r ≡ a → Holds es s s₁ a.count → Holds es s s₁ r.count
-coded-book es a r s s₁ e m = subst (λ (y : Answer). Holds es s s₁ y.count) (sym e) m
-
-pub coding : (k : ℕ) → answer_of (4294967296 * k) ≡ answer 0 0 k
-coding k =
-    let n : (4294967296 * k) % 4294967296 ≡ 0 = omega arith in
-    let c : (4294967296 * k) / 4294967296 ≡ k = omega arith in
-    rw (n, c)
 
 -- ---- short ways
 
@@ -177,7 +154,7 @@ module _ (w : List ℕ) (x : List Float) (i v cycle : ℕ) where
   sr-entries = ap (λ (o : Outcome). o.entries) sr-by
 
   module _ (b₁ b₂ : Board) (w₁ : List ℕ) (l : i < length (view w x).timers) (e₂ : b₂ ≡ line_settled i (timer_at b₁ i) b₁) (e₃ : view w₁ x ≡ with_last b₂ cycle) where
-    lined-gives : (u : Timer) → b₁ ≡ with_timer (view w x) i u → Answers (followed (view w x) i cycle (R.lined u)) (answer_of 0) w w₁ x x
+    lined-gives : (u : Timer) → b₁ ≡ with_timer (view w x) i u → Answers (followed (view w x) i cycle (R.lined u)) (answer 0 0 0) w w₁ x x
     unfolding followed
     lined-gives u e₁ =
         gives (followed (view w x) i cycle (R.lined u)) (answer 0 0 0) w w₁ x x refl refl refl
@@ -186,15 +163,15 @@ module _ (w : List ℕ) (x : List Float) (i v cycle : ℕ) where
         refl
 
     pub dier-gives : (m : ℕ) → m ≡ kept_mask 3 → b₁ ≡ with_timer (view w x) i (with_reg (timer_at (view w x) i) 3 (bit_and v m))
-        → Answers (written_by (view w x) i 0x0c v cycle) (answer_of 0) w w₁ x x
+        → Answers (written_by (view w x) i 0x0c v cycle) (answer 0 0 0) w w₁ x x
     dier-gives m k e₁ =
-        subst (λ (o : Outcome). Answers o (answer_of 0) w w₁ x x) (sym dier-by)
+        subst (λ (o : Outcome). Answers o (answer 0 0 0) w w₁ x x) (sym dier-by)
         (lined-gives (R.with_dier (timer_at (view w x) i) (R.kept 3 v)) (e₁ ∙ ap (λ (y : ℕ). with_timer (view w x) i (R.with_dier (timer_at (view w x) i) (bit_and v y))) k))
 
     pub sr-gives : (t : Timer) (n : ℕ) → t ≡ timer_at (view w x) i → n ≡ R.kept_sr t.regs.sr v → b₁ ≡ with_timer (view w x) i (with_reg (timer_at (view w x) i) 4 n)
-        → Answers (written_by (view w x) i 0x10 v cycle) (answer_of 0) w w₁ x x
+        → Answers (written_by (view w x) i 0x10 v cycle) (answer 0 0 0) w w₁ x x
     sr-gives t n load k e₁ =
-        subst (λ (o : Outcome). Answers o (answer_of 0) w w₁ x x) (sym sr-by)
+        subst (λ (o : Outcome). Answers o (answer 0 0 0) w w₁ x x) (sym sr-by)
         (lined-gives (R.with_sr (timer_at (view w x) i) (R.kept_sr (timer_at (view w x) i).regs.sr v))
         (e₁ ∙ ap (λ (y : ℕ). with_timer (view w x) i (R.with_sr (timer_at (view w x) i) y)) (k ∙ ap (λ (y : Timer). R.kept_sr y.regs.sr v) load)))
 
@@ -214,7 +191,7 @@ module _ (w : List ℕ) (x : List Float) (i v cycle : ℕ) where
   cr1-entries = ap (λ (o : Outcome). o.entries) cr1-by ∙ either (λ (o : Outcome). o.entries ≡ []) (R.astray started) refl refl
 
   pub cr1-served : (b₁ b₂ : Board) (w₁ : List ℕ) → i < length (view w x).timers → R.astray started ≡ false → b₁ ≡ with_timer (view w x) i started
-      → b₂ ≡ rebooked i (timer_at b₁ i) cycle b₁ → view w₁ x ≡ with_last b₂ cycle → Answers (written_by (view w x) i 0 v cycle) (answer_of 0) w w₁ x x
+      → b₂ ≡ rebooked i (timer_at b₁ i) cycle b₁ → view w₁ x ≡ with_last b₂ cycle → Answers (written_by (view w x) i 0 v cycle) (answer 0 0 0) w w₁ x x
   unfolding followed
   cr1-served b₁ b₂ w₁ l h e₁ e₂ e₃ =
       let served : written_by (view w x) i 0 v cycle ≡ followed (view w x) i cycle (R.booked started) = cr1-by ∙ rw h refl in
@@ -236,52 +213,42 @@ module _ (w w₀ : List ℕ) (same : w₀ ≡ w) (x : List Float) (i off v cycle
 
 -- ---- compares
 
--- the outputs are driven at the counter: a compare does not move it
-compare-count : (t : Timer) (ch v cycle : ℕ) → (R.ccr_written t ch v cycle).drive ≡ true → cnt_at (R.ccr_written t ch v cycle).timer cycle ≡ (R.ccr_written t ch v cycle).cnt
+-- where it acts the outputs are driven at the counter: a compare does not move it
+compare-drive : (t : Timer) (ch v cycle cnt : ℕ) (on : Bool) → on ≡ is_some (R.ccr_written t ch v cycle).drive
+    → (is_some (R.ccr_written t ch v cycle).drive ≡ true → cnt ≡ cnt_at (R.ccr_written t ch v cycle).timer cycle)
+    → cond on (Some cnt) None ≡ (R.ccr_written t ch v cycle).drive
 unfolding R.ccr_written cnt_at
-compare-count t ch v cycle =
-    either (λ (w : Written). w.drive ≡ true → cnt_at w.timer cycle ≡ w.cnt) (Out.OCxPE (ccmr_byte t ch)) (λ h. absurd (false≢true h)) (λ h. refl)
+compare-drive t ch v cycle cnt on =
+    either (λ (w : Written). on ≡ is_some w.drive → (is_some w.drive ≡ true → cnt ≡ cnt_at w.timer cycle) → cond on (Some cnt) None ≡ w.drive) (Out.OCxPE (ccmr_byte t ch))
+    (λ o n. ap (λ (z : Bool). cond z (Some cnt) None) o)
+    (λ o n. ap (λ (z : Bool). cond z (Some cnt) None) o ∙ ap (λ (z : ℕ). Some z) (n refl))
 
 -- where they are driven the next event is booked
-compare-booked : (t : Timer) (ch v cycle : ℕ) → (R.ccr_written t ch v cycle).drive ≡ (R.ccr_written t ch v cycle).book
+compare-booked : (t : Timer) (ch v cycle : ℕ) → is_some (R.ccr_written t ch v cycle).drive ≡ (R.ccr_written t ch v cycle).book
 unfolding R.ccr_written
-compare-booked t ch v cycle = either (λ (w : Written). w.drive ≡ w.book) (Out.OCxPE (ccmr_byte t ch)) refl refl
+compare-booked t ch v cycle = either (λ (w : Written). is_some w.drive ≡ w.book) (Out.OCxPE (ccmr_byte t ch)) refl refl
 
 compare-line : (t : Timer) (ch v cycle : ℕ) → (R.ccr_written t ch v cycle).line ≡ false
 unfolding R.ccr_written
 compare-line t ch v cycle = either (λ (w : Written). w.line ≡ false) (Out.OCxPE (ccmr_byte t ch)) refl refl
 
--- the count is looked at only where the outputs are driven
-at_count_lem : (b : Board) (i cycle cnt cnt₁ : ℕ) (driven lined booked : Bool) → (driven ≡ true → cnt ≡ cnt₁)
-    → after b i cycle driven cnt lined booked ≡ after b i cycle driven cnt₁ lined booked
-unfolding followed
-at_count_lem b i cycle cnt cnt₁ true lined booked h = ap (λ (n : ℕ). after b i cycle true n lined booked) (h refl)
-at_count_lem b i cycle cnt cnt₁ false lined booked h = refl
-
 -- a compare that waits: nothing follows
-pub waits-follow : (b b₁ : Board) (i cycle : ℕ) (k : Book) → b₁ ≡ with_last b cycle → Leaves (after b i cycle false 0 false false) b₁ k k
+pub waits-follow : (b b₁ : Board) (i cycle : ℕ) (k : Book) → b₁ ≡ with_last b cycle → Leaves (after b i cycle None false false) b₁ k k
 unfolding followed puts
 waits-follow b b₁ i cycle k e = record { board = e ∙ ap (λ (y : Board). with_last y cycle) (sym (same-timer b i)); entries = refl }
 
--- one that acts at once
-pub acts-follow : (b b₂ b₃ b₄ : Board) (i cycle cnt : ℕ) (k k₁ : Book) → O.Driven (drive_outputs (timer_at b i) cnt b.pads) cycle b b₂ k k₁
-    → b₃ ≡ rebooked i (timer_at b₂ i) cycle b₂ → b₄ ≡ with_last b₃ cycle → Leaves (after b i cycle true cnt false true) b₄ k k₁
-acts-follow b b₂ b₃ b₄ i cycle cnt k k₁ d e₃ e₄ =
-    follows b b₂ b₂ b₃ b₄ i cycle cnt true false true k k₁ (drives-on true (timer_at b i) cnt cycle b b₂ k k₁ refl d) refl e₃ e₄
-
 pub compare-follows : (b b₁ : Board) (i ch v cycle cnt : ℕ) (on : Bool) → i < length b.timers
-    → b₁ ≡ with_timer b i (R.ccr_written (timer_at b i) ch v cycle).timer → on ≡ (R.ccr_written (timer_at b i) ch v cycle).drive
-    → ((R.ccr_written (timer_at b i) ch v cycle).drive ≡ true → cnt ≡ cnt_at (timer_at b₁ i) cycle)
-    → after b₁ i cycle on cnt false on ≡ followed b i cycle (R.ccr_written (timer_at b i) ch v cycle)
+    → b₁ ≡ with_timer b i (R.ccr_written (timer_at b i) ch v cycle).timer → on ≡ is_some (R.ccr_written (timer_at b i) ch v cycle).drive
+    → (is_some (R.ccr_written (timer_at b i) ch v cycle).drive ≡ true → cnt ≡ cnt_at (timer_at b₁ i) cycle)
+    → after b₁ i cycle (cond on (Some cnt) None) false on ≡ followed b i cycle (R.ccr_written (timer_at b i) ch v cycle)
 unfolding followed
 compare-follows b b₁ i ch v cycle cnt on l e o n =
     let w = R.ccr_written (timer_at b i) ch v cycle in
     let there : timer_at b₁ i ≡ w.timer = stored_there b b₁ i w.timer l e in
-    ap (λ (z : Bool). after b₁ i cycle z cnt false z) o
-    ∙ at_count_lem b₁ i cycle cnt w.cnt w.drive false w.drive (λ h. n h ∙ ap (λ (y : Timer). cnt_at y cycle) there ∙ compare-count (timer_at b i) ch v cycle h)
-    ∙ ap (λ (z : Bool). after b₁ i cycle w.drive w.cnt z w.drive) (sym (compare-line (timer_at b i) ch v cycle))
-    ∙ ap (λ (z : Bool). after b₁ i cycle w.drive w.cnt w.line z) (compare-booked (timer_at b i) ch v cycle)
-    ∙ after-stored b b₁ i cycle w.cnt w.timer w.drive w.line w.book l e
+    ap (λ (z : Option ℕ). after b₁ i cycle z false on) (compare-drive (timer_at b i) ch v cycle cnt on o (λ h. n h ∙ ap (λ (y : Timer). cnt_at y cycle) there))
+    ∙ ap (λ (z : Bool). after b₁ i cycle w.drive false z) (o ∙ compare-booked (timer_at b i) ch v cycle)
+    ∙ ap (λ (z : Bool). after b₁ i cycle w.drive z w.book) (sym (compare-line (timer_at b i) ch v cycle))
+    ∙ after-stored b b₁ i cycle w.timer w.drive w.line w.book l e
 
 -- at the offset of a compare
 pub channel-lt : (off : ℕ) → R.is_ccr off ≡ true → (0x34 ≤ off) × (R.ccr_channel off < 4)
@@ -329,10 +296,10 @@ module _ (w : List ℕ) (x : List Float) (i off v cycle : ℕ) (h : R.is_ccr off
     unfolding followed
     without-entries z = ap (λ (o : Outcome). o.entries) (without z)
 
-    pub without-gives : n.channels ≡ 0 → (w₁ : List ℕ) → view w₁ x ≡ with_last (view w x) cycle → Answers (written_by (view w x) i off v cycle) (answer_of 0) w w₁ x x
+    pub without-gives : n.channels ≡ 0 → (w₁ : List ℕ) → view w₁ x ≡ with_last (view w x) cycle → Answers (written_by (view w x) i off v cycle) (answer 0 0 0) w w₁ x x
     unfolding followed
     without-gives z w₁ e =
-        subst (λ (o : Outcome). Answers o (answer_of 0) w w₁ x x) (sym (without z))
+        subst (λ (o : Outcome). Answers o (answer 0 0 0) w w₁ x x) (sym (without z))
         (gives (followed (view w x) i cycle (R.only t)) (answer 0 0 0) w w₁ x x refl refl refl (e ∙ ap (λ (y : Board). with_last y cycle) (sym (same-timer (view w x) i))) refl)
 
     -- one with channels

@@ -1,4 +1,5 @@
 -- A timer that was synced counts as its reference says. Assumes nothing.
+use Rattle.std.specs.Option.{is_some}
 use mathlib.Core.Path.{◌≡◌, refl, ap, sym, ◌∙◌}
 use mathlib.Core.Bool.{Bool, true, false, cond, false≢true}
 use Prim.Native.Nat.{ℕ, ◌+◌, ◌-◌, ◌*◌, ◌/◌, ◌%◌, ◌≤◌, ◌<◌, min}
@@ -55,15 +56,15 @@ synced-counts t now h = go (blocked t) t.count.running refl refl
     go false true p e = rw (e, p, no_step t.count.base now t.count.tick h) (resting t.count.arr_act _ (down t) (count-le t ((now - t.count.base) / t.count.tick)))
 
 -- so does one whose compare was written, where the outputs are driven
-compare-rests : (t : Timer) (ch v cycle : ℕ) → 0 < t.count.tick → (R.ccr_written t ch v cycle).drive ≡ true
+compare-rests : (t : Timer) (ch v cycle : ℕ) → 0 < t.count.tick → is_some (R.ccr_written t ch v cycle).drive ≡ true
     → (R.ccr_written t ch v cycle).timer.count.cnt0 ≡ cnt_at (R.ccr_written t ch v cycle).timer cycle
 unfolding R.ccr_written cnt_at
 compare-rests t ch v cycle h =
-    either (λ (w : Written). w.drive ≡ true → w.timer.count.cnt0 ≡ cnt_at w.timer cycle) (Out.OCxPE (ccmr_byte t ch)) (λ q. absurd (false≢true q))
+    either (λ (w : Written). is_some w.drive ≡ true → w.timer.count.cnt0 ≡ cnt_at w.timer cycle) (Out.OCxPE (ccmr_byte t ch)) (λ q. absurd (false≢true q))
     (λ q. sym (synced-counts t cycle h))
 
 pub rests : (b b₁ : Board) (i ch v cycle cnt : ℕ) → i < length b.timers → 0 < (timer_at b i).count.tick → b₁ ≡ with_timer b i (R.ccr_written (timer_at b i) ch v cycle).timer
-    → cnt ≡ (timer_at b₁ i).count.cnt0 → (R.ccr_written (timer_at b i) ch v cycle).drive ≡ true → cnt ≡ cnt_at (timer_at b₁ i) cycle
+    → cnt ≡ (timer_at b₁ i).count.cnt0 → is_some (R.ccr_written (timer_at b i) ch v cycle).drive ≡ true → cnt ≡ cnt_at (timer_at b₁ i) cycle
 rests b b₁ i ch v cycle cnt l h e c d =
     let u = (R.ccr_written (timer_at b i) ch v cycle).timer in
     let there : timer_at b₁ i ≡ u = stored_there b b₁ i u l e in

@@ -1,5 +1,5 @@
--- A write of a register, and its answer as a number.
-use Rattle.std.specs.Prelude.{Bool, ℕ, ◌/◌, ◌%◌, eqb}
+-- A write of a register, and what it answers.
+use Rattle.std.specs.Prelude.{ℕ, Result, Ok, Err}
 use Rattle.machine.specs.Board.{Board, timer_at}
 use Rattle.machine.specs.Call.{Outcome}
 use Rattle.machine.specs.Deliver.{divider_of}
@@ -7,6 +7,9 @@ use Rattle.machine.specs.Step.{refuse_if, register, present, counter_astray, fol
 use Rattle.regs.specs.Regs as R
 use Rattle.periph.specs.Lane.{lane_write}
 use Rattle.answer.specs.declared.Answer.{Answer}
+use Rattle.answer.specs.declared.Refusal.{Refusal as Why}
+use Rattle.answer.specs.Promise.{answer}
+use Rattle.answer.specs.Refused.{number_of}
 
 -- a write of the value v to register off
 unfoldable pub written_by : Board → ℕ → ℕ → ℕ → ℕ → Outcome
@@ -19,10 +22,7 @@ abbrev pub written_on : Board → ℕ → ℕ → ℕ → ℕ → ℕ → Outcom
 written_on b i offset size value cycle =
     written_by b i (register offset) (lane_write (present (timer_at b i) (register offset) cycle) offset size value) cycle
 
--- a write that may go the short way of DIER and SR: a whole one. CR1's and the compares' are open to partial writes too, once merged
-abbrev pub quick : ℕ → Bool
-quick size = eqb size 4
-
--- an answer without a value, of a number: the number plus 2^32 times the count
-abbrev pub answer_of : ℕ → Answer
-answer_of k = record { value = 0; number = k % 4294967296; count = k / 4294967296 }
+-- what a write below the gate answers: served with so many entries, or refused
+abbrev pub written : Result Unit Why → ℕ → Answer
+written (Ok u) k = answer 0 0 k
+written (Err r) k = answer (number_of r) 0 0

@@ -25,10 +25,7 @@ impl<'a> Writer<'a> {
     pub fn new(cycles: &'a mut [u64], n: usize) -> Writer<'a>
         ensures { result ≡ writing cycles.entry n }
     {
-        Writer {
-            cycles: cycles,
-            n: n,
-        }
+        Writer { cycles, n }
     }
 
     // One more cycle. The writer is handed back.
@@ -36,6 +33,7 @@ impl<'a> Writer<'a> {
         requires { self.n < length self.cycles.now }
         ensures { result ≡ filled self.entry cycle }
     {
+        // Read first: beside the reborrow the check wants a variable.
         let n = self.n;
         let next = put_at(&mut *self.cycles, n, cycle);
         Writer {
@@ -67,9 +65,6 @@ pub fn append(cycles: &mut [u64], n: usize, cycle: u64) -> usize
     ensures { (result ≡ n + 1) × (cycles.new ≡ set cycles.old n cycle) }
 {
     // Made in place and ended by one call: what a writer that came back from a call leaves in the slice is not known to the check.
-    let w = Writer {
-        cycles: cycles,
-        n: n,
-    };
+    let w = Writer { cycles, n };
     w.put_last(cycle)
 }

@@ -3,4 +3,4 @@ use Rattle.blank.proofs.Blank.{blank-words}
 use Rattle.blank.proofs.clear_words.Goals as goal
 
 pub returns : goal.returns
-returns c = blank-words c.args.words.now _ _ _ _ c.sized.ensures c.fill.ensures c.fill-2.ensures c.fill-3.ensures c.idle_levels.ensures
+returns c = blank-words c.args.words.now _ _ _ _ c.told-words c.fill.ensures c.fill-2.ensures c.fill-3.ensures c.idle_levels.ensures

@@ -1,12 +1,8 @@
 -- The loop has filled the first j words.
-use Prim.Native.Nat.{◌-◌, ◌≤◌}
 use Rattle.state.specs.Parts.{repeated}
 use lib.Seq.{paste}
 use mathlib.Core.Path.{◌≡◌}
 use Rattle.blank.proofs.fill.Given as goal
 
 abbrev pub invariant-loop-j : goal.invariant-loop-j
-invariant-loop-j l = (l.j ≤ l.n) × (l.words ≡ paste l.initial.words l.at (repeated l.n l.v) l.j)
-
-abbrev pub decreases-loop-j : goal.decreases-loop-j
-decreases-loop-j l = l.n - l.j
+invariant-loop-j l = l.words ≡ paste l.initial.words l.at (repeated l.n l.v) l.j

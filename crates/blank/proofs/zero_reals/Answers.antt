@@ -7,10 +7,10 @@ use native.Mathlib.Omega.{arith}
 use Rattle.blank.proofs.zero_reals.Goals as goal
 
 pub loop-j-init : goal.loop-j-init
-loop-j-init c = (omega arith, paste-zero c.args.reals.now 0 (repeated 264 zero_float))
+loop-j-init c = paste-zero c.args.reals.now 0 (repeated 264 zero_float)
 
 pub loop-j-preserved : goal.loop-j-preserved
-loop-j-preserved c = (omega arith, fill_start nan (λ k. zero_float) c.args.reals.now _ 264 c.loop-j.j (omega (arith, c.sized_reals.ensures)) c.loop-j-test.true c.loop-j.invariant.1)
+loop-j-preserved c = fill_start nan (λ k. zero_float) c.args.reals.now _ 264 c.loop-j.j (omega (arith, c.told-reals)) c.loop-j-test.true c.loop-j.invariant
 
 pub returns : goal.returns
-returns c = fill_done nan (λ k. zero_float) c.args.reals.now _ 0 264 c.loop-j.j c.loop-j-test.false c.loop-j.invariant.0 c.loop-j.invariant.1
+returns c = fill_done nan (λ k. zero_float) c.args.reals.now _ 0 264 c.loop-j.j c.loop-j-test.false c.loop-j.auto.j-end c.loop-j.invariant

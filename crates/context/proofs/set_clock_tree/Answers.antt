@@ -10,8 +10,8 @@ set_tree-requires c = good-divided c.args.t c.requires.0
 pub retime_all-requires : goal.retime_all-requires
 retime_all-requires c = c.requires.1
 
-pub returns-then-differs : goal.returns-then-differs
-returns-then-differs c = tree-told _ _ _ _ c.args.t _ _ c.args.cycle c.tree-was.ensures c.clock-k.ensures c.set_tree.ensures c.set_hz.ensures c.set_clock.ensures _ (sym c.differs.ensures ∙ c.if-differs.true) c.retime_all.ensures
+pub returns-then-differs-clause-board : goal.returns-then-differs-clause-board
+returns-then-differs-clause-board c = tree-told _ _ _ _ c.args.t _ _ c.args.cycle (rw (c.seen-seen.ensures.words, c.seen-seen.ensures.reals) at c.tree-was.ensures) (rw (c.seen-seen.ensures.words, c.seen-seen.ensures.reals) at c.clock-k.ensures) c.set_tree.ensures.board c.set_hz.ensures c.set_clock.ensures.board _ (sym c.differs.ensures ∙ c.if-differs.true) c.retime_all.ensures.board
 
-pub returns-else-differs : goal.returns-else-differs
-returns-else-differs c = tree-kept _ _ _ _ c.args.t _ _ c.args.cycle c.tree-was.ensures c.clock-k.ensures c.set_tree.ensures c.set_hz.ensures c.set_clock.ensures (sym c.differs.ensures ∙ c.if-differs.false)
+pub returns-else-differs-clause-board : goal.returns-else-differs-clause-board
+returns-else-differs-clause-board c = tree-kept _ _ _ _ c.args.t _ _ c.args.cycle (rw (c.seen-seen.ensures.words, c.seen-seen.ensures.reals) at c.tree-was.ensures) (rw (c.seen-seen.ensures.words, c.seen-seen.ensures.reals) at c.clock-k.ensures) c.set_tree.ensures.board c.set_hz.ensures c.set_clock.ensures.board (sym c.differs.ensures ∙ c.if-differs.false)

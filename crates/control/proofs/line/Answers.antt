@@ -3,4 +3,4 @@ use Rattle.control.proofs.Laws.{line-told}
 use Rattle.control.proofs.line.Goals as goal
 
 pub returns : goal.returns
-returns c = line-told _ _ _ _ _ (c.line_state-s.ensures c.args.reals.now) c.served.ensures
+returns c = λ x. line-told _ _ _ _ _ (c.line_state-s.ensures x) c.served.ensures

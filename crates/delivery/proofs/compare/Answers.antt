@@ -4,18 +4,11 @@ use mathlib.Core.Path.{ap, sym, ◌∙◌}
 use native.Mathlib.Omega.{arith}
 use Rattle.delivery.proofs.compare.Goals as goal
 
-pub returns-then-ch-eq0 : goal.returns-then-ch-eq0
-returns-then-ch-eq0 c =
-    c.compare.ensures ∙ ap (compared c.args.t) (sym c.if-ch-eq0.true)
+pub returns-in-0 : goal.returns-in-0
+returns-in-0 c = c.compare.ensures ∙ ap (compared c.args.t) (sym c.in-0.is)
 
-pub returns-then-ch-eq1 : goal.returns-then-ch-eq1
-returns-then-ch-eq1 c =
-    c.compare-then-ch-eq1.ensures ∙ ap (compared c.args.t) (sym c.if-ch-eq1.true)
+pub returns-in-1 : goal.returns-in-1
+returns-in-1 c = c.compare-in-1.ensures ∙ ap (compared c.args.t) (sym c.in-1.is)
 
-pub returns-then-ch-eq2 : goal.returns-then-ch-eq2
-returns-then-ch-eq2 c =
-    c.compare-then-ch-eq2.ensures ∙ ap (compared c.args.t) (sym c.if-ch-eq2.true)
-
-pub returns : goal.returns
-returns c =
-    c.compare-2.ensures ∙ ap (compared c.args.t) (omega (arith, c.if-ch-eq0.false, c.if-ch-eq1.false, c.if-ch-eq2.false, c.requires))
+pub returns-in-2 : goal.returns-in-2
+returns-in-2 c = c.compare-in-2.ensures ∙ ap (compared c.args.t) (sym c.in-2.is)

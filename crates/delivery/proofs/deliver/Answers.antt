@@ -1,10 +1,13 @@
 -- The timer loaded, its events run, stored, its line settled and what is due next booked.
 use Rattle.delivery.proofs.Laws.{loaded-fit, due-booked, delivers}
+use mathlib.Core.Path.{refl}
 use Rattle.delivery.proofs.deliver.Goals as goal
 
 pub run-r-requires : goal.run-r-requires
-run-r-requires c =
-    (loaded-fit c.args.words.now c.args.reals.now c.args.i _ (c.load_timer-t.ensures c.args.reals.now), c.divider-div.ensures.lower_bound.0, c.divider-div.ensures.lower_bound.1, c.requires.1)
+run-r-requires c = record {
+  timer = (loaded-fit c.args.board.now.words.now c.args.board.now.reals.now c.args.i _ (c.load_timer-t.ensures c.args.board.now.reals.now), c.divider-div.ensures.lower_bound.0, c.divider-div.ensures.lower_bound.1, c.requires.1);
+  empty = refl;
+}
 
 pub store-requires : goal.store-requires
 store-requires c =
@@ -18,5 +21,5 @@ pub book_due-requires : goal.book_due-requires
 book_due-requires c =
     c.requires.0
 
-pub returns : goal.returns
-returns c = record { delivers = delivers _ _ _ _ _ c.args.i c.args.cycle _ _ _ _ (c.load_timer-t.ensures c.args.reals.now) c.divider-div.ensures.value _ _ c.run-r.ensures.ends c.run-r.ensures.fit.2 (c.store.ensures _) (c.settle_line.ensures _) (due-booked _ _ c.args.i c.args.cycle _ _ c.run-r.ensures.fit.1 (c.book_due.ensures _)); count_bound = c.run-r.ensures.fit.3 }
+pub returns-clause-delivers : goal.returns-clause-delivers
+returns-clause-delivers c = delivers _ _ _ _ _ c.args.i c.args.cycle _ _ _ _ (c.load_timer-t.ensures c.args.board.now.reals.now) (rw (c.seen.ensures.words, c.seen.ensures.reals) at c.divider-div.ensures.value) _ _ _ c.run-r.ensures.ends c.run-r.ensures.fit.2 (c.store.ensures _) (c.settle_line.ensures _) (due-booked _ _ c.args.i c.args.cycle _ _ c.run-r.ensures.fit.1 (c.book_due.ensures _))

@@ -5,4 +5,4 @@ use Rattle.digits.proofs.Laws.{digits}
 use Rattle.digits.proofs.by_digit.Goals as goal
 
 pub returns : goal.returns
-returns c = record { value = omega (arith, digits c.args.n c.args.d, digits (c.args.n / 65536) c.args.d); upper_bound = omega arith }
+returns c = record { exact = omega (arith, digits c.args.n c.args.d, digits (c.args.n / 65536) c.args.d); at_most = omega arith }

@@ -11,4 +11,4 @@ pub overflow_cast-result : goal.overflow_cast-result
 overflow_cast-result c = record { fits = omega (arith, at_most c.args.a c.args.b (omega arith)) }
 
 pub returns : goal.returns
-returns c = record { value = refl; upper_bound = at_most c.args.a c.args.b (omega arith) }
+returns c = record { exact = refl; at_most = at_most c.args.a c.args.b (omega arith) }

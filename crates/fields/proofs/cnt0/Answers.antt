@@ -1,7 +1,7 @@
 -- The counter's word.
 use Rattle.fields.proofs.Stored.{cnt-read}
-use mathlib.Core.Path.{sym}
+use mathlib.Core.Path.{sym, ◌∙◌}
 use Rattle.fields.proofs.cnt0.Goals as goal
 
 pub returns : goal.returns
-returns c = λ x. sym (cnt-read c.args.words.now c.args.i x c.requires)
+returns c = λ x. c.low_32.ensures ∙ sym (cnt-read c.args.words.now c.args.i x c.requires)

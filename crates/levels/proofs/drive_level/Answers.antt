@@ -1,7 +1,8 @@
 -- The words and the real of the pin that change.
 use Rattle.levels.proofs.Pushed.{stored, driven-set}
+use mathlib.Core.Path.{◌∙◌}
 use Rattle.levels.proofs.drive_level.Goals as goal
 
-pub returns : goal.returns
+pub returns-clause-board : goal.returns-clause-board
 unfolding stored
-returns c = driven-set c.args.words.now c.args.reals.now c.sized.ensures c.sized_reals.ensures c.args.p c.requires.0 c.args.level c.requires.1 c.volts-v.result (c.volts-v.ensures c.args.words.now)
+returns-clause-board c = driven-set c.args.board.now.words.now c.args.board.now.reals.now c.known_lengths.ensures.words c.known_lengths.ensures.reals c.args.p c.requires.0 c.args.level c.requires.1 c.supply_at-v.result (c.supply_at-v.ensures ∙ rw (c.vcc.ensures c.args.board.now.words.now))

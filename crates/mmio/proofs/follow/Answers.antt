@@ -2,5 +2,5 @@
 use Rattle.mmio.proofs.Laws.{follows}
 use Rattle.mmio.proofs.follow.Goals as goal
 
-pub returns : goal.returns
-returns c = let d = c.drive-k.ensures in record { leaves = follows _ _ _ _ _ c.args.i c.args.cycle c.args.cnt c.args.driven c.args.lined c.args.booked _ _ d.driven_if (c.settle_line_if.ensures _) (c.rebook_if.ensures _) (c.set_last.ensures _); upper_bound = d.upper_bound }
+pub returns-clause-leaves : goal.returns-clause-leaves
+returns-clause-leaves c = follows _ _ _ _ _ c.args.i c.args.cycle c.args.drive c.args.lined c.args.booked _ _ c.drive_if.ensures.driven_if (c.settle_line_if.ensures _) (c.rebook_if.ensures _) (c.set_last.ensures _)

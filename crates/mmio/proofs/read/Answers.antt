@@ -1,10 +1,38 @@
--- The whole register, or a part.
+-- Refused, gated off, whole or a lane.
+use Rattle.answer.proofs.Given.{number-positive}
+use Rattle.mmio.proofs.Laws.{read-away, read-on, read_off, read-admitted}
+use Rattle.std.proofs.lemmas.Result.{err_from_is_err_and}
+use mathlib.Core.List.{[]}
+use native.Mathlib.Omega.{arith}
+use mathlib.Core.Path.{ap, refl}
+use mathlib.Core.Bool.{not}
 use Rattle.mmio.proofs.read.Goals as goal
+
+pub returns-in_err-check_timer : goal.returns-in_err-check_timer
+returns-in_err-check_timer c =
+    λ x. let p = err_from_is_err_and c.from_residual.result c.from_residual.ensures.1 in
+    rw (p.1, p.2) (read-away c.args.words.now x c.args.timer c.args.offset c.args.size c.args.cycle _ _ (c.in_err-check_timer.ensures x) (λ z. omega (arith, number-positive c.in_err-check_timer.field-0.0, z)) refl)
+
+pub clock_on-requires : goal.clock_on-requires
+clock_on-requires c =
+    (read-admitted c.args.words.now [] c.args.timer c.args.size c.args.cycle _ (c.in_ok-check_timer.ensures []) refl).index-lt
+
+pub returns-then-not-clock_on : goal.returns-then-not-clock_on
+returns-then-not-clock_on c =
+    λ x. read_off c.args.words.now x c.args.timer c.args.offset c.args.size c.args.cycle _ _ (c.in_ok-check_timer.ensures x) refl _ (c.clock_on.ensures x) (ap not c.if-not-clock_on.true) c.served.ensures
+
+pub whole_of-whole-requires : goal.whole_of-whole-requires
+whole_of-whole-requires c =
+    let q = read-admitted c.args.words.now [] c.args.timer c.args.size c.args.cycle _ (c.in_ok-check_timer.ensures []) refl in (q.index-lt, omega (arith, q.cycle-le))
 
 pub returns-then-size-eq4 : goal.returns-then-size-eq4
 returns-then-size-eq4 c =
-    rw c.if-size-eq4.true (c.read_whole.ensures c.args.reals.now)
+    λ x. read-on c.args.words.now x c.args.timer c.args.offset c.args.size c.args.cycle _ _ (c.in_ok-check_timer.ensures x) refl _ (c.clock_on.ensures x) _ (ap not c.if-not-clock_on.false) (rw c.if-size-eq4.true (c.whole_of-whole.ensures x)) c.served-then-size-eq4.ensures
+
+pub lane_of-lane-requires : goal.lane_of-lane-requires
+lane_of-lane-requires c =
+    let q = read-admitted c.args.words.now [] c.args.timer c.args.size c.args.cycle _ (c.in_ok-check_timer.ensures []) refl in (q.index-lt, q.size-le, omega (arith, q.cycle-le))
 
 pub returns : goal.returns
 returns c =
-    c.read_part.ensures c.args.reals.now
+    λ x. read-on c.args.words.now x c.args.timer c.args.offset c.args.size c.args.cycle _ _ (c.in_ok-check_timer.ensures x) refl _ (c.clock_on.ensures x) _ (ap not c.if-not-clock_on.false) (c.lane_of-lane.ensures x) c.served-2.ensures

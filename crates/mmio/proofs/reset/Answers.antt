@@ -1,19 +1,38 @@
 -- Refused, or reset.
 use native.Mathlib.Omega.{arith}
-use Rattle.book.specs.Book.{places, slices}
+use mathlib.Core.Path.{refl}
+use Rattle.answer.proofs.Given.{number-positive}
+use Rattle.book.specs.Book.{places}
+use Rattle.book.specs.Lent.{slices_of}
 use Rattle.book.proofs.Laws.{roomy}
 use Rattle.mmio.proofs.Laws.{admitted, reset-away, reset-away-book, reset-gives}
+use Rattle.std.proofs.lemmas.Result.{err_from_is_err_and}
 use Rattle.mmio.proofs.reset.Goals as goal
 
-pub returns-then-no-ne0 : goal.returns-then-no-ne0
-returns-then-no-ne0 c = record { answers = reset-away c.args.words.now c.args.reals.now c.args.timer c.args.cycle (places (slices c.args.pins.now c.args.levels.now c.args.cycles.now c.args.sources.now)) _ (c.book_refusal-no.ensures c.args.reals.now) c.if-no-ne0.true _ c.refused.ensures; holds = reset-away-book c.args.words.now c.args.reals.now c.args.timer c.args.cycle (places (slices c.args.pins.now c.args.levels.now c.args.cycles.now c.args.sources.now)) _ (c.book_refusal-no.ensures c.args.reals.now) c.if-no-ne0.true _ c.refused.ensures (slices c.args.pins.now c.args.levels.now c.args.cycles.now c.args.sources.now) }
+pub returns-in_err-check_timer_and_book-clause-answers : goal.returns-in_err-check_timer_and_book-clause-answers
+returns-in_err-check_timer_and_book-clause-answers c =
+    let e = c.in_err-check_timer_and_book in
+    let p = err_from_is_err_and c.from_residual.result c.from_residual.ensures.1 in
+    rw (p.1, p.2) (reset-away c.args.board.now.words.now c.args.board.now.reals.now c.args.timer c.args.cycle (places (slices_of c.args.book.now)) _ (e.ensures c.args.board.now.reals.now) (λ z. omega (arith, number-positive e.field-0.0, z)) _ refl)
 
-pub reset_timer-count-requires : goal.reset_timer-count-requires
-reset_timer-count-requires c = let q = admitted c.args.words.now c.args.reals.now c.args.timer 4 c.args.cycle (places (slices c.args.pins.now c.args.levels.now c.args.cycles.now c.args.sources.now)) _ (c.book_refusal-no.ensures c.args.reals.now) c.if-no-ne0.false in record { i_bound = q.index-lt; room = roomy (slices c.args.pins.now c.args.levels.now c.args.cycles.now c.args.sources.now) 4 4 q.places-le (omega arith) }
+pub returns-in_err-check_timer_and_book-clause-holds : goal.returns-in_err-check_timer_and_book-clause-holds
+returns-in_err-check_timer_and_book-clause-holds c =
+    let e = c.in_err-check_timer_and_book in
+    let p = err_from_is_err_and c.from_residual.result c.from_residual.ensures.1 in
+    rw p.1 (reset-away-book c.args.board.now.words.now c.args.board.now.reals.now c.args.timer c.args.cycle (places (slices_of c.args.book.now)) _ (e.ensures c.args.board.now.reals.now) (λ z. omega (arith, number-positive e.field-0.0, z)) _ refl (slices_of c.args.book.now))
 
-pub overflow_cast-result : goal.overflow_cast-result
-overflow_cast-result c = omega (arith, c.reset_timer-count.ensures.upper_bound)
+pub reset_timer-requires : goal.reset_timer-requires
+reset_timer-requires c = let q = admitted c.args.board.now.words.now c.args.board.now.reals.now c.args.timer 4 c.args.cycle (places (slices_of c.args.book.now)) _ (c.in_ok-check_timer_and_book.ensures c.args.board.now.reals.now) refl in record { timer = q.index-lt; room = roomy (slices_of c.args.book.now) 4 4 q.places-le (omega arith) }
 
-pub returns : goal.returns
-returns c = let both = let q = admitted c.args.words.now c.args.reals.now c.args.timer 4 c.args.cycle (places (slices c.args.pins.now c.args.levels.now c.args.cycles.now c.args.sources.now)) _ (c.book_refusal-no.ensures c.args.reals.now) c.if-no-ne0.false in
-    reset-gives c.args.words.now c.args.reals.now c.args.timer c.args.cycle (places (slices c.args.pins.now c.args.levels.now c.args.cycles.now c.args.sources.now)) _ (c.book_refusal-no.ensures c.args.reals.now) c.if-no-ne0.false _ _ _ _ _ c.reset_timer-count.ensures.leaves (roomy (slices c.args.pins.now c.args.levels.now c.args.cycles.now c.args.sources.now) _ 4 q.places-le c.reset_timer-count.ensures.upper_bound) in record { answers = both.0; holds = both.1 }
+pub entered-requires : goal.entered-requires
+entered-requires c = omega (arith, c.reset_timer.ensures.at_most_four)
+
+pub returns-clause-answers : goal.returns-clause-answers
+returns-clause-answers c =
+    let q = admitted c.args.board.now.words.now c.args.board.now.reals.now c.args.timer 4 c.args.cycle (places (slices_of c.args.book.now)) _ (c.in_ok-check_timer_and_book.ensures c.args.board.now.reals.now) refl in
+    rw c.entered.ensures (reset-gives c.args.board.now.words.now c.args.board.now.reals.now c.args.timer c.args.cycle (places (slices_of c.args.book.now)) _ (c.in_ok-check_timer_and_book.ensures c.args.board.now.reals.now) refl _ _ _ _ _ c.reset_timer.ensures.leaves (roomy (slices_of c.args.book.now) _ 4 q.places-le c.reset_timer.ensures.at_most_four)).0
+
+pub returns-clause-holds : goal.returns-clause-holds
+returns-clause-holds c =
+    let q = admitted c.args.board.now.words.now c.args.board.now.reals.now c.args.timer 4 c.args.cycle (places (slices_of c.args.book.now)) _ (c.in_ok-check_timer_and_book.ensures c.args.board.now.reals.now) refl in
+    rw c.entered.ensures (reset-gives c.args.board.now.words.now c.args.board.now.reals.now c.args.timer c.args.cycle (places (slices_of c.args.book.now)) _ (c.in_ok-check_timer_and_book.ensures c.args.board.now.reals.now) refl _ _ _ _ _ c.reset_timer.ensures.leaves (roomy (slices_of c.args.book.now) _ 4 q.places-le c.reset_timer.ensures.at_most_four)).1

@@ -5,5 +5,5 @@ use Rattle.nvic.proofs.wished.Goals as goal
 pub returns-then-level : goal.returns-then-level
 returns-then-level c = rw c.if-level.true (wish-word c.args.word c.args.i c.requires)
 
-pub returns : goal.returns
-returns c = rw c.if-level.false (unwish-word c.args.word c.args.i c.requires)
+pub returns-else-level : goal.returns-else-level
+returns-else-level c = rw c.if-level.false (unwish-word c.args.word c.args.i c.requires)

@@ -1,19 +1,21 @@
-use Rattle.outputs.proofs.Laws.{bit-small, channel-drives, channel-same, channel-still}
+use Rattle.outputs.proofs.Laws.{bit-small, byte-bit, channel-driven, channel-same, channel-still}
 use mathlib.Core.Path.{◌∙◌, sym}
 use Rattle.outputs.proofs.drive_channel.Goals as goal
 
-pub returns-then-ch-channels : goal.returns-then-ch-channels
-returns-then-ch-channels c =
-    channel-still _ c.args.channels c.args.ch _ c.args.level c.if-ch-channels.true
+pub returns-then-ch-channels-clause-driven : goal.returns-then-ch-channels-clause-driven
+returns-then-ch-channels-clause-driven c =
+    channel-still _ _ c.args.channels c.args.ch c.args.s c.args.at c.args.level c.if-ch-channels.true
 
-pub returns-then-was-want : goal.returns-then-was-want
-returns-then-was-want c =
-    channel-same _ c.args.channels c.args.ch _ _ c.args.level c.if-ch-channels.false (sym (c.sig_level-was.ensures c.args.reals.now) ∙ c.if-was-want.true) c.bit-want.ensures
+pub move_channel-requires : goal.move_channel-requires
+move_channel-requires c = record {
+  signal = (c.requires.signal, rw (byte-bit c.args.level) (bit-small c.args.level), λ e. c.if-sig_level-want.true (c.sig_level.ensures c.args.board.now.reals.now ∙ e));
+  room = c.requires.room;
+}
 
-pub move_signal-requires : goal.move_signal-requires
-move_signal-requires c =
-    (c.requires, rw c.bit-want.ensures (bit-small c.args.level), λ e. c.if-was-want.false (c.sig_level-was.ensures c.args.reals.now ∙ e))
+pub returns-then-sig_level-want-clause-driven : goal.returns-then-sig_level-want-clause-driven
+returns-then-sig_level-want-clause-driven c =
+    channel-driven _ _ _ _ c.args.channels c.args.ch c.args.s _ c.args.at c.args.level c.if-ch-channels.false (byte-bit c.args.level) c.move_channel.ensures.driven
 
-pub returns : goal.returns
-returns c =
-    channel-drives _ _ c.args.channels c.args.ch _ _ c.args.level _ c.if-ch-channels.false c.bit-want.ensures c.move_signal.ensures
+pub returns-else-sig_level-want-clause-driven : goal.returns-else-sig_level-want-clause-driven
+returns-else-sig_level-want-clause-driven c =
+    channel-same _ _ c.args.channels c.args.ch c.args.s _ c.args.at c.args.level c.if-ch-channels.false (sym (c.sig_level.ensures c.args.board.now.reals.now) ∙ c.if-sig_level-want.false) (byte-bit c.args.level)

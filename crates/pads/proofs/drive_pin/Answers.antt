@@ -1,21 +1,41 @@
 -- Refused, or the pin driven, the cycle kept and its change written.
-use Rattle.book.specs.Book.{places, slices}
+use Rattle.answer.proofs.Given.{number-positive}
+use Rattle.answer.specs.Refused.{number_of}
+use Rattle.book.specs.Book.{places}
+use Rattle.book.specs.Lent.{slices_of}
+use Rattle.machine.specs.Call as C
 use Rattle.machine.specs.Refusals.{refusals}
 use Rattle.pads.proofs.Laws.{refuses, pin-there, pin-driven}
+use Rattle.pads.specs.Ext.{drive_of}
 use Rattle.state.proofs.InRange.{bounded}
 use Rattle.state.specs.View.{view}
+use Rattle.std.proofs.lemmas.Result.{err_from_is_err_and}
+use mathlib.Core.Path.{◌≡◌, refl}
 use native.Mathlib.Omega.{arith}
 use Rattle.pads.proofs.drive_pin.Goals as goal
 
-pub returns-then-number-ne0 : goal.returns-then-number-ne0
+pub returns-in_err-check_drive-clause-answers : goal.returns-in_err-check_drive-clause-answers
 unfolding refusals
-returns-then-number-ne0 c = let both = refuses _ _ _ _ _ _ (c.refusal-number.ensures c.args.reals.now) c.if-number-ne0.true c.refused.ensures in record { answers = both.0; holds = both.1 }
+returns-in_err-check_drive-clause-answers c =
+    let p = err_from_is_err_and c.from_residual.result c.from_residual.ensures.1 in
+    let number : number_of c.in_err-check_drive.field-0.0 ≡ 0 → ⊥ = λ z. omega (arith, number-positive c.in_err-check_drive.field-0.0, z) in
+    rw (p.1, p.2) (refuses c.args.board.now.words.now c.args.board.now.reals.now (slices_of c.args.book.now) (C.drive_pin c.args.pin (drive_of c.args.kind c.args.volts) c.args.cycle (places (slices_of c.args.book.now))) _ _ (c.in_err-check_drive.ensures c.args.board.now.reals.now) number refl).0
+
+pub returns-in_err-check_drive-clause-holds : goal.returns-in_err-check_drive-clause-holds
+unfolding refusals
+returns-in_err-check_drive-clause-holds c =
+    let p = err_from_is_err_and c.from_residual.result c.from_residual.ensures.1 in
+    let number : number_of c.in_err-check_drive.field-0.0 ≡ 0 → ⊥ = λ z. omega (arith, number-positive c.in_err-check_drive.field-0.0, z) in
+    rw p.1 (refuses c.args.board.now.words.now c.args.board.now.reals.now (slices_of c.args.book.now) (C.drive_pin c.args.pin (drive_of c.args.kind c.args.volts) c.args.cycle (places (slices_of c.args.book.now))) _ _ (c.in_err-check_drive.ensures c.args.board.now.reals.now) number refl).1
 
 pub drive_pin-change-requires : goal.drive_pin-change-requires
-drive_pin-change-requires c = omega (arith, pin-there (view c.args.words.now c.args.reals.now) c.args.pin c.args.cycle (places (slices c.args.pins.now c.args.levels.now c.args.cycles.now c.args.sources.now)) _ (c.refusal-number.ensures c.args.reals.now) c.if-number-ne0.false, (bounded c.args.words.now c.args.reals.now).pins-le)
+drive_pin-change-requires c = omega (arith, pin-there (view c.args.board.now.words.now c.args.board.now.reals.now) c.args.pin c.args.cycle (places (slices_of c.args.book.now)) 0 (c.in_ok-check_drive.ensures c.args.board.now.reals.now) refl, (bounded c.args.board.now.words.now c.args.board.now.reals.now).pins-le)
 
 pub changed-requires : goal.changed-requires
-changed-requires c = omega (arith, pin-there (view c.args.words.now c.args.reals.now) c.args.pin c.args.cycle (places (slices c.args.pins.now c.args.levels.now c.args.cycles.now c.args.sources.now)) _ (c.refusal-number.ensures c.args.reals.now) c.if-number-ne0.false)
+changed-requires c = (refl, omega (arith, pin-there (view c.args.board.now.words.now c.args.board.now.reals.now) c.args.pin c.args.cycle (places (slices_of c.args.book.now)) 0 (c.in_ok-check_drive.ensures c.args.board.now.reals.now) refl))
 
-pub returns : goal.returns
-returns c = let both = pin-driven _ _ _ _ _ _ _ _ _ _ _ _ _ _ (c.refusal-number.ensures c.args.reals.now) c.if-number-ne0.false c.ext_of-ext.ensures c.drive_pin-change.ensures (c.changed.ensures.x_after _) c.changed.ensures.value c.changed.ensures.count_after c.changed.ensures.count_bound in record { answers = both.0; holds = both.1 }
+pub returns-clause-answers : goal.returns-clause-answers
+returns-clause-answers c = rw c.changed.ensures.counted (pin-driven _ _ _ _ _ _ _ c.args.pin _ _ 0 _ _ _ (c.in_ok-check_drive.ensures c.args.board.now.reals.now) refl c.ext_of-ext.ensures c.drive_pin-change.ensures.moves (c.changed.ensures.x_after _) refl c.changed.ensures.entered c.changed.ensures.at_most_one).0
+
+pub returns-clause-holds : goal.returns-clause-holds
+returns-clause-holds c = rw c.changed.ensures.counted (pin-driven _ _ _ _ _ _ _ c.args.pin _ _ 0 _ _ _ (c.in_ok-check_drive.ensures c.args.board.now.reals.now) refl c.ext_of-ext.ensures c.drive_pin-change.ensures.moves (c.changed.ensures.x_after _) refl c.changed.ensures.entered c.changed.ensures.at_most_one).1

@@ -1,16 +1,13 @@
 -- By the three tests.
+use Rattle.std.proofs.lemmas.Grind.{common_steps}
+use native.Mathlib.Omega.{arith}
 use Rattle.regs.specs.Regs.{astray}
-use mathlib.Core.Path.{◌∙◌, sym}
 use Rattle.regs.proofs.is_astray.Goals as goal
 
-pub returns-then-not-counts : goal.returns-then-not-counts
+pub returns-then-not-down : goal.returns-then-not-down
 unfolding astray
-returns-then-not-counts c = rw (sym c.counts.ensures ∙ c.if-not-counts.true)
+returns-then-not-down c = grind (arith, common_steps)
 
-pub returns-then-down : goal.returns-then-down
+pub returns-else-not-down : goal.returns-else-not-down
 unfolding astray
-returns-then-down c = rw (sym c.counts.ensures ∙ c.if-not-counts.false, sym c.down.ensures ∙ c.if-down.true)
-
-pub returns : goal.returns
-unfolding astray
-returns c = rw (sym c.counts.ensures ∙ c.if-not-counts.false, sym c.down.ensures ∙ c.if-down.false)
+returns-else-not-down c = grind (arith, common_steps)

@@ -1,8 +1,17 @@
 -- The update, then the four channels.
-use Rattle.regs.specs.Regs.{egr_match, egr_written}
-use mathlib.Core.Path.{◌∙◌, ap}
+use Rattle.regs.proofs.Cases.{egr_matches, egr-none, egr-step, egr-four}
+use Rattle.regs.specs.Regs.{egr_match, egr_update}
+use mathlib.Core.Path.{◌≡◌, ◌∙◌, ap, sym}
+use native.Mathlib.Omega.{arith}
 use Rattle.regs.proofs.write_egr.Goals as goal
 
+pub loop-ch-init : goal.loop-ch-init
+loop-ch-init c = c.egr_update-t.ensures ∙ egr-none _ _
+
+pub loop-ch-preserved : goal.loop-ch-preserved
+loop-ch-preserved c = c.egr_match-t.ensures ∙ ap (egr_match c.args.v c.loop-ch.ch) c.loop-ch.invariant ∙ sym (egr-step _ _ _)
+
 pub returns : goal.returns
-unfolding egr_written
-returns c = c.egr_match.ensures ∙ ap (egr_match c.args.v 3) (c.egr_match-c.ensures ∙ ap (egr_match c.args.v 2) (c.egr_match-b.ensures ∙ ap (egr_match c.args.v 1) (c.egr_match-a.ensures ∙ ap (egr_match c.args.v 0) c.egr_update-t.ensures)))
+returns c =
+    let e : c.loop-ch.ch ≡ 4 = omega arith in
+    c.loop-ch.invariant ∙ ap (egr_matches c.args.v (egr_update c.args.timer c.args.v c.args.now c.args.div)) e ∙ egr-four _ _ _ _

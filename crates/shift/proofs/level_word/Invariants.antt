@@ -1,11 +1,8 @@
 -- The word's set bits are the high pins so far.
-use Rattle.std.proofs.Common.{◌≡◌, ◌+◌, ◌-◌, ◌^◌, ◌<◌, ◌≤◌}
+use Rattle.std.proofs.Common.{◌≡◌, ◌+◌, ◌^◌, ◌<◌}
 use lib.Count.{ones}
 use Rattle.shift.specs.Kept.{high_tracks}
 use Rattle.shift.proofs.level_word.Given as goal
 
 abbrev pub invariant-loop-j : goal.invariant-loop-j
-invariant-loop-j l = (l.j ≤ 32) × (l.word < 2 ^ l.j) × (ones l.word + high_tracks l.kept l.first ≡ high_tracks l.kept (l.first + l.j))
-
-abbrev pub decreases-loop-j : goal.decreases-loop-j
-decreases-loop-j l = 32 - l.j
+invariant-loop-j l = (l.word < 2 ^ l.j) × (ones l.word + high_tracks l.kept l.first ≡ high_tracks l.kept (l.first + l.j))

@@ -5,4 +5,4 @@ use Rattle.shift.proofs.Standing.{stands-begun}
 use Rattle.shift.proofs.shift_begin.Goals as goal
 
 pub returns : goal.returns
-returns c = stands-begun (shift c.args.words.now c.args.from c.args.to) _ c.reversed.result c.begin_pins.ensures (omega arith) c.reversed.ensures
+returns c = stands-begun (shift c.args.words.now c.args.from c.args.to) _ c.number.result c.begin_pins.ensures (omega arith) c.number.ensures

@@ -1,4 +1,5 @@
 -- The word that the booking changed, stored in the bookings.
+use Rattle.scheduler.specs.declared.Scheduler.{Scheduler}
 use mathlib.Core.Path.{◌∙◌, ap}
 use Rattle.state.specs.Board.{booking_set}
 use Rattle.state.specs.View.{view}
@@ -9,5 +10,7 @@ use Rattle.state.proofs.book.Goals as goal
 pub returns : goal.returns
 returns c =
     let o = c.args.owner in
-    λ x. booking-set _ x c.sized.ensures o _ c.requires
-    ∙ ap (booking_set (view c.args.words.now x) o) (booked-word c.args.words.now x _ _ o c.args.cycle c.requires (c.bookings-cycles.ensures x) c.book-next.ensures)
+    let table = λ (s : Scheduler). s.cycles in
+    λ x. booking-set _ x c.told-words o _ c.requires
+    ∙ ap (booking_set (view c.args.words.now x) o)
+    (booked-word c.args.words.now x _ _ o c.args.cycle c.requires (ap table (c.bookings-scheduler.ensures x)) (ap table c.book.ensures))

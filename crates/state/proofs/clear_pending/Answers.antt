@@ -11,7 +11,7 @@ pub bounds-words-at-then-has_line : goal.bounds-words-at-then-has_line
 bounds-words-at-then-has_line c = line-place c.args.words.now c.args.irq c.has_line.result c.has_line.ensures c.if-has_line.true
 
 pub returns-then-has_line : goal.returns-then-has_line
-returns-then-has_line c = λ x. line_set_lem c.args.words.now x c.sized.ensures line_cleared c.args.irq c.cleared.result (line-there c.args.words.now c.args.irq c.has_line.result c.has_line.ensures x c.if-has_line.true) c.cleared.ensures
+returns-then-has_line c = λ x. line_set_lem c.args.words.now x c.told-words line_cleared c.args.irq c.cleared.result (line-there c.args.words.now c.args.irq c.has_line.result c.has_line.ensures x c.if-has_line.true) c.cleared.ensures
 
 pub returns-else-has_line : goal.returns-else-has_line
-returns-else-has_line c = λ x. line-none c.args.words.now x c.sized.ensures line_cleared c.args.irq (line-absent c.args.words.now c.args.irq c.has_line.result c.has_line.ensures x c.if-has_line.false)
+returns-else-has_line c = λ x. line-none c.args.words.now x c.told-words line_cleared c.args.irq (line-absent c.args.words.now c.args.irq c.has_line.result c.has_line.ensures x c.if-has_line.false)

@@ -1,16 +1,16 @@
-use Rattle.state.proofs.Copies.{get-done, get-step}
-use borrow.Author.Rules.{rules}
-use lib.ListN.{drop, length-set}
-use lib.Seq.{paste-zero}
-use mathlib.Core.Path.{refl}
+-- The words from `at` on.
+use Rattle.state.proofs.Cut.{front-take}
+use lib.ListN.{take, drop, length, length-drop}
+use mathlib.Core.Path.{◌≡◌, ap, sym, ◌∙◌}
+use Prim.Native.Nat.{ℕ, ◌+◌, ◌-◌}
 use native.Mathlib.Omega.{arith}
 use Rattle.state.proofs.get.Goals as goal
 
-pub loop-j-init : goal.loop-j-init
-loop-j-init c = (omega arith, (refl, paste-zero c.args.b.now 0 (drop c.args.at c.args.words.now)))
-
-pub loop-j-preserved : goal.loop-j-preserved
-loop-j-preserved c = (omega arith, (rw length-set c.loop-j.invariant.1.0, get-step _ c.args.b.now _ c.args.at c.loop-j.j c.sized.ensures c.requires (search rules) c.loop-j.invariant.1.1))
-
 pub returns : goal.returns
-returns c = get-done c.args.words.now c.args.b.now _ c.args.at c.loop-j.j c.sized.ensures c.requires (omega arith) c.loop-j.invariant.0 c.loop-j.invariant.1.1
+returns c =
+    let n = length c.args.b.now in
+    c.copy_from_slice.ensures.after ∙ ap (λ (m : ℕ). take m (drop c.args.at c.args.words.now)) (add-sub c.args.at n)
+    ∙ sym (front-take 0 n (drop c.args.at c.args.words.now) (omega (arith, length-drop c.args.at c.args.words.now, c.told-words, c.requires)))
+  where
+    add-sub : (a b : ℕ) → (a + b) - a ≡ b
+    add-sub a b = omega arith

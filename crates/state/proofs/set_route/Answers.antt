@@ -3,4 +3,4 @@ use Rattle.state.proofs.Stores.{route-set}
 use Rattle.state.proofs.set_route.Goals as goal
 
 pub returns : goal.returns
-returns c = λ x. route-set _ x c.sized.ensures c.args.s c.args.p c.requires.0 c.requires.1
+returns c = λ x. route-set _ x c.told-words c.args.s c.args.p c.requires.0 c.requires.1

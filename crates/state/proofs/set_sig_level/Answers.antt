@@ -3,4 +3,4 @@ use Rattle.state.proofs.Stores.{level-set}
 use Rattle.state.proofs.set_sig_level.Goals as goal
 
 pub returns : goal.returns
-returns c = λ x. level-set _ x c.sized.ensures c.args.s c.args.level c.requires.0 c.requires.1
+returns c = λ x. level-set _ x c.told-words c.args.s c.args.level c.requires.0 c.requires.1

@@ -1,20 +1,17 @@
--- By the tests on the way.
+-- CC1IF is bit 1.
+use Prim.Native.Nat.{ℕ, zero, suc, ◌*◌, ◌^◌, ◌<◌, ◌%◌}
 use Rattle.tim.specs.Change.{cc_flag}
-use borrow.Author.Tests.{eq-eqb, ne_eqb}
+use mathlib.Core.Path.{◌≡◌, refl}
+use native.Mathlib.Omega.{arith}
 use Rattle.tim.proofs.cc_flag.Goals as goal
 
-pub returns-then-ch-eq0 : goal.returns-then-ch-eq0
+of-four : (ch : ℕ) → ch < 4 → 2 * 2 ^ ch % 4294967296 ≡ cc_flag ch
 unfolding cc_flag
-returns-then-ch-eq0 c = rw (eq-eqb _ _ c.if-ch-eq0.true)
-
-pub returns-then-ch-eq1 : goal.returns-then-ch-eq1
-unfolding cc_flag
-returns-then-ch-eq1 c = rw (ne_eqb _ _ c.if-ch-eq0.false, eq-eqb _ _ c.if-ch-eq1.true)
-
-pub returns-then-ch-eq2 : goal.returns-then-ch-eq2
-unfolding cc_flag
-returns-then-ch-eq2 c = rw (ne_eqb _ _ c.if-ch-eq0.false, ne_eqb _ _ c.if-ch-eq1.false, eq-eqb _ _ c.if-ch-eq2.true)
+of-four zero h = refl
+of-four (suc zero) h = refl
+of-four (suc (suc zero)) h = refl
+of-four (suc (suc (suc zero))) h = refl
+of-four (suc (suc (suc (suc n)))) h = absurd (omega arith)
 
 pub returns : goal.returns
-unfolding cc_flag
-returns c = rw (ne_eqb _ _ c.if-ch-eq0.false, ne_eqb _ _ c.if-ch-eq1.false, ne_eqb _ _ c.if-ch-eq2.false)
+returns c = of-four c.args.ch c.requires

@@ -9,27 +9,27 @@ use Rattle.why.proofs.Laws.{from_start, from-here, from_next, from_end}
 use Rattle.why.proofs.feeder.Goals as goal
 
 pub loop-i-init : goal.loop-i-init
-loop-i-init c = (omega arith, λ x. from_start (view c.args.words.now x) c.args.s _)
+loop-i-init c = λ x. from_start (view c.args.words.now x) c.args.s _
 
-pub inst-k-requires : goal.inst-k-requires
-inst-k-requires c = omega (arith, c.loop-i-test.true, c.timer_count-n.ensures [], (bounded c.args.words.now []).timers-le)
+pub inst-requires : goal.inst-requires
+inst-requires c = omega (arith, c.loop-i-test.true, c.timer_count-n.ensures [], (bounded c.args.words.now []).timers-le)
 
 pub returns-then-feeds : goal.returns-then-feeds
 returns-then-feeds c =
     let w = c.args.words.now in
     let s = c.args.s in
-    λ x. from-here (view w x) s _ c.loop-i.i _ _ c.loop-i-test.true (c.inst-k.ensures x) c.feeds.ensures c.if-feeds.true
-    ∙ (c.loop-i.invariant.1 x ∙ ap (λ (m : ℕ). feeder_from m 0 (view w x) s) (c.timer_count-n.ensures x))
+    λ x. from-here (view w x) s _ c.loop-i.i _ _ c.loop-i-test.true (c.inst.ensures x) c.feeds.ensures c.if-feeds.true
+    ∙ (c.loop-i.invariant x ∙ ap (λ (m : ℕ). feeder_from m 0 (view w x) s) (c.timer_count-n.ensures x))
 
 pub loop-i-preserved : goal.loop-i-preserved
 loop-i-preserved c =
     let w = c.args.words.now in
     let s = c.args.s in
-    (omega (arith, c.loop-i-test.true), λ x. from_next (view w x) s _ c.loop-i.i _ _ c.loop-i-test.true (c.inst-k.ensures x) c.feeds.ensures c.if-feeds.false ∙ c.loop-i.invariant.1 x)
+    λ x. from_next (view w x) s _ c.loop-i.i _ _ c.loop-i-test.true (c.inst.ensures x) c.feeds.ensures c.if-feeds.false ∙ c.loop-i.invariant x
 
 pub returns : goal.returns
 returns c =
     let w = c.args.words.now in
     let s = c.args.s in
-    λ x. from_end (view w x) s _ c.loop-i.i c.loop-i-test.false c.loop-i.invariant.0
-    ∙ (c.loop-i.invariant.1 x ∙ ap (λ (m : ℕ). feeder_from m 0 (view w x) s) (c.timer_count-n.ensures x))
+    λ x. from_end (view w x) s _ c.loop-i.i c.loop-i-test.false (omega arith)
+    ∙ (c.loop-i.invariant x ∙ ap (λ (m : ℕ). feeder_from m 0 (view w x) s) (c.timer_count-n.ensures x))

@@ -1,11 +1,7 @@
--- The match, and the channel done.
-use Rattle.tim.specs.declared.Timer.{Timer}
-use Rattle.tim.specs.Change.{compared, with_done}
-use lib.ListN.{set}
-use mathlib.Core.Bool.{true}
-use mathlib.Core.Path.{◌∙◌, ap}
+-- The match leaves what is done, and the channel is done.
+use Rattle.tim.specs.Change.{compared, matched}
 use Rattle.tim.proofs.Timer.compare.Goals as goal
 
 pub returns : goal.returns
-unfolding compared
-returns c = c.with_done.ensures ∙ ap (λ (t : Timer). with_done t (set c.args.self.chan.cc_done c.args.ch true)) c.matched-m.ensures
+unfolding compared matched
+returns c = rw c.matched-m.ensures

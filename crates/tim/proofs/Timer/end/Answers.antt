@@ -4,4 +4,4 @@ use Rattle.tim.proofs.Timer.end.Goals as goal
 
 pub returns : goal.returns
 unfolding ended
-returns c = rw (c.end_cr1-cr1.ensures, c.end_running-running.ensures)
+returns c = rw (c.end_cr1-self.ensures, c.end_running-running.ensures)

@@ -5,4 +5,4 @@ use Rattle.tim.proofs.Timer.matched.Goals as goal
 
 pub returns : goal.returns
 unfolding matched
-returns c = c.with_flag.ensures ∙ rw (c.cc_flag.ensures, c.at_match-latched.ensures, c.oc_mode-mode.ensures)
+returns c = c.with_flag.ensures ∙ rw (c.cc_flag.ensures, c.at_match.ensures, c.oc_mode.ensures)

@@ -1,58 +1,7 @@
-use Prim.Native.Nat.{ℕ}
-use Rattle.tim.specs.declared.Next.TheVariants.{Update}
-use Rattle.tim.specs.Next.{consider, next_steps}
-use lib.Dec.{lit<}
-use mathlib.Core.Path.{◌∙◌, ap, sym}
+-- The four channels, one after the other.
+use Rattle.tim.specs.Next.{next_steps}
 use Rattle.tim.proofs.Timer.next_steps.Goals as goal
 
--- src/lib.rt:414:17
-pub consider_down-a-requires : goal.consider_down-a-requires
-consider_down-a-requires c =
-    (lit< tt, sym c.down.ensures ∙ c.if-down.true)
-
--- src/lib.rt:415:17
-pub consider_down-b-requires : goal.consider_down-b-requires
-consider_down-b-requires c =
-    (lit< tt, sym c.down.ensures ∙ c.if-down.true)
-
--- src/lib.rt:416:17
-pub consider_down-c-requires : goal.consider_down-c-requires
-consider_down-c-requires c =
-    (lit< tt, sym c.down.ensures ∙ c.if-down.true)
-
--- src/lib.rt:417:13
-pub consider_down-requires : goal.consider_down-requires
-consider_down-requires c =
-    (lit< tt, sym c.down.ensures ∙ c.if-down.true)
-
--- src/lib.rt:417:13
-pub returns-then-down : goal.returns-then-down
-unfolding next_steps
-returns-then-down c =
-    c.consider_down.ensures ∙ ap (consider c.args.self 3) (c.consider_down-c.ensures ∙ ap (consider c.args.self 2) (c.consider_down-b.ensures ∙ ap (consider c.args.self 1) (c.consider_down-a.ensures ∙ ap (λ (n : ℕ). consider c.args.self 0 (record { steps = n; next = Update })) c.update_steps.ensures)))
-
--- src/lib.rt:419:13
-pub consider_up-a-requires : goal.consider_up-a-requires
-consider_up-a-requires c =
-    (lit< tt, sym c.down.ensures ∙ c.if-down.false)
-
--- src/lib.rt:420:13
-pub consider_up-b-requires : goal.consider_up-b-requires
-consider_up-b-requires c =
-    (lit< tt, sym c.down.ensures ∙ c.if-down.false)
-
--- src/lib.rt:421:13
-pub consider_up-c-requires : goal.consider_up-c-requires
-consider_up-c-requires c =
-    (lit< tt, sym c.down.ensures ∙ c.if-down.false)
-
--- src/lib.rt:422:9
-pub consider_up-requires : goal.consider_up-requires
-consider_up-requires c =
-    (lit< tt, sym c.down.ensures ∙ c.if-down.false)
-
--- src/lib.rt:406:5
 pub returns : goal.returns
 unfolding next_steps
-returns c =
-    c.consider_up.ensures ∙ ap (consider c.args.self 3) (c.consider_up-c.ensures ∙ ap (consider c.args.self 2) (c.consider_up-b.ensures ∙ ap (consider c.args.self 1) (c.consider_up-a.ensures ∙ ap (λ (n : ℕ). consider c.args.self 0 (record { steps = n; next = Update })) c.update_steps.ensures)))
+returns c = rw (c.consider.ensures, c.consider-c.ensures, c.consider-b.ensures, c.consider-a.ensures, c.update_steps.ensures)

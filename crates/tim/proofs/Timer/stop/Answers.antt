@@ -7,4 +7,4 @@ use Rattle.tim.proofs.Timer.stop.Goals as goal
 
 pub returns : goal.returns
 unfolding stopped
-returns c = c.with_running.ensures ∙ ap (λ (t : Timer). with_running t false) c.sync-s.ensures
+returns c = c.with_running.ensures ∙ ap (λ (t : Timer). with_running t false) c.sync.ensures

@@ -5,9 +5,9 @@ use mathlib.Core.Path.{◌∙◌, ap}
 use Rattle.tim.proofs.Laws.{reloaded-psc}
 use Rattle.tim.proofs.Timer.update.Goals as goal
 
-pub restart-s-requires : goal.restart-s-requires
-restart-s-requires c = (rw c.reload-r.ensures (reloaded-psc c.args.self c.requires.0), c.requires.1)
+pub restart-requires : goal.restart-requires
+restart-requires c = (rw c.reload.ensures (reloaded-psc c.args.self c.requires.0), c.requires.1)
 
 pub returns : goal.returns
 unfolding updated
-returns c = c.end.ensures ∙ ap ended (c.recompute_cc_done_after_update-d.ensures ∙ ap recomputed_after_update (c.restart-s.ensures ∙ ap (λ (t : Timer). restarted t c.args.at c.args.div) c.reload-r.ensures))
+returns c = c.end.ensures ∙ ap ended (c.recompute_cc_done_after_update.ensures ∙ ap recomputed_after_update (c.restart.ensures ∙ ap (λ (t : Timer). restarted t c.args.at c.args.div) c.reload.ensures))

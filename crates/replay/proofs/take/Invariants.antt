@@ -1,6 +1,0 @@
--- Byte by byte.
-use Rattle.std.proofs.Common.{◌-◌}
-use Rattle.replay.proofs.take.Given as goal
-
-abbrev pub decreases-loop-i : goal.decreases-loop-i
-decreases-loop-i l = l.n - l.i
