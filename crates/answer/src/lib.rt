@@ -1,7 +1,7 @@
 // What a call answers, and the refusals that calls share (document 01's table), lowest number first.
 #![tactic(auto)]
 
-ghost use Rattle.std.specs.Prelude.{◌≡◌, List, [], ◌∷◌, ◌<◌, Float};
+ghost use Rattle.std.specs.Prelude.{◌≡◌, List, [], ◌∷◌, ◌<◌, Float, IfOk};
 ghost use Rattle.state.specs.View.{view};
 ghost use Rattle.book.specs.Book.{places};
 ghost use Rattle.book.specs.Lent.{slices_of};
@@ -11,7 +11,7 @@ ghost use Rattle.answer.specs.Promise.{answer};
 ghost use Rattle.answer.specs.Refused.{number_of, refusal_number, told};
 
 use book::LentBook;
-use state::WORDS;
+use state::{TimerIndex, WORDS};
 
 // The value, the number and the number of entries: 16 bytes, which come back in two registers. The entries are in the lent book.
 #[repr(C)]
@@ -100,68 +100,35 @@ pub fn entered(book: &LentBook<'_>) -> Answer
 pub fn odd_size(size: u32) -> bool
     ensures { result ≡ odd_size size }
 {
-    if size == 1 {
-        return false;
-    }
-    if size == 2 {
-        return false;
-    }
-    size != 4
+    !matches!(size, 1 | 2 | 4)
 }
 
 // The cycle is above 2^62 or below that of the last changing call.
 pub fn is_astray(words: &[u64; WORDS], cycle: u64) -> bool
     ensures { (x : List Float) → result ≡ cycle_astray (view words.now x) cycle }
 {
-    if cycle > 4611686018427387904 {
-        return true;
-    }
-    let last = state::last_cycle(words);
-    cycle < last
+    cycle > 4611686018427387904 || cycle < state::last_cycle(words)
 }
 
-// What a call is refused for, the lowest number first: index of so many, a size, a cycle, places where so many are needed. A call without a size passes 4.
-pub fn check(
+// The timer of a call without a book, or what the call is refused for, the lowest number first.
+#[inline(always)]
+pub fn check_timer(
     words: &[u64; WORDS],
     index: u32,
-    count: usize,
     size: u32,
     cycle: u64,
-    need: usize,
-    places: usize,
-) -> Result<(), Refusal>
-    ensures { (x : List Float) → refusal_number result ≡ first (no_such_index index count ∷ bad_size size ∷ clock_astray (view words.now x) cycle ∷ book_full need places ∷ []) }
+) -> Result<TimerIndex, Refusal>
+    ensures index { IfOk result (λ i. i.n ≡ index) }
+    ensures refusal { (x : List Float) → refusal_number result ≡ first (no_such_index index (view words.now x).counts.timers ∷ bad_size size ∷ clock_astray (view words.now x) cycle ∷ []) }
 {
-    if count <= index as usize {
-        return Err(Refusal::NoSuchIndex);
-    }
+    let i = state::timer(words, index).ok_or(Refusal::NoSuchIndex)?;
     if odd_size(size) {
         return Err(Refusal::BadSize);
     }
     if is_astray(words, cycle) {
         return Err(Refusal::ClockAstray);
     }
-    if places < need {
-        return Err(Refusal::BookFull);
-    }
-    Ok(())
-}
-
-// The same of a timer's call without a book.
-#[inline(always)]
-pub fn check_timer(words: &[u64; WORDS], index: u32, size: u32, cycle: u64) -> Result<(), Refusal>
-    ensures { (x : List Float) → refusal_number result ≡ first (no_such_index index (view words.now x).counts.timers ∷ bad_size size ∷ clock_astray (view words.now x) cycle ∷ []) }
-{
-    if !state::has_timer(words, index) {
-        return Err(Refusal::NoSuchIndex);
-    }
-    if odd_size(size) {
-        return Err(Refusal::BadSize);
-    }
-    if is_astray(words, cycle) {
-        return Err(Refusal::ClockAstray);
-    }
-    Ok(())
+    Ok(i)
 }
 
 // The same of a timer's call with a book.
@@ -172,12 +139,13 @@ pub fn check_timer_and_book(
     size: u32,
     cycle: u64,
     book: &LentBook<'_>,
-) -> Result<(), Refusal>
-    ensures { (x : List Float) → refusal_number result ≡ first (no_such_index index (view words.now x).counts.timers ∷ bad_size size ∷ clock_astray (view words.now x) cycle ∷ book_full 4 (places (slices_of book.now)) ∷ []) }
+) -> Result<TimerIndex, Refusal>
+    ensures index { IfOk result (λ i. i.n ≡ index) }
+    ensures refusal { (x : List Float) → refusal_number result ≡ first (no_such_index index (view words.now x).counts.timers ∷ bad_size size ∷ clock_astray (view words.now x) cycle ∷ book_full 4 (places (slices_of book.now)) ∷ []) }
 {
-    check_timer(words, index, size, cycle)?;
+    let i = check_timer(words, index, size, cycle)?;
     if book.places() < 4 {
         return Err(Refusal::BookFull);
     }
-    Ok(())
+    Ok(i)
 }

@@ -1,14 +1,16 @@
 -- What the cleared words and reals hold. Assumes nothing.
 use mathlib.Core.Path.{◌≡◌, refl, ap, sym, subst, ◌∙◌}
 use mathlib.Core.Bool.{Bool, true, false, cond}
-use mathlib.Core.List.{List, [], map}
-use Prim.Native.Nat.{ℕ, suc, ◌+◌, ◌*◌, ◌%◌, ◌<◌, ◌≤◌}
+use mathlib.Core.List.{List, [], ◌∷◌, ◌++◌, map}
+use Prim.Native.Nat.{ℕ, zero, suc, ◌+◌, ◌-◌, ◌*◌, ◌%◌, ◌<◌, ◌≤◌}
+use Rattle.std.proofs.Common.{append_assoc}
 use native.Mathlib.Nat.{zero-add}
 use native.Mathlib.Numerals.{add-one}
 use native.Mathlib.Omega.{arith}
 use lib.Dec.{lit≤}
-use lib.ListN.{length, get_or, set, drop, length-map}
-use lib.Seq.{get_or-drop, paste, paste-suc, length-paste}
+use borrow.Rule.Slice.PartMut.{mid_of, post_of, put_mid, mid_len, Post-is}
+use lib.ListN.{length, get_or, set, take, drop, replicate, length-map}
+use lib.Seq.{get_or-drop, take_all, paste, paste-suc, length-paste}
 use lib.Ieee.{Float, nan}
 use Rattle.real.specs.Real.{zero_float}
 use Rattle.clk.specs.Clk.{flat_tree}
@@ -27,6 +29,28 @@ use Rattle.blank.specs.Fresh.{blank_parts}
 use Rattle.state.proofs.InRange.{length-gpios}
 use Rattle.state.proofs.Places.{gpios-at}
 
+-- one value repeated, by the library's word
+replicated : {A : Type 0} (n : ℕ) (a : A) → replicate n a ≡ repeated n a
+unfolding listed
+replicated n a = go 0 n
+  where
+    go : (k n : ℕ) → replicate n a ≡ listed (λ j. a) k n
+    go k zero = refl
+    go k (suc n) = ap (λ l. a ∷ l) (go (suc k) n)
+
+-- a list filled, and a part of one
+pub filled : {A : Type 0} (l : List A) (n : ℕ) (a : A) → length l ≡ n → replicate (length l) a ≡ paste l 0 (repeated n a) n
+filled l n a h = ap (λ k. replicate k a) h ∙ (replicated n a ∙ sym (paste_all a l (repeated n a) n h (length-listed (λ k. a) 0 n)))
+
+pub filled-part : (l s : List ℕ) (at n v : ℕ) → at + n ≤ length l → s ≡ replicate (length (mid_of at (at + n - at) l)) v
+    → put_mid at (at + n - at) l s ≡ paste l at (repeated n v) n
+filled-part l s at n v h e =
+    let more : at + n - at ≡ n = omega arith in
+    let long : length (mid_of at (at + n - at) l) ≡ n = mid_len at (at + n) l h ∙ more in
+    let all : s ≡ take n (repeated n v) = e ∙ (ap (λ k. replicate k v) long ∙ (replicated n v ∙ sym (take_all n (repeated n v) (omega (arith, length-listed (λ k. v) 0 n))))) in
+    ap (λ x. take at l ++ (x ++ post_of at (at + n - at) l)) all
+    ∙ (ap (λ x. take at l ++ (take n (repeated n v) ++ x)) (Post-is at (at + n) l (omega arith)) ∙ sym (append_assoc (take at l) (take n (repeated n v)) (drop (at + n) l)))
+
 -- one step of a loop that stores f 0, f 1, ..
 module _ {A : Type 0} (d : A) (f : ℕ → A) (l₀ l : List A) (at n j : ℕ) where
   pub fill_step : at + n ≤ length l₀ → j < n → l ≡ paste l₀ at (listed f 0 n) j → set l (at + j) (f j) ≡ paste l₀ at (listed f 0 n) (j + 1)
@@ -38,11 +62,6 @@ module _ {A : Type 0} (d : A) (f : ℕ → A) (l₀ l : List A) (at n j : ℕ) w
 
   pub fill_done : n ≤ j → j ≤ n → l ≡ paste l₀ at (listed f 0 n) j → l ≡ paste l₀ at (listed f 0 n) n
   fill_done h k e = let z : j ≡ n = omega arith in rw z at e
-
--- the same from the list's start on
-pub fill_start : {A : Type 0} (d : A) (f : ℕ → A) (l₀ l : List A) (n j : ℕ) → n ≤ length l₀ → j < n → l ≡ paste l₀ 0 (listed f 0 n) j
-    → set l j (f j) ≡ paste l₀ 0 (listed f 0 n) (j + 1)
-fill_start d f l₀ l n j h k e = ap (λ (i : ℕ). set l i (f j)) (sym (zero-add j)) ∙ fill_step d f l₀ l 0 n j (omega arith) k e
 
 -- the words after the four loops
 module _ (w₀ w₁ w₂ w₃ w₄ : List ℕ) (size : length w₀ ≡ 5276)

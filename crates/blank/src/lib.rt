@@ -22,9 +22,7 @@ fn fill(words: &mut [u64; WORDS], at: usize, n: usize, v: u64)
     requires { at + n ≤ 5276 }
     ensures { words.new ≡ paste words.old at (repeated n v) n }
 {
-    for j in 0..n {
-        words[at + j] = v;
-    }
+    words[at..at + n].fill(v);
 }
 
 // Every signal at its idle level.
@@ -47,9 +45,7 @@ pub fn unroute(words: &mut [u64; WORDS])
 fn zero_reals(reals: &mut [f64; REALS])
     ensures { reals.new ≡ paste reals.old 0 (repeated 264 zero_float) 264 }
 {
-    for j in 0..REALS {
-        reals[j] = 0.0;
-    }
+    reals.fill(0.0);
 }
 
 fn set_vcc(reals: &mut [f64; REALS], v: f64)

@@ -2,14 +2,14 @@
 use mathlib.Core.Path.{◌≡◌, refl, ap, sym, subst, ◌∙◌}
 use mathlib.Core.Bool.{Bool, true, false, cond, ◌||◌, false≢true}
 use mathlib.Core.List.{List, [], ◌∷◌, ◌++◌, map, append_assoc}
-use Prim.Native.Nat.{ℕ, zero, suc, ◌+◌, ◌-◌, ◌*◌, ◌≤◌}
+use Prim.Native.Nat.{ℕ, zero, suc, ◌+◌, ◌-◌, ◌*◌, ◌≤◌, ◌<◌}
 use native.Mathlib.Nat.{add-zero, zero-add}
 use native.Mathlib.Omega.{arith}
 use lib.Dec.{eqb, ltb, leb}
 use lib.Ieee.{Float}
 use lib.ListN.{length, take, drop, set, length-map, length-drop, take-append-drop}
 use lib.Seq.{sets, sets-eq, drop-drop, drop-append-le, length-take-le, take_all}
-use borrow.Author.Tests.{le-ltb, lt-ltb, ltb-false, leb-true, eqb-false}
+use borrow.Author.Tests.{ne_eqb, le-ltb, lt-ltb, ltb-false, leb-true, eqb-false}
 use Rattle.book.specs.Book.{Entry, Lent, slices, Room, Book, book, puts, places, over, Holds}
 use Rattle.book.proofs.Laws.{puts-append, holds, roomy}
 use Rattle.machine.specs.Board.{Board}
@@ -23,7 +23,9 @@ use Rattle.answer.specs.declared.Answer.{Answer}
 use Rattle.answer.specs.Promise.{Answers}
 use Rattle.encoding.specs.Encoding.{word, word64, has_book, book_call, is_change, change_call, question_call, call_with, call_of, size_of, len_of, book_of}
 use Rattle.calls.specs.Taken.{calls_from, calls_of, no_room, taken, answer_words, answers_of, Does, Runs}
-use Rattle.calls.proofs.Laws.{lent-change, lent-question}
+use Rattle.encoding.specs.Asked.{asked, asked_with, lent_places}
+use Rattle.encoding.specs.declared.Call as Decoded
+use Rattle.calls.proofs.Laws.{lent-change, lent-question, lent-asked}
 
 -- ---- the places that a call is lent
 lent-book : (op : ℕ) (ns : List ℕ) (room : ℕ) → lent (book_call op ns room) ≡ room
@@ -56,6 +58,9 @@ lent_of ns =
     go false false false false true f u v w x y z = refl
     go false false false false false true u v w x y z = refl
     go false false false false false false u v w x y z = refl
+
+pub book-places : (c : Decoded.Call) (ns : List ℕ) → asked c ≡ call_of ns → lent_places c ≡ book_of ns
+book-places c ns e = sym (lent-asked c) ∙ ap lent e ∙ lent_of ns
 
 -- ---- a part of the book
 abbrev pub part : ℕ → ℕ → List ℕ → List ℕ
@@ -117,16 +122,16 @@ parts-put es u u₁ at end n h f m q =
     same = rw (laid (λ (e : Entry). e.pin) u.pins u₁.pins f.0 q.pins, laid (λ (e : Entry). e.level) u.levels u₁.levels f.1 q.levels, laid (λ (e : Entry). e.cycle) u.cycles u₁.cycles f.2 q.cycles, laid (λ (e : Entry). e.source) u.sources u₁.sources f.3 q.sources)
 
 -- ---- one call
-module _ (ns : List ℕ) (b : Board) (u : Lent) (at need : ℕ) (e : need ≡ book_of ns) (f : Room (at + need) u) where
-  lent-part : places (cut at (at + need) u) ≡ book_of ns
+module _ (c : Decoded.Call) (b : Board) (u : Lent) (at need : ℕ) (e : need ≡ lent_places c) (f : Room (at + lent_places c) u) where
+  pub lent-part : places (cut at (at + need) u) ≡ lent_places c
   lent-part =
-      omega (arith, e, part_length at (at + need) u.pins (omega arith) f.0, part_length at (at + need) u.levels (omega arith) f.1, part_length at (at + need) u.cycles (omega arith) f.2, part_length at (at + need) u.sources (omega arith) f.3)
+      omega (arith, e, part_length at (at + need) u.pins (omega arith) (omega (arith, e, f.0)), part_length at (at + need) u.levels (omega arith) (omega (arith, e, f.1)), part_length at (at + need) u.cycles (omega arith) (omega (arith, e, f.2)), part_length at (at + need) u.sources (omega arith) (omega (arith, e, f.3)))
 
-  pub part-entered : (u₁ : Lent) (n : ℕ) → Holds (step b (call_with ns (places (cut at (at + need) u)))).entries (cut at (at + need) u) u₁ n
-      → book (mended at (at + need) u u₁) (at + n) ≡ puts (book u at) (step b (call_of ns)).entries
+  pub part-entered : (u₁ : Lent) (n : ℕ) → Holds (step b (asked_with c (places (cut at (at + need) u)))).entries (cut at (at + need) u) u₁ n
+      → book (mended at (at + need) u u₁) (at + n) ≡ puts (book u at) (step b (asked c)).entries
   part-entered u₁ n h =
-      parts-put (step b (call_of ns)).entries u u₁ at (at + need) n (omega arith) f (omega (arith, e, (entries_fit b (call_of ns)).places, lent_of ns))
-      (subst (λ (k : ℕ). Holds (step b (call_with ns k)).entries (cut at (at + need) u) u₁ n) lent-part h)
+      parts-put (step b (asked c)).entries u u₁ at (at + need) n (omega arith) (omega (arith, e, f.0), omega (arith, e, f.1), omega (arith, e, f.2), omega (arith, e, f.3)) (omega (arith, e, (entries_fit b (asked c)).places, lent-asked c))
+      (subst (λ (k : ℕ). Holds (step b (asked_with c k)).entries (cut at (at + need) u) u₁ n) lent-part h)
 
 -- a part of three words exchanged is three stores
 pub three-words : (a : List ℕ) (i x y z : ℕ) → i + 3 ≤ length a → whole i (i + 3) a (x ∷ y ∷ z ∷ []) ≡ sets a i (x ∷ y ∷ z ∷ [])
@@ -145,6 +150,9 @@ call-does o r w w₁ x x₁ i a a₁ k k₁ h e f = record {
   entries = f;
 }
 
+pub does-as : (c d : Call) → c ≡ d → (b b₁ : Board) (i : ℕ) (a a₁ : List ℕ) (k k₁ : Book) → Does (step b c) b₁ i a a₁ k k₁ → Does (step b d) b₁ i a a₁ k k₁
+does-as c d e b b₁ i a a₁ k k₁ h = subst (λ (x : Call). Does (step b x) b₁ i a a₁ k k₁) e h
+
 -- ---- the words of a call
 module _ (ns : List ℕ) where
   pub len-le : len_of ns ≤ length ns
@@ -154,14 +162,6 @@ module _ (ns : List ℕ) where
       go : (t : Bool) → leb (size_of (word ns 0) ns) (length ns) ≡ t → cond t (size_of (word ns 0) ns) 0 ≤ length ns
       go true e = leb-true (size_of (word ns 0) ns) (length ns) e
       go false e = omega arith
-
-  pub size-le : 1 ≤ len_of ns → size_of (word ns 0) ns ≤ length ns
-  unfolding len_of
-  size-le = go (leb (size_of (word ns 0) ns) (length ns)) refl
-    where
-      go : (t : Bool) → leb (size_of (word ns 0) ns) (length ns) ≡ t → 1 ≤ cond t (size_of (word ns 0) ns) 0 → size_of (word ns 0) ns ≤ length ns
-      go true e h = leb-true (size_of (word ns 0) ns) (length ns) e
-      go false e h = absurd (omega (arith, h))
 
 -- a call, with room
 pub record Free (len words room need : ℕ) : Type 0 where
@@ -181,6 +181,17 @@ free len words room need s e f = go (eqb len 0) (ltb words 3) (ltb room need) re
 -- with room for an answer, the two other tests
 pub stops_of : (words room len need : ℕ) (s : Bool) → 3 ≤ words → s ≡ (eqb len 0 || ltb room need) → s ≡ (eqb len 0 || no_room words room need)
 stops_of words room len need s h e = rw (le-ltb words 3 h) e
+
+-- places that it does not find, and those that it does
+pub no-places : (len room need : ℕ) → room < need → true ≡ (eqb len 0 || ltb room need)
+no-places len room need h = rw (lt-ltb room need h) (go (eqb len 0))
+  where
+    go : (t : Bool) → true ≡ (t || true)
+    go true = refl
+    go false = refl
+
+pub has-places : (len room need : ℕ) → 0 < len → need ≤ room → false ≡ (eqb len 0 || ltb room need)
+has-places len room need l h = rw (ne_eqb len 0 (λ (e : len ≡ 0). omega (arith, e, l)), le-ltb room need h)
 
 -- without it, whatever they say
 full : (words room len need : ℕ) → words ≤ 2 → (eqb len 0 || no_room words room need) ≡ true
@@ -268,9 +279,6 @@ module _ (ns : List ℕ) (room : ℕ) (b₀ b : Board) (a₀ a : List ℕ) (k₀
 
   pub next-within : at + len ≤ length ns
   next-within = omega (arith, len-le (rest at ns), rest-length at ns, q.within)
-
-  pub next-size : s ≡ false → size_of (word (rest at ns) 0) (rest at ns) ≤ length (rest at ns)
-  next-size o = size-le (rest at ns) (omega (arith, (next-free o).some))
 
   pub next_fits : (n : ℕ) → s ≡ false → n ≡ length (step b (call_of (rest at ns))).entries → k.count + n ≤ room
   next_fits n o c = omega (arith, (entries_fit b (call_of (rest at ns))).places, lent_of (rest at ns), (next-free o).fits, q.places)

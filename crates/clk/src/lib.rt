@@ -44,7 +44,7 @@ impl ClockTree {
         }
     }
 
-    // Core cycles per cycle of the timers' clock on bus `apb`.
+    // Core cycles per cycle of the timers' clock on bus `apb`: such a number to C and in a timer's settings, where any is allowed.
     #[tactic(auto, unfolding(crate::specs::Clk::timer_div))]
     pub fn timer_div(self, apb: u32) -> u32
         ensures { result ≡ timer_div self apb }

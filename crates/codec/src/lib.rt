@@ -1,8 +1,8 @@
 // A timer and a pin as words of lent memory.
 #![tactic(auto)]
 
-ghost use Rattle.std.specs.Prelude.{◌≡◌, ◌/◌, ◌%◌, ◌<◌, ◌≤◌, eqb};
-ghost use Rattle.pins.specs.Pins.{source_of};
+ghost use Rattle.std.specs.Prelude.{◌≡◌, ◌+◌, ◌*◌, ◌/◌, ◌%◌, ◌<◌, ◌≤◌, eqb, length};
+ghost use Rattle.pins.specs.Pins.{source_number, source_of};
 ghost use Rattle.tim.specs.Timer.{Fit};
 ghost use Rattle.gpio.specs.Gpio.{GpioFit};
 ghost use Rattle.codec.specs.Pin.{cfg_at, mcu_at, ext_of, ext_code, ext_volts, decode_gpio};
@@ -126,13 +126,13 @@ fn low_16(word: u64) -> u32
     (word % 65536) as u32
 }
 
-fn low_8(word: u64) -> u8
+pub fn low_8(word: u64) -> u8
     ensures { result ≡ word % 256 }
 {
     (word % 256) as u8
 }
 
-fn lowest(word: u64) -> u8
+pub fn lowest(word: u64) -> u8
     ensures { result ≡ word % 2 }
 {
     (word % 2) as u8
@@ -148,24 +148,35 @@ pub fn is_odd(word: u64) -> bool
 pub fn source_in(word: u64) -> Source
     ensures { result ≡ source_of (word / 2 % 4) }
 {
-    Source::of_number(word / 2 % 4)
+    Source::from(word / 2 % 4)
+}
+
+// A level's word: the level, and the source above it.
+#[inline(always)]
+pub fn level_word(level: u8, source: Source) -> u64
+    ensures { result ≡ level + 2 * (source_number source % 4) }
+{
+    u64::from(level) + 2 * (u64::from(source.number()) % 4)
 }
 
 // ---- a timer. Unpacking and packing are twins, each field written once in either: a form that had both would be a table of words and fields,
 // and longer.
 
-fn unpack_inst(b: &[u64; TIMER_WORDS]) -> Inst
-    ensures { result ≡ inst_at b.now 0 39 }
+// What set-up fixed of the timer whose words begin at a place.
+#[inline(always)]
+pub fn unpack_inst(words: &[u64], at: usize) -> Inst
+    requires { at + 40 ≤ length words.now }
+    ensures { result ≡ inst_at words.now at (at + 39) }
 {
     Inst {
-        n: low_32(b[timer::N]),
-        width: low_32(b[timer::WIDTH]),
-        channels: low_32(b[timer::CHANNELS]),
-        apb: low_32(b[timer::APB]),
-        irq: low_32(b[timer::IRQ]),
-        en_reg: low_32(b[timer::EN_REG]),
-        en_bit: low_32(b[timer::EN_BIT]),
-        manual: is_odd(b[timer::MANUAL]),
+        n: low_32(words[at + timer::N]),
+        width: low_32(words[at + timer::WIDTH]),
+        channels: low_32(words[at + timer::CHANNELS]),
+        apb: low_32(words[at + timer::APB]),
+        irq: low_32(words[at + timer::IRQ]),
+        en_reg: low_32(words[at + timer::EN_REG]),
+        en_bit: low_32(words[at + timer::EN_BIT]),
+        manual: is_odd(words[at + timer::MANUAL]),
     }
 }
 
@@ -215,7 +226,7 @@ pub fn unpack_timer(b: [u64; TIMER_WORDS]) -> Timer
     ensures { result ≡ decode_timer b }
 {
     Timer {
-        inst: unpack_inst(&b),
+        inst: unpack_inst(&b, 0),
         regs: unpack_regs(&b),
         chan: unpack_chan(&b),
         count: unpack_count(&b),
@@ -390,7 +401,7 @@ pub fn unpack_gpio(b: [u64; GPIO_WORDS], volts: f64, ext: f64) -> Gpio
             volts,
             source: source_in(b[pin::LEVEL]),
         },
-        sig: (b[pin::SIG] % 256) as u32,
+        sig: u32::from(low_8(b[pin::SIG])),
     }
 }
 
@@ -447,7 +458,7 @@ pub fn pack_gpio(g: Gpio) -> [u64; GPIO_WORDS]
         mcu[6],
         mcu[7],
         ext,
-        p.level as u64 + 2 * (p.source.number() as u64 % 4),
+        level_word(p.level, p.source),
         g.sig as u64,
     ]
 }

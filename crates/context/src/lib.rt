@@ -11,14 +11,13 @@ ghost use Rattle.machine.specs.Deliver.{divider_of, line_settled, booking_of, re
 ghost use Rattle.machine.specs.Step.{clock_on, timer_retimed, all_retimed, tree_set};
 
 use clk::ClockTree;
-use state::{LentBoard, SeenBoard, WORDS};
+use state::{LentBoard, SeenBoard, TimerIndex, WORDS};
 use tim::{Due, Timer};
 
 // Timer i's clock is on: its bit of its enable word. Past the ninth word and past bit 31 there is none.
 #[inline(always)]
-pub fn clock_on(words: &[u64; WORDS], i: usize) -> bool
-    requires { i < 8 }
-    ensures { (x : List Float) → result ≡ clock_on (view words.now x) (timer_at (view words.now x) i) }
+pub fn clock_on(words: &[u64; WORDS], i: TimerIndex) -> bool
+    ensures { (x : List Float) → result ≡ clock_on (view words.now x) (timer_at (view words.now x) i.n) }
 {
     let reg = fields::en_reg(words, i);
     if reg >= 9 {
@@ -26,36 +25,30 @@ pub fn clock_on(words: &[u64; WORDS], i: usize) -> bool
     }
     let t = fields::inst(words, i);
     let bit = t.en_bit;
-    if bit >= 32 {
-        return false;
-    }
-    let e = state::enr(words, reg);
-    (e >> bit) % 2 == 1
+    bit < 32 && (state::enr(words, reg) >> bit) % 2 == 1
 }
 
 // Core cycles per cycle of timer t's clock.
 #[inline(always)]
 pub fn divider(board: SeenBoard<'_>, t: Timer) -> u32
-    ensures value { result ≡ divider_of (seen_board board.entry) t }
-    ensures lower_bound { (1 ≤ result) × (result ≤ 8192) }
+    ensures divider { result ≡ divider_of (seen_board board.entry) t }
+    ensures range { (1 ≤ result) × (result ≤ 8192) }
 {
     let tree = board.tree();
     tree.timer_div(t.inst.apb)
 }
 
 // Timer t's interrupt line follows SR & DIER & 1f of it, the board's timer i, and the wishes of the other timers.
-pub fn settle_line(words: &mut [u64; WORDS], i: usize, t: Timer)
-    requires { i < 8 }
-    ensures { (x : List Float) → view words.new x ≡ line_settled i t (view words.old x) }
+pub fn settle_line(words: &mut [u64; WORDS], i: TimerIndex, t: Timer)
+    ensures { (x : List Float) → view words.new x ≡ line_settled i.n t (view words.old x) }
 {
     let on = (t.regs.sr & t.regs.dier) % 32 != 0;
     state::set_line(words, t.inst.irq, i, on);
 }
 
 // The line of timer i.
-pub fn settle_line_at(words: &mut [u64; WORDS], i: usize)
-    requires { i < 8 }
-    ensures { (x : List Float) → view words.new x ≡ line_settled i (timer_at (view words.old x) i) (view words.old x) }
+pub fn settle_line_at(words: &mut [u64; WORDS], i: TimerIndex)
+    ensures { (x : List Float) → view words.new x ≡ line_settled i.n (timer_at (view words.old x) i.n) (view words.old x) }
 {
     let timer = state::load_timer(words, i);
     settle_line(words, i, timer);
@@ -72,18 +65,17 @@ fn booking_of(due: Due, cycle: u64) -> u64
 }
 
 // Books timer i at what is due next.
-pub fn book_due(words: &mut [u64; WORDS], i: usize, due: Due, cycle: u64)
-    requires { i < 8 }
-    ensures { (x : List Float) → view words.new x ≡ booking_set (view words.old x) i (booking_of due cycle) }
+pub fn book_due(words: &mut [u64; WORDS], i: TimerIndex, due: Due, cycle: u64)
+    ensures { (x : List Float) → view words.new x ≡ booking_set (view words.old x) i.n (booking_of due cycle) }
 {
     let at = booking_of(due, cycle);
     state::book(words, i, at);
 }
 
-// Books timer i at its next event.
-pub fn rebook(words: &mut [u64; WORDS], i: usize, cycle: u64)
-    requires { i < 8 }
-    ensures { (x : List Float) → view words.new x ≡ rebooked i (timer_at (view words.old x) i) cycle (view words.old x) }
+// Books timer i at its next event. Compiled into the writes: called, one of CCR1 takes a twentieth longer.
+#[inline(always)]
+pub fn rebook(words: &mut [u64; WORDS], i: TimerIndex, cycle: u64)
+    ensures { (x : List Float) → view words.new x ≡ rebooked i.n (timer_at (view words.old x) i.n) cycle (view words.old x) }
 {
     let t = state::load_timer(words, i);
     let due = t.next_event();
@@ -91,10 +83,10 @@ pub fn rebook(words: &mut [u64; WORDS], i: usize, cycle: u64)
 }
 
 // Timer i takes the tree's divider; a running one is booked anew.
-pub fn retime(board: &mut LentBoard<'_>, i: usize, cycle: u64)
-    requires { (i < 8) × (cycle < 9223372036854775808) }
+pub fn retime(board: &mut LentBoard<'_>, i: TimerIndex, cycle: u64)
+    requires { cycle < 9223372036854775808 }
     ensures same_loan { SameLoan board.old board.new }
-    ensures board { lent_board board.new ≡ timer_retimed i cycle (lent_board board.old) }
+    ensures board { lent_board board.new ≡ timer_retimed i.n cycle (lent_board board.old) }
 {
     let t = state::load_timer(board.words, i);
     let div = divider(board.seen(), t);
@@ -112,7 +104,8 @@ fn retime_all(board: &mut LentBoard<'_>, cycle: u64)
 {
     let n = state::timer_count(board.words);
     for i in 0..n {
-        retime(board, i, cycle);
+        let timer = TimerIndex { n: i };
+        retime(board, timer, cycle);
     }
 }
 

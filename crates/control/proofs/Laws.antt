@@ -42,36 +42,36 @@ module _ (w : List ℕ) (x : List Float) (r : Answer) where
   passed : (t : Bool) (n u v : ℕ) → t ≡ false → u ≡ v → r ≡ answer 0 u 0 → Answers (refuse_if t n (view w x) (served v (view w x))) r w w x x
   passed t n u v h k e = rw h (told u v k e)
 
-  pub no-timer : (n i : ℕ) → n ≡ (view w x).counts.timers → n ≤ i → r ≡ answer 2 0 0 → Answers (step (view w x) (query_booked i)) r w w x x
+  pub no-timer : (i : ℕ) → leb (view w x).counts.timers i ≡ true → r ≡ answer 2 0 0 → Answers (step (view w x) (query_booked i)) r w w x x
   unfolding step
-  no-timer n i k h e = turned _ 2 _ (missing n _ i k h) e
+  no-timer i h e = turned _ 2 _ h e
 
-  pub booked-told : (n i v : ℕ) → n ≡ (view w x).counts.timers → i < n → v ≡ booked_at (view w x) i → r ≡ answer 0 v 0
+  pub booked-told : (i v : ℕ) → leb (view w x).counts.timers i ≡ false → v ≡ booked_at (view w x) i → r ≡ answer 0 v 0
       → Answers (step (view w x) (query_booked i)) r w w x x
   unfolding step
-  booked-told n i v k h l e = passed _ 2 v _ (found n _ i k h) l e
+  booked-told i v h l e = passed _ 2 v _ h l e
 
   pub next-told : (v : ℕ) → v ≡ least (view w x).booking → r ≡ answer 0 v 0 → Answers (step (view w x) query_next) r w w x x
   unfolding step
   next-told v l e = told v _ l e
 
-  pub no-level : (n i : ℕ) → n ≡ (view w x).counts.pins → n ≤ i → r ≡ answer 2 0 0 → Answers (step (view w x) (query_level i)) r w w x x
+  pub no-level : (i : ℕ) → leb (view w x).counts.pins i ≡ true → r ≡ answer 2 0 0 → Answers (step (view w x) (query_level i)) r w w x x
   unfolding step
-  no-level n i k h e = turned _ 2 _ (missing n _ i k h) e
+  no-level i h e = turned _ 2 _ h e
 
-  pub level-told : (n i : ℕ) (g : Gpio) → n ≡ (view w x).counts.pins → i < n → g ≡ gpio_at (view w x).pads i → r ≡ answer 0 (level_query g.pin) 0
+  pub level-told : (i : ℕ) (g : Gpio) → leb (view w x).counts.pins i ≡ false → g ≡ gpio_at (view w x).pads i → r ≡ answer 0 (level_query g.pin) 0
       → Answers (step (view w x) (query_level i)) r w w x x
   unfolding step
-  level-told n i g k h l e = passed _ 2 (level_query g.pin) _ (found n _ i k h) (ap (λ (y : Gpio). level_query y.pin) l) e
+  level-told i g h l e = passed _ 2 (level_query g.pin) _ h (ap (λ (y : Gpio). level_query y.pin) l) e
 
-  pub no-volts : (n i : ℕ) → n ≡ (view w x).counts.pins → n ≤ i → r ≡ answer 2 0 0 → Answers (step (view w x) (query_volts i)) r w w x x
+  pub no-volts : (i : ℕ) → leb (view w x).counts.pins i ≡ true → r ≡ answer 2 0 0 → Answers (step (view w x) (query_volts i)) r w w x x
   unfolding step
-  no-volts n i k h e = turned _ 2 _ (missing n _ i k h) e
+  no-volts i h e = turned _ 2 _ h e
 
-  pub volts-told : (n i v : ℕ) (g : Gpio) → n ≡ (view w x).counts.pins → i < n → g ≡ gpio_at (view w x).pads i → v ≡ bits_of g.pin.volts
+  pub volts-told : (i v : ℕ) (g : Gpio) → leb (view w x).counts.pins i ≡ false → g ≡ gpio_at (view w x).pads i → v ≡ bits_of g.pin.volts
       → r ≡ answer 0 v 0 → Answers (step (view w x) (query_volts i)) r w w x x
   unfolding step
-  volts-told n i v g k h l b e = passed _ 2 v _ (found n _ i k h) (b ∙ ap (λ (y : Gpio). bits_of y.pin.volts) l) e
+  volts-told i v g h l b e = passed _ 2 v _ h (b ∙ ap (λ (y : Gpio). bits_of y.pin.volts) l) e
 
   pub line-told : (i v : ℕ) → v ≡ N.state_of (N.line_at (view w x).nvic i) → r ≡ answer 0 v 0 → Answers (step (view w x) (query_line i)) r w w x x
   unfolding step

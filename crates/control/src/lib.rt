@@ -18,15 +18,12 @@ use state::{LentBoard, SeenBoard, WORDS};
 pub fn booked(words: &[u64; WORDS], timer: u32) -> Result<Answer, Refusal>
     ensures { (x : List Float) → Answers (step (view words.now x) (C.query_booked timer)) (told result) words.now words.now x x }
 {
-    let t = timer as usize;
-    if state::timer_count(words) <= t {
-        return Err(Refusal::NoSuchIndex);
-    }
-    let cycle = state::booked(words, t);
+    let i = state::timer(words, timer).ok_or(Refusal::NoSuchIndex)?;
+    let cycle = state::booked(words, i);
     Ok(answer::served(cycle))
 }
 
-// The least booked cycle, 2^64 - 1 if there is none.
+// The least booked cycle, 2^64 - 1 if there is none. No board refuses it: a bare answer.
 pub fn next_booked(words: &[u64; WORDS]) -> Answer
     ensures { (x : List Float) → Answers (step (view words.now x) C.query_next) result words.now words.now x x }
 {
@@ -34,14 +31,11 @@ pub fn next_booked(words: &[u64; WORDS]) -> Answer
     answer::served(next)
 }
 
-// A pin's level, and above it who holds it: level + 2 × source.
+// A pin's level, and above it who holds it: level + 2 × source. The call's own form: nobody is 4 here, and 0 in a word of the state.
 pub fn level(board: SeenBoard<'_>, pin: u32) -> Result<Answer, Refusal>
     ensures { Tells (step (seen_board board.entry) (C.query_level pin)) (told result) board.entry }
 {
-    let i = pin as usize;
-    if state::pin_count(board.words) <= i {
-        return Err(Refusal::NoSuchIndex);
-    }
+    let i = state::pin(board.words, pin).ok_or(Refusal::NoSuchIndex)?;
     let g = board.load_gpio(i);
     Ok(answer::served(g.pin.level as u64 + 2 * g.pin.source.number() as u64))
 }
@@ -50,15 +44,12 @@ pub fn level(board: SeenBoard<'_>, pin: u32) -> Result<Answer, Refusal>
 pub fn volts(board: SeenBoard<'_>, pin: u32) -> Result<Answer, Refusal>
     ensures { Tells (step (seen_board board.entry) (C.query_volts pin)) (told result) board.entry }
 {
-    let p = pin as usize;
-    if state::pin_count(board.words) <= p {
-        return Err(Refusal::NoSuchIndex);
-    }
+    let p = state::pin(board.words, pin).ok_or(Refusal::NoSuchIndex)?;
     let g = board.load_gpio(p);
     Ok(answer::served(real::bits(g.pin.volts)))
 }
 
-// 1 if interrupt line irq is high plus 2 if it is pending; 0 without such a line.
+// 1 if interrupt line irq is high plus 2 if it is pending; 0 without such a line. No board refuses it: a bare answer.
 pub fn line(words: &[u64; WORDS], irq: u32) -> Answer
     ensures { (x : List Float) → Answers (step (view words.now x) (C.query_line irq)) result words.now words.now x x }
 {
@@ -77,7 +68,7 @@ pub fn time(board: SeenBoard<'_>, cycle: u64) -> Result<Answer, Refusal>
     Ok(answer::served(real::bits(k.time_at(cycle))))
 }
 
-// Clears the pending flag of interrupt line irq.
+// Clears the pending flag of interrupt line irq. No board refuses it: a bare answer.
 pub fn clear_pending(words: &mut [u64; WORDS], irq: u32) -> Answer
     ensures { (x : List Float) → Answers (step (view words.old x) (C.clear_pending irq)) result words.old words.new x x }
 {

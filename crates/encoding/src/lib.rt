@@ -1,18 +1,24 @@
-// Calls as words of 32 bits (docs/CALLS.md's order): their arguments and their lengths.
+// Calls as words of 32 bits (docs/CALLS.md's order): which call they begin with, its arguments and its length.
 #![tactic(auto)]
 
-ghost use Rattle.std.specs.Prelude.{◌≡◌, ◌+◌, ◌*◌, ◌<◌, MatchResult};
+ghost use Rattle.std.specs.Prelude.{◌≡◌, ◌+◌, ◌*◌, ◌<◌, ◌≤◌, length, IfSome, IfNone, MatchResult, ℕ};
 ghost use Rattle.std.specs.Float.Ieee as Ieee;
 ghost use Rattle.encoding.specs.Encoding as E;
 ghost use Rattle.encoding.specs.Operations.{number_of};
+ghost use Rattle.encoding.specs.Asked.{asked, lent_places};
+ghost use Rattle.setup.specs.Given.{setup_given};
+ghost use Rattle.pads.specs.Setting.{set_pin_call};
+ghost use Rattle.machine.specs.Call as M;
 
 use clk::ClockTree;
+use pads::PinSetting;
+use setup::SetUp;
 
 // ---- arguments
 
 // Word k, 0 behind the end.
 #[tactic(auto, unfolding(crate::specs::Encoding::word))]
-pub fn word(calls: &[u32], k: usize) -> u32
+fn word(calls: &[u32], k: usize) -> u32
     ensures { result ≡ E.word calls.now k }
 {
     calls.get(k).copied().unwrap_or(0)
@@ -20,7 +26,7 @@ pub fn word(calls: &[u32], k: usize) -> u32
 
 // Two words, low then high.
 #[tactic(auto, unfolding(crate::specs::Encoding::word64))]
-pub fn word64(calls: &[u32], k: usize) -> u64
+fn word64(calls: &[u32], k: usize) -> u64
     requires { k < 4294967296 }
     ensures { result ≡ E.word64 calls.now k }
 {
@@ -45,7 +51,7 @@ fn float(bits: u64) -> f64
 }
 
 #[tactic(auto, unfolding(crate::specs::Encoding::real64))]
-pub fn real64(calls: &[u32], k: usize) -> f64
+fn real64(calls: &[u32], k: usize) -> f64
     requires { k < 4294967296 }
     ensures { result ≡ E.real64 calls.now k }
 {
@@ -78,7 +84,8 @@ pub enum Operation {
     Why,
 }
 
-// Of a call's first word, which is its number in docs/CALLS.md; the error is a number that is no call's.
+// Of a call's first word, which is its number in docs/CALLS.md; the error is a number that is no call's. `text::Command` has these numbers too: no plainer
+// as one, since it names what asks the board nothing besides, and neither crate uses the other.
 impl TryFrom<u32> for Operation {
     type Error = u32;
 
@@ -110,7 +117,105 @@ impl TryFrom<u32> for Operation {
     }
 }
 
-// Of set-up: ten, seven a timer, and the signal table.
+// A call that is lent no book, with its arguments.
+#[derive(Clone, Copy)]
+pub enum Plain<'a> {
+    SetUp(SetUp<'a>),
+    Clock {
+        tree: ClockTree,
+        cycle: u64,
+    },
+    Enable {
+        word: u32,
+        value: u32,
+    },
+    ClearPending {
+        irq: u32,
+    },
+    Read {
+        timer: u32,
+        offset: u32,
+        size: u32,
+        cycle: u64,
+    },
+    Peek {
+        timer: u32,
+        offset: u32,
+        cycle: u64,
+    },
+    Booked {
+        timer: u32,
+    },
+    Next,
+    Level {
+        pin: u32,
+    },
+    Volts {
+        pin: u32,
+    },
+    Line {
+        irq: u32,
+    },
+    Time {
+        cycle: u64,
+    },
+    Why {
+        pin: u32,
+        cycle: u64,
+    },
+}
+
+// One that is lent a book, with its arguments before the cycle.
+#[derive(Clone, Copy)]
+pub enum BookCall {
+    SetPin {
+        pin: u32,
+        setting: PinSetting,
+    },
+    DrivePin {
+        pin: u32,
+        kind: u32,
+        volts: f64,
+    },
+    ResetPins,
+    Write {
+        timer: u32,
+        offset: u32,
+        size: u32,
+        value: u32,
+    },
+    Reset {
+        timer: u32,
+    },
+    Deliver {
+        timer: u32,
+    },
+}
+
+// A call, with the places that it is lent.
+#[derive(Clone, Copy)]
+pub enum Call<'a> {
+    Plain(Plain<'a>),
+    Lent {
+        call: BookCall,
+        cycle: u64,
+        places: u64,
+    },
+}
+
+impl Call<'_> {
+    // The places that it is lent: a call without a book is lent none.
+    pub fn places(self) -> u64
+        ensures { result ≡ lent_places self.entry }
+    {
+        match self {
+            Call::Plain(_) => 0,
+            Call::Lent { places, .. } => places,
+        }
+    }
+}
+
+// How many words a set-up has: ten, seven a timer, and the signal table.
 fn set_up_size(calls: &[u32]) -> usize
     ensures { result ≡ 10 + E.word calls.now 7 * 7 + E.word calls.now 8 }
 {
@@ -119,14 +224,12 @@ fn set_up_size(calls: &[u32]) -> usize
     10 + timers * 7 + table
 }
 
-// 0 where the first word is no call's.
+// How many words the call has that they begin with.
 #[tactic(auto, unfolding(crate::specs::Encoding::size_of))]
-fn size_of(calls: &[u32]) -> usize
+fn size_of(operation: Operation, calls: &[u32]) -> usize
+    requires { E.word calls.now 0 ≡ number_of operation }
     ensures { result ≡ E.size_of (E.word calls.now 0) calls.now }
 {
-    let Ok(operation) = Operation::try_from(word(calls, 0)) else {
-        return 0;
-    };
     match operation {
         Operation::SetUp => set_up_size(calls),
         Operation::Clock => 13,
@@ -145,51 +248,24 @@ fn size_of(calls: &[u32]) -> usize
     }
 }
 
-// 0 where the words are no call, or a call cut short.
-#[tactic(auto, unfolding(crate::specs::Encoding::len_of))]
-pub fn len_of(calls: &[u32]) -> usize
-    ensures { result ≡ E.len_of calls.now }
+fn set_up_in(calls: &[u32]) -> SetUp<'_>
+    requires { 10 + E.word calls.now 7 * 7 + E.word calls.now 8 ≤ length calls.now }
+    ensures { setup_given result ≡ E.setup_at calls.now }
 {
-    let n = size_of(calls);
-    if n <= calls.len() { n } else { 0 }
-}
-
-// The places that the call is lent, 0 without a book.
-#[tactic(auto, unfolding(crate::specs::Encoding::book_of))]
-pub fn places_of(calls: &[u32]) -> u64
-    ensures { result ≡ E.book_of calls.now }
-{
-    match Operation::try_from(word(calls, 0)) {
-        Ok(Operation::SetPin) => word64(calls, 10),
-        Ok(Operation::DrivePin | Operation::Write) => word64(calls, 7),
-        Ok(Operation::ResetPins) => word64(calls, 3),
-        Ok(Operation::Reset | Operation::Deliver) => word64(calls, 4),
-        _ => 0,
+    let start = 10 + word(calls, 7) as usize * 7;
+    let end = start + word(calls, 8) as usize;
+    SetUp {
+        hz: real64(calls, 1),
+        vcc: real64(calls, 3),
+        pins: word(calls, 5),
+        lines: word(calls, 6),
+        manual: word(calls, 9),
+        timers: &calls[10..start],
+        table: &calls[start..end],
     }
 }
 
-pub fn has_book(op: u32) -> bool
-    ensures { result ≡ E.has_book op }
-{
-    match Operation::try_from(op) {
-        Ok(Operation::SetPin | Operation::DrivePin | Operation::ResetPins) => true,
-        Ok(Operation::Write | Operation::Reset | Operation::Deliver) => true,
-        _ => false,
-    }
-}
-
-pub fn is_change(op: u32) -> bool
-    ensures { result ≡ E.is_change op }
-{
-    match Operation::try_from(op) {
-        Ok(Operation::SetUp | Operation::Clock | Operation::Enable) => true,
-        Ok(Operation::ClearPending) => true,
-        _ => false,
-    }
-}
-
-// The tree of a call that changes it.
-pub fn tree_of(calls: &[u32]) -> ClockTree
+fn tree_in(calls: &[u32]) -> ClockTree
     ensures { result ≡ E.tree_at calls.now }
 {
     ClockTree {
@@ -202,4 +278,131 @@ pub fn tree_of(calls: &[u32]) -> ClockTree
         tim1: word(calls, 9),
         tim2: word(calls, 10),
     }
+}
+
+fn setting_in(calls: &[u32]) -> PinSetting
+    ensures { (pin cycle places : ℕ) → set_pin_call pin result cycle places ≡ M.set_pin pin (E.word calls.now 2) (E.word calls.now 3) (E.word calls.now 4) (E.word calls.now 5) (E.word calls.now 6) (E.word calls.now 7) cycle places }
+{
+    PinSetting {
+        mode: word(calls, 2),
+        open_drain: word(calls, 3),
+        out: word(calls, 4),
+        pullup: word(calls, 5),
+        pulldown: word(calls, 6),
+        function: word(calls, 7),
+    }
+}
+
+// The call that they begin with, whole.
+#[tactic(auto, unfolding(crate::specs::Encoding::call_with, crate::specs::Encoding::book_of, crate::specs::Encoding::book_call, crate::specs::Encoding::change_call, crate::specs::Encoding::question_call, crate::specs::Encoding::size_of))]
+fn decoded(operation: Operation, calls: &[u32]) -> Call<'_>
+    requires operation { E.word calls.now 0 ≡ number_of operation }
+    requires whole { E.size_of (E.word calls.now 0) calls.now ≤ length calls.now }
+    ensures { asked result ≡ E.call_of calls.now }
+{
+    match operation {
+        Operation::SetUp => Call::Plain(Plain::SetUp(set_up_in(calls))),
+        Operation::Clock => Call::Plain(Plain::Clock {
+            tree: tree_in(calls),
+            cycle: word64(calls, 11),
+        }),
+        Operation::Enable => Call::Plain(Plain::Enable {
+            word: word(calls, 1),
+            value: word(calls, 2),
+        }),
+        Operation::SetPin => Call::Lent {
+            call: BookCall::SetPin {
+                pin: word(calls, 1),
+                setting: setting_in(calls),
+            },
+            cycle: word64(calls, 8),
+            places: word64(calls, 10),
+        },
+        Operation::DrivePin => Call::Lent {
+            call: BookCall::DrivePin {
+                pin: word(calls, 1),
+                kind: word(calls, 2),
+                volts: real64(calls, 3),
+            },
+            cycle: word64(calls, 5),
+            places: word64(calls, 7),
+        },
+        Operation::ResetPins => Call::Lent {
+            call: BookCall::ResetPins,
+            cycle: word64(calls, 1),
+            places: word64(calls, 3),
+        },
+        Operation::Read => Call::Plain(Plain::Read {
+            timer: word(calls, 1),
+            offset: word(calls, 2),
+            size: word(calls, 3),
+            cycle: word64(calls, 4),
+        }),
+        Operation::Write => Call::Lent {
+            call: BookCall::Write {
+                timer: word(calls, 1),
+                offset: word(calls, 2),
+                size: word(calls, 3),
+                value: word(calls, 4),
+            },
+            cycle: word64(calls, 5),
+            places: word64(calls, 7),
+        },
+        Operation::Peek => Call::Plain(Plain::Peek {
+            timer: word(calls, 1),
+            offset: word(calls, 2),
+            cycle: word64(calls, 3),
+        }),
+        Operation::Reset => Call::Lent {
+            call: BookCall::Reset {
+                timer: word(calls, 1),
+            },
+            cycle: word64(calls, 2),
+            places: word64(calls, 4),
+        },
+        Operation::Deliver => Call::Lent {
+            call: BookCall::Deliver {
+                timer: word(calls, 1),
+            },
+            cycle: word64(calls, 2),
+            places: word64(calls, 4),
+        },
+        Operation::Booked => Call::Plain(Plain::Booked {
+            timer: word(calls, 1),
+        }),
+        Operation::Next => Call::Plain(Plain::Next),
+        Operation::Level => Call::Plain(Plain::Level {
+            pin: word(calls, 1),
+        }),
+        Operation::Volts => Call::Plain(Plain::Volts {
+            pin: word(calls, 1),
+        }),
+        Operation::Line => Call::Plain(Plain::Line {
+            irq: word(calls, 1),
+        }),
+        Operation::Time => Call::Plain(Plain::Time {
+            cycle: word64(calls, 1),
+        }),
+        Operation::ClearPending => Call::Plain(Plain::ClearPending {
+            irq: word(calls, 1),
+        }),
+        Operation::Why => Call::Plain(Plain::Why {
+            pin: word(calls, 1),
+            cycle: word64(calls, 2),
+        }),
+    }
+}
+
+// The call that the words begin with and how many of them it has, if they are a call and it is not cut short.
+#[tactic(auto, unfolding(crate::specs::Encoding::len_of, crate::specs::Encoding::size_of))]
+pub fn first_call(calls: &[u32]) -> Option<(Call<'_>, usize)>
+    ensures call { IfSome result (λ r. (asked r.0 ≡ E.call_of calls.now) × (r.1 ≡ E.len_of calls.now) × (0 < r.1)) }
+    ensures none { IfNone result (E.len_of calls.now ≡ 0) }
+{
+    let operation = Operation::try_from(word(calls, 0)).ok()?;
+    let size = size_of(operation, calls);
+    if calls.len() < size {
+        return None;
+    }
+    Some((decoded(operation, calls), size))
 }

@@ -1,4 +1,5 @@
-// A pin by value (sys.rs): what its configuration and its signal make it drive, and whether its level changed.
+// A pin by value (sys.rs): what its configuration and its signal make it drive, and whether its level changed. Functions of a pin and no methods, as
+// sys.rs has them: a pin's number comes first, which is no part of it.
 #![tactic(auto)]
 
 ghost use Rattle.std.specs.Prelude.{◌≡◌, ◌<◌};
@@ -6,8 +7,8 @@ ghost use Rattle.gpio.specs.Gpio as G;
 
 use pins::{ExtDrive, Mcu, Pin, Source};
 
-// Electrical configuration of one pin as written by the port registers.
-#[derive(Clone, Copy)]
+// Electrical configuration of one pin as written by the port registers; by default an input.
+#[derive(Clone, Copy, Default)]
 pub struct PinCfg {
     // MODER: 0 input, 1 output, 2 alternate function, 3 analog. A number, since a word of the lent state may hold any: one above 3 acts as input.
     pub mode: u8,
@@ -57,9 +58,9 @@ fn output_side(m: Mcu, c: PinCfg) -> Mcu
         pullup: u8::from(c.pullup),
         pulldown: u8::from(c.pulldown),
         ov_enable: 0,
-        ov_value: m.ov_value,
         ddoe: released(c, c.odr),
         ddov: 0,
+        ..m
     }
 }
 
@@ -68,13 +69,13 @@ fn signal_side(m: Mcu, c: PinCfg, level: u8) -> Mcu
 {
     Mcu {
         dir: 1,
-        out: m.out,
         pullup: u8::from(c.pullup),
         pulldown: u8::from(c.pulldown),
         ov_enable: 1,
         ov_value: level,
         ddoe: released(c, level),
         ddov: 0,
+        ..m
     }
 }
 
@@ -83,13 +84,12 @@ fn input_side(m: Mcu, c: PinCfg) -> Mcu
 {
     Mcu {
         dir: 0,
-        out: m.out,
         pullup: u8::from(c.pullup),
         pulldown: u8::from(c.pulldown),
         ov_enable: 0,
-        ov_value: m.ov_value,
         ddoe: 0,
         ddov: 0,
+        ..m
     }
 }
 
@@ -122,18 +122,6 @@ fn side_of(g: Gpio, level: u8) -> Mcu
     }
 }
 
-fn with_pin(g: Gpio, pin: Pin) -> Gpio
-    ensures { result ≡ G.with_pin g pin }
-{
-    Gpio { pin, ..g }
-}
-
-fn with_mcu(g: Gpio, mcu: Mcu) -> Gpio
-    ensures { result ≡ G.with_mcu g mcu }
-{
-    with_pin(g, Pin { mcu, ..g.pin })
-}
-
 // The change of pin i from an old level to a new one, which a source gives it.
 pub fn changed(i: u8, old: u8, new: u8, source: Source) -> Option<Edge>
     ensures { result ≡ G.changed i old new source }
@@ -149,27 +137,32 @@ pub fn changed(i: u8, old: u8, new: u8, source: Source) -> Option<Edge>
     }
 }
 
-// Re-resolves the level of pin i after any change of its inputs.
+// Re-resolves the level of pin i after any change of its inputs. Compiled in as `Pin::resolve` is.
+#[inline(always)]
 #[tactic(auto, unfolding(crate::specs::Gpio::updated))]
 pub fn update(i: u8, g: Gpio, vcc: f64) -> Moved
     ensures { result ≡ G.updated i g vcc }
 {
-    let p = g.pin.resolve(vcc);
-    let change = changed(i, g.pin.level, p.level, p.source);
+    let pin = g.pin.resolve(vcc);
+    let change = changed(i, g.pin.level, pin.level, pin.source);
     Moved {
-        gpio: with_pin(g, p),
+        gpio: Gpio { pin, ..g },
         change,
     }
 }
 
-// Recomputes the chip's side of pin i from its configuration and its signal's level, then re-resolves it.
+// Recomputes the chip's side of pin i from its configuration and its signal's level, then re-resolves it. Compiled in as `Pin::resolve` is.
+#[inline(always)]
 #[tactic(auto, unfolding(crate::specs::Gpio::refreshed))]
 pub fn refresh(i: u8, g: Gpio, level: u8, vcc: f64) -> Moved
     requires { g.sig < 65536 }
     ensures { result ≡ G.refreshed i g level vcc }
 {
-    let m = side_of(g, level);
-    update(i, with_mcu(g, m), vcc)
+    let pin = Pin {
+        mcu: side_of(g, level),
+        ..g.pin
+    };
+    update(i, Gpio { pin, ..g }, vcc)
 }
 
 // Another configuration and selected signal.
@@ -187,5 +180,6 @@ pub fn configure(g: Gpio, c: PinCfg, s: u32) -> Gpio
 pub fn connect(g: Gpio, e: ExtDrive) -> Gpio
     ensures { result ≡ G.connected g e }
 {
-    with_pin(g, Pin { ext: e, ..g.pin })
+    let pin = Pin { ext: e, ..g.pin };
+    Gpio { pin, ..g }
 }

@@ -9,60 +9,50 @@ ghost use Rattle.state.specs.View.{view};
 
 use codec::{GPIO_WORDS, pin};
 use pins::Source;
-use state::{GPIO, GPIO_REALS, LentBoard, WORDS};
+use state::{GPIO, GPIO_REALS, LentBoard, PinIndex, WORDS};
 
-pub fn level(words: &[u64; WORDS], p: usize) -> u8
-    requires { p < 128 }
-    ensures { (x : List Float) → result ≡ (pin_at (view words.now x) p).pin.level }
+pub fn level(words: &[u64; WORDS], p: PinIndex) -> u8
+    ensures { (x : List Float) → result ≡ (pin_at (view words.now x) p.n).pin.level }
 {
-    (words[GPIO + (p * GPIO_WORDS + pin::LEVEL)] % 2) as u8
-}
-
-// Who holds the level.
-pub fn source(words: &[u64; WORDS], p: usize) -> Source
-    requires { p < 128 }
-    ensures { (x : List Float) → result ≡ (pin_at (view words.now x) p).pin.source }
-{
-    codec::source_in(words[GPIO + (p * GPIO_WORDS + pin::LEVEL)])
+    codec::lowest(words[GPIO + (p.n * GPIO_WORDS + pin::LEVEL)])
 }
 
 // The selected signal.
-pub fn signal(words: &[u64; WORDS], p: usize) -> u32
-    requires { p < 128 }
-    ensures value { (x : List Float) → result ≡ (pin_at (view words.now x) p).sig }
-    ensures upper_bound { result < 256 }
+pub fn signal(words: &[u64; WORDS], p: PinIndex) -> u32
+    ensures signal { (x : List Float) → result ≡ (pin_at (view words.now x) p.n).sig }
+    ensures range { result < 256 }
 {
-    (words[GPIO + (p * GPIO_WORDS + pin::SIG)] % 256) as u32
+    u32::from(codec::low_8(words[GPIO + (p.n * GPIO_WORDS + pin::SIG)]))
 }
 
 // In alternate mode, and not open drain.
-pub fn is_push_pull(words: &[u64; WORDS], p: usize) -> bool
-    requires { p < 128 }
-    ensures { (x : List Float) → result ≡ is_push_pull (pin_at (view words.now x) p).cfg }
+pub fn is_push_pull(words: &[u64; WORDS], p: PinIndex) -> bool
+    ensures { (x : List Float) → result ≡ is_push_pull (pin_at (view words.now x) p.n).cfg }
 {
-    words[GPIO + p * GPIO_WORDS] % 256 == 2
-        && words[GPIO + (p * GPIO_WORDS + pin::OPEN_DRAIN)] % 2 == 0
+    codec::low_8(words[GPIO + p.n * GPIO_WORDS]) == 2
+        && !codec::is_odd(words[GPIO + (p.n * GPIO_WORDS + pin::OPEN_DRAIN)])
 }
 
 // Push-pull pin p at the level of a signal that drives it: the source is the chip, and stands in the level's word. What that leaves as it is is not
-// stored.
-pub fn drive_level(board: &mut LentBoard<'_>, p: usize, level: u8)
-    requires { (p < 128) × (level ≤ 1) }
+// stored. The words are named once: through the board each store would look up anew where they are.
+pub fn drive_level(board: &mut LentBoard<'_>, p: PinIndex, level: u8)
+    requires { level ≤ 1 }
     ensures same_loan { SameLoan board.old board.new }
-    ensures board { lent_board board.new ≡ pin_set (lent_board board.old) p (push_pull (pin_at (lent_board board.old) p) level (lent_board board.old).pads.vcc) }
+    ensures board { lent_board board.new ≡ pin_set (lent_board board.old) p.n (push_pull (pin_at (lent_board board.old) p.n) level (lent_board board.old).pads.vcc) }
 {
     state::known_lengths(board.words, board.reals);
     let v = pins::supply_at(state::vcc(board.reals), level);
-    let at = GPIO + p * GPIO_WORDS;
-    let up = board.words[at + pin::PULLUP] % 2;
-    let down = board.words[at + pin::PULLDOWN] % 2;
-    board.words[at + pin::DIR] = 1;
-    board.words[at + pin::UP] = up;
-    board.words[at + pin::DOWN] = down;
-    board.words[at + pin::OV_ENABLE] = 1;
-    board.words[at + pin::OV_VALUE] = level as u64;
-    board.words[at + pin::DDOE] = 0;
-    board.words[at + pin::DDOV] = 0;
-    board.words[at + pin::LEVEL] = level as u64 + 2 * Source::Chip as u64;
-    board.reals[GPIO_REALS + p * 2] = v;
+    let words = &mut *board.words;
+    let at = GPIO + p.n * GPIO_WORDS;
+    let up = words[at + pin::PULLUP] % 2;
+    let down = words[at + pin::PULLDOWN] % 2;
+    words[at + pin::DIR] = 1;
+    words[at + pin::UP] = up;
+    words[at + pin::DOWN] = down;
+    words[at + pin::OV_ENABLE] = 1;
+    words[at + pin::OV_VALUE] = level as u64;
+    words[at + pin::DDOE] = 0;
+    words[at + pin::DDOV] = 0;
+    words[at + pin::LEVEL] = codec::level_word(level, Source::Chip);
+    board.reals[GPIO_REALS + p.n * 2] = v;
 }

@@ -1,13 +1,12 @@
 // A line of the call list, byte by byte, to an encoded call. The reader is lent, so lines may be of any length.
 #![tactic(auto)]
 
-ghost use Rattle.std.specs.Prelude.{◌≡◌, ◌+◌, ◌/◌, ◌%◌, ◌<◌, ◌≤◌, ◌^◌, slice_set, min, MatchResult, IfOk, IfSome, OnSome, OnOk, OnErr};
+ghost use Rattle.std.specs.Prelude.{◌≡◌, ◌+◌, ◌/◌, ◌%◌, ◌<◌, ◌≤◌, ◌^◌, slice_set, min, IfOk, IfSome, OnSome, OnOk, OnErr};
 ghost use Rattle.text.specs.Words.{number_of};
-ghost use Rattle.text.specs.declared.Reason.TheVariants as Reason;
 ghost use Rattle.line.specs.Call.{Begins, last_wide, with_last_wide};
 
 use arrayvec::ArrayVec;
-use text::{Command, Operand, Reading, Reason};
+use text::{Command, Lines, Operand, Piece, Reading, Reason};
 
 // The longest word of a call has 10 letters: one more tells a longer word.
 const LETTERS: usize = 11;
@@ -99,13 +98,6 @@ fn high(x: u64) -> u32
     ensures { result ≡ x / 2 ^ 32 }
 {
     (x / 4294967296) as u32
-}
-
-// A number of 32 bits.
-fn short(x: u64) -> Result<u32, Reason>
-    ensures { MatchResult result (λ y. y ≡ x) (λ e. (2 ^ 32 ≤ x) × (e ≡ Reason.TooLarge)) }
-{
-    u32::try_from(x).or(Err(Reason::TooLarge))
 }
 
 impl Parser {
@@ -299,7 +291,7 @@ impl Parser {
             }
             Some(Operand::Kind) if 3 < v => return Err(Reason::TooLarge),
             _ => {
-                let v = short(v)?;
+                let v = text::short(v)?;
                 if self.command == Command::Setup && k == TIMERS_PLACE {
                     self.timer_count(v);
                     return Ok(());
@@ -316,7 +308,7 @@ impl Parser {
         if let Next::Operand(k) = self.next {
             return self.operand(k, v);
         }
-        let v = short(v)?;
+        let v = text::short(v)?;
         match self.next {
             Next::Timer { timers, left } => self.timer_number(timers, left, v),
             Next::Length { timers } => self.table_length(timers, v),
@@ -384,33 +376,29 @@ impl Parser {
     }
 }
 
-// A call list, byte by byte: the number of the line, whether a comment runs, whether a carriage return waits for the line's end, and the line's words.
+// A call list, byte by byte: its lines, and the words of the one that is read.
 #[derive(Drop)]
 pub struct Reader {
-    line: u64,
-    comment: bool,
-    carriage_return: bool,
+    lines: Lines,
     parser: Parser,
 }
 
 impl Reader {
     // Before the first byte.
     pub fn new() -> Reader
-        ensures { result.line ≡ 1 }
+        ensures { result.lines.line ≡ 1 }
     {
         Reader {
-            line: 1,
-            comment: false,
-            carriage_return: false,
+            lines: Lines::new(),
             parser: Parser::new(),
         }
     }
 
     // The number of the line.
     pub fn line(&self) -> u64
-        ensures { result ≡ self.now.line }
+        ensures { result ≡ self.now.lines.line }
     {
-        self.line
+        self.lines.line()
     }
 
     // The call's words, as far as they are read.
@@ -433,7 +421,7 @@ impl Reader {
     // Puts another number in its place.
     pub fn set_last_wide(&mut self, x: u64)
         ensures words { self.new.parser.call.items ≡ with_last_wide x self.old.parser.call.items }
-        ensures line { self.new.line ≡ self.old.line }
+        ensures line { self.new.lines.line ≡ self.old.lines.line }
     {
         let length = self.parser.call.len();
         if 3 <= length {
@@ -445,48 +433,31 @@ impl Reader {
     // The line ends, or the input: the call that the line is, if it is one.
     pub fn end(&mut self) -> Result<Option<Command>, Reason>
         ensures whole { IfOk result (λ told. IfSome told (λ command. Begins command self.new.parser.call.items)) }
-        ensures counted { OnOk result (self.new.line ≡ min (self.old.line + 1) 18446744073709551615) }
-        ensures err { OnErr result (self.new.line ≡ self.old.line) }
+        ensures counted { OnOk result (self.new.lines.line ≡ min (self.old.lines.line + 1) 18446744073709551615) }
+        ensures err { OnErr result (self.new.lines.line ≡ self.old.lines.line) }
     {
-        self.comment = false;
-        self.carriage_return = false;
         let told = self.parser.line_end()?;
-        self.line = self.line.saturating_add(1);
+        self.lines.end();
         Ok(told)
     }
 
     // The next byte of the list: the call that it ends, if it ends one.
+    #[tactic(auto, unfolding(text::specs::Lines::piece_of))]
     pub fn feed(&mut self, b: u8) -> Result<Option<Command>, Reason>
         ensures whole { IfOk result (λ told. IfSome told (λ command. Begins command self.new.parser.call.items)) }
         ensures at_end { IfOk result (λ told. OnSome told (b ≡ 10)) }
-        ensures err { OnErr result (self.new.line ≡ self.old.line) }
+        ensures err { OnErr result (self.new.lines.line ≡ self.old.lines.line) }
     {
-        if b == b'\n' {
-            return self.end();
-        }
-        if self.comment {
-            return Ok(None);
-        }
-        if self.carriage_return {
-            self.carriage_return = false;
+        let (returned, piece) = self.lines.next(b);
+        if returned {
             self.parser.letter(b'\r')?;
         }
-        match b {
-            b'\r' => self.carriage_return = true,
-            b'#' => {
-                self.comment = true;
-                self.parser.word_end()?;
-            }
-            _ if text::is_space(b) => self.parser.word_end()?,
-            _ => self.parser.letter(b)?,
+        match piece {
+            Piece::LineEnd => return self.end(),
+            Piece::WordEnd => self.parser.word_end()?,
+            Piece::Letter => self.parser.letter(b)?,
+            Piece::Nothing => {}
         }
         Ok(None)
-    }
-
-    // Leaves the line: nothing of it is read any more.
-    pub fn leave(&mut self)
-        ensures { self.new.line ≡ self.old.line }
-    {
-        self.parser.phase = Phase::Start;
     }
 }

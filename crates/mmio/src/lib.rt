@@ -19,23 +19,23 @@ ghost use Rattle.mmio.specs.Leaves.{Leaves, DrivenIf, after};
 
 use answer::{Answer, Refusal};
 use book::LentBook;
-use state::{LentBoard, WORDS};
+use state::{LentBoard, TimerIndex, WORDS};
 
 // ---- reads
 
 // Timer i's register at a cycle.
-fn value_of(words: &[u64; WORDS], i: usize, off: u32, cycle: u64) -> u32
-    requires { (i < 8) × (cycle < 9223372036854775808) }
-    ensures { (x : List Float) → result ≡ R.reg_read (timer_at (view words.now x) i) off cycle }
+fn value_of(words: &[u64; WORDS], i: TimerIndex, off: u32, cycle: u64) -> u32
+    requires { cycle < 9223372036854775808 }
+    ensures { (x : List Float) → result ≡ R.reg_read (timer_at (view words.now x) i.n) off cycle }
 {
     let t = state::load_timer(words, i);
     regs::read_reg(t, off, cycle)
 }
 
 // Timer i's counter at a cycle. A reload of 0, which may block it, goes the general way: where it is above 0 the test for the block is gone.
-pub fn count_of(words: &[u64; WORDS], i: usize, cycle: u64) -> u32
-    requires { (i < 8) × (cycle < 9223372036854775808) }
-    ensures { (x : List Float) → result ≡ cnt_at (timer_at (view words.now x) i) cycle }
+pub fn count_of(words: &[u64; WORDS], i: TimerIndex, cycle: u64) -> u32
+    requires { cycle < 9223372036854775808 }
+    ensures { (x : List Float) → result ≡ cnt_at (timer_at (view words.now x) i.n) cycle }
 {
     let t = state::load_timer(words, i);
     if t.count.arr_act == 0 {
@@ -46,18 +46,19 @@ pub fn count_of(words: &[u64; WORDS], i: usize, cycle: u64) -> u32
 
 // The lane of timer i's register at the offset. It has several callers, so it is not compiled into them: a read of the counter,
 // which goes without it, stays short.
-pub fn lane_of(words: &[u64; WORDS], i: usize, offset: u32, size: u32, cycle: u64) -> u32
-    requires { (i < 8) × (size ≤ 4) × (cycle < 9223372036854775808) }
-    ensures { (x : List Float) → result ≡ lane_read (R.reg_read (timer_at (view words.now x) i) (register offset) cycle) offset size }
+pub fn lane_of(words: &[u64; WORDS], i: TimerIndex, offset: u32, size: u32, cycle: u64) -> u32
+    requires { (size ≤ 4) × (cycle < 9223372036854775808) }
+    ensures { (x : List Float) → result ≡ lane_read (R.reg_read (timer_at (view words.now x) i.n) (register offset) cycle) offset size }
 {
     let reg = value_of(words, i, offset / 4 * 4, cycle);
     periph::lane_read(reg, offset, size as u8)
 }
 
-// The whole of timer i's register at the offset. The counter has a short way; every other goes the general one.
-fn whole_of(words: &[u64; WORDS], i: usize, offset: u32, cycle: u64) -> u32
-    requires { (i < 8) × (cycle < 9223372036854775808) }
-    ensures { (x : List Float) → result ≡ lane_read (R.reg_read (timer_at (view words.now x) i) (register offset) cycle) offset 4 }
+// The whole of timer i's register at the offset. The counter has a short way, which is compiled into a read; every other goes the general one.
+#[inline(always)]
+fn whole_of(words: &[u64; WORDS], i: TimerIndex, offset: u32, cycle: u64) -> u32
+    requires { cycle < 9223372036854775808 }
+    ensures { (x : List Float) → result ≡ lane_read (R.reg_read (timer_at (view words.now x) i.n) (register offset) cycle) offset 4 }
 {
     let off = offset / 4 * 4;
     match off {
@@ -66,9 +67,9 @@ fn whole_of(words: &[u64; WORDS], i: usize, offset: u32, cycle: u64) -> u32
     }
 }
 
-// A read: 0 while the timer's clock is off. A whole register, the most common read, has the counter's short way.
+// A read of so many bytes: 0 while the timer's clock is off. A whole register, the most common read, has the counter's short way.
 #[inline(always)]
-pub fn read(
+fn read_sized(
     words: &[u64; WORDS],
     timer: u32,
     offset: u32,
@@ -77,8 +78,7 @@ pub fn read(
 ) -> Result<Answer, Refusal>
     ensures { (x : List Float) → Answers (step (view words.now x) (Call.read timer offset size cycle)) (told result) words.now words.now x x }
 {
-    answer::check_timer(words, timer, size, cycle)?;
-    let i = timer as usize;
+    let i = answer::check_timer(words, timer, size, cycle)?;
     if !context::clock_on(words, i) {
         return Ok(answer::served(0));
     }
@@ -90,12 +90,29 @@ pub fn read(
     Ok(answer::served(lane as u64))
 }
 
+// A read. That of 4 bytes is compiled for itself, so that its size is asked once: a read of the counter takes a sixth less.
+#[inline(always)]
+pub fn read(
+    words: &[u64; WORDS],
+    timer: u32,
+    offset: u32,
+    size: u32,
+    cycle: u64,
+) -> Result<Answer, Refusal>
+    ensures { (x : List Float) → Answers (step (view words.now x) (Call.read timer offset size cycle)) (told result) words.now words.now x x }
+{
+    if size == 4 {
+        return read_sized(words, timer, offset, 4, cycle);
+    }
+    read_sized(words, timer, offset, size, cycle)
+}
+
 // A peek: the whole register, clock or not.
 pub fn peek(words: &[u64; WORDS], timer: u32, offset: u32, cycle: u64) -> Result<Answer, Refusal>
     ensures { (x : List Float) → Answers (step (view words.now x) (Call.peek timer offset cycle)) (told result) words.now words.now x x }
 {
-    answer::check_timer(words, timer, 4, cycle)?;
-    let reg = lane_of(words, timer as usize, offset, 4, cycle);
+    let i = answer::check_timer(words, timer, 4, cycle)?;
+    let reg = lane_of(words, i, offset, 4, cycle);
     Ok(answer::served(reg as u64))
 }
 
@@ -106,14 +123,13 @@ fn drive_if(
     board: &mut LentBoard<'_>,
     book: &mut LentBook<'_>,
     drive: Option<u32>,
-    i: usize,
+    i: TimerIndex,
     cycle: u64,
 )
-    requires timer { i < 8 }
     requires room { Room (book.old.count + 4) (slices_of book.old) }
     ensures same_loan { SameLoan board.old board.new }
     ensures same_slices { SameSlices book.old book.new }
-    ensures driven_if { DrivenIf drive (timer_at (lent_board board.old) i) cycle (lent_board board.old) (lent_board board.new) (filled book.old) (filled book.new) }
+    ensures driven_if { DrivenIf drive (timer_at (lent_board board.old) i.n) cycle (lent_board board.old) (lent_board board.new) (filled book.old) (filled book.new) }
     ensures at_most_four { book.new.count ≤ book.old.count + 4 }
 {
     if let Some(cnt) = drive {
@@ -121,18 +137,16 @@ fn drive_if(
     }
 }
 
-fn settle_line_if(words: &mut [u64; WORDS], on: bool, i: usize)
-    requires { i < 8 }
-    ensures { (x : List Float) → view words.new x ≡ cond on (line_settled i (timer_at (view words.old x) i) (view words.old x)) (view words.old x) }
+fn settle_line_if(words: &mut [u64; WORDS], on: bool, i: TimerIndex)
+    ensures { (x : List Float) → view words.new x ≡ cond on (line_settled i.n (timer_at (view words.old x) i.n) (view words.old x)) (view words.old x) }
 {
     if on {
         context::settle_line_at(words, i);
     }
 }
 
-fn rebook_if(words: &mut [u64; WORDS], on: bool, i: usize, cycle: u64)
-    requires { i < 8 }
-    ensures { (x : List Float) → view words.new x ≡ cond on (rebooked i (timer_at (view words.old x) i) cycle (view words.old x)) (view words.old x) }
+fn rebook_if(words: &mut [u64; WORDS], on: bool, i: TimerIndex, cycle: u64)
+    ensures { (x : List Float) → view words.new x ≡ cond on (rebooked i.n (timer_at (view words.old x) i.n) cycle (view words.old x)) (view words.old x) }
 {
     if on {
         context::rebook(words, i, cycle);
@@ -143,17 +157,16 @@ fn rebook_if(words: &mut [u64; WORDS], on: bool, i: usize, cycle: u64)
 pub fn follow(
     board: &mut LentBoard<'_>,
     book: &mut LentBook<'_>,
-    i: usize,
+    i: TimerIndex,
     drive: Option<u32>,
     lined: bool,
     booked: bool,
     cycle: u64,
 )
-    requires timer { i < 8 }
     requires room { Room (book.old.count + 4) (slices_of book.old) }
     ensures same_loan { SameLoan board.old board.new }
     ensures same_slices { SameSlices book.old book.new }
-    ensures leaves { Leaves (after (lent_board board.old) i cycle drive lined booked) (lent_board board.new) (filled book.old) (filled book.new) }
+    ensures leaves { Leaves (after (lent_board board.old) i.n cycle drive lined booked) (lent_board board.new) (filled book.old) (filled book.new) }
     ensures at_most_four { book.new.count ≤ book.old.count + 4 }
 {
     drive_if(board, book, drive, i, cycle);
@@ -165,12 +178,11 @@ pub fn follow(
 // ---- reset
 
 // Timer i at its reset values, its outputs and line settled; it is stopped, so booked for never.
-fn reset_timer(board: &mut LentBoard<'_>, book: &mut LentBook<'_>, i: usize, cycle: u64)
-    requires timer { i < 8 }
+fn reset_timer(board: &mut LentBoard<'_>, book: &mut LentBook<'_>, i: TimerIndex, cycle: u64)
     requires room { Room (book.old.count + 4) (slices_of book.old) }
     ensures same_loan { SameLoan board.old board.new }
     ensures same_slices { SameSlices book.old book.new }
-    ensures leaves { Leaves (timer_reset (lent_board board.old) i cycle) (lent_board board.new) (filled book.old) (filled book.new) }
+    ensures leaves { Leaves (timer_reset (lent_board board.old) i.n cycle) (lent_board board.new) (filled book.old) (filled book.new) }
     ensures at_most_four { book.new.count ≤ book.old.count + 4 }
 {
     let t = state::load_timer(board.words, i);
@@ -193,8 +205,8 @@ pub fn reset(
     ensures holds { Holds (step (lent_board board.old) (Call.reset_timer timer cycle (places (slices_of book.old)))).entries (slices_of book.old) (slices_of book.new) (told result).count }
 {
     book.count = 0;
-    answer::check_timer_and_book(board.words, timer, 4, cycle, book)?;
-    reset_timer(board, book, timer as usize, cycle);
+    let i = answer::check_timer_and_book(board.words, timer, 4, cycle, book)?;
+    reset_timer(board, book, i, cycle);
     Ok(answer::entered(book))
 }
 
@@ -213,8 +225,8 @@ pub fn deliver(
     ensures answers { AnswersLent (step (lent_board board.old) (Call.deliver timer cycle (places (slices_of book.old)))) (told result) board.old board.new }
     ensures holds { Holds (step (lent_board board.old) (Call.deliver timer cycle (places (slices_of book.old)))).entries (slices_of book.old) (slices_of book.new) (told result).count }
 {
-    answer::check_timer_and_book(board.words, timer, 4, cycle, book)?;
-    let d = delivery::deliver(board, book, timer as usize, cycle);
+    let i = answer::check_timer_and_book(board.words, timer, 4, cycle, book)?;
+    let d = delivery::deliver(board, book, i, cycle);
     state::set_last(board.words, cycle);
     Ok(Answer {
         value: d.events,

@@ -11,7 +11,7 @@ ghost use Rattle.state.specs.Lent.{lent_board, SameLoan};
 ghost use Rattle.outputs.specs.Outputs.{Driven, level_driven, DrivenOne};
 
 use book::LentBook;
-use state::LentBoard;
+use state::{LentBoard, TimerIndex};
 use tim::Timer;
 
 // Signal s at a level that it has not, and its level change into the book at a cycle. What changed goes from one to the other in registers: it is called, and
@@ -84,15 +84,14 @@ pub fn drive_timer(board: &mut LentBoard<'_>, book: &mut LentBook<'_>, t: Timer,
 pub fn drive_outputs(
     board: &mut LentBoard<'_>,
     book: &mut LentBook<'_>,
-    i: usize,
+    i: TimerIndex,
     cnt: u32,
     at: u64,
 )
-    requires timer { i < 8 }
     requires room { Room (book.old.count + 4) (slices_of book.old) }
     ensures same_loan { SameLoan board.old board.new }
     ensures same_slices { SameSlices book.old book.new }
-    ensures driven { Driven (S.drive_outputs (timer_at (lent_board board.old) i) cnt (lent_board board.old).pads) at (lent_board board.old) (lent_board board.new) (filled book.old) (filled book.new) }
+    ensures driven { Driven (S.drive_outputs (timer_at (lent_board board.old) i.n) cnt (lent_board board.old).pads) at (lent_board board.old) (lent_board board.new) (filled book.old) (filled book.new) }
     ensures at_most_four { book.new.count ≤ book.old.count + 4 }
 {
     let t = state::load_timer(board.words, i);

@@ -2,11 +2,11 @@
 use mathlib.Core.Path.{◌≡◌, refl, ap, sym, ◌∙◌}
 use mathlib.Core.Bool.{Bool, true, false, cond}
 use mathlib.Core.List.{List, [], ◌∷◌}
-use Prim.Native.Nat.{ℕ, ◌≤◌, ◌<◌}
+use Prim.Native.Nat.{ℕ, ◌≤◌}
 use native.Mathlib.Omega.{arith}
 use lib.Dec.{ltb, leb, lit≤}
 use lib.Ieee.{Float}
-use borrow.Author.Tests.{ltb-false, leb-false, le-leb, lt-leb, lt-ltb, le-ltb}
+use borrow.Author.Tests.{ltb-false}
 use Rattle.gpio.specs.declared.PinCfg.{PinCfg}
 use Rattle.pins.specs.declared.ExtDrive.{ExtDrive}
 use Rattle.std.specs.Prelude.{Option}
@@ -17,7 +17,7 @@ use Rattle.machine.specs.Board.{Board, with_pads, with_last}
 use Rattle.machine.specs.Sys as S
 use Rattle.machine.specs.Call.{Call, Outcome, set_pin, drive_pin, reset_pins}
 use Rattle.machine.specs.Step.{step, cfg_of, moved, changes_of, cycle_astray}
-use Rattle.machine.specs.Refusals.{◌when◌, refusals, first, no_such_index, bad_size, clock_astray, book_full}
+use Rattle.machine.specs.Refusals.{◌when◌, refusals, first, no_such_index, clock_astray, book_full}
 use Rattle.machine.proofs.NumberLaws.{performed}
 use Rattle.machine.proofs.TableLaws.{taken-same}
 use Rattle.state.specs.View.{view}
@@ -28,64 +28,28 @@ use Rattle.answer.proofs.Given.{refused-step, served-step, away, unbooked, gives
 
 -- ---- the numbers
 
--- those of a pin's call: no size is odd, the count and the places are as given
-pub pin-number : (b : Board) (pin cycle count room pl n : ℕ)
-    → n ≡ first (no_such_index pin count ∷ bad_size 4 ∷ clock_astray b cycle ∷ book_full 4 room ∷ []) → count ≡ b.counts.pins → room ≡ pl
-    → n ≡ first (no_such_index pin b.counts.pins ∷ clock_astray b cycle ∷ book_full 4 pl ∷ [])
-unfolding first
-pin-number b pin cycle count room pl n h e f =
-    h ∙ ap (λ (k : ℕ). cond (leb k pin) 2 (cond (cycle_astray b cycle) 5 (cond (ltb room 4) 6 0))) e
-    ∙ ap (λ (k : ℕ). cond (leb b.counts.pins pin) 2 (cond (cycle_astray b cycle) 5 (cond (ltb k 4) 6 0))) f
-
 -- those of a pin reset
-pub reset-number : (b : Board) (cycle need room pl n : ℕ)
-    → n ≡ first (no_such_index 0 1 ∷ bad_size 4 ∷ clock_astray b cycle ∷ book_full need room ∷ []) → need ≡ b.counts.pins → room ≡ pl
+pub reset-number : (b : Board) (cycle need pl n : ℕ)
+    → n ≡ first (clock_astray b cycle ∷ (11 when false) ∷ book_full need pl ∷ []) → need ≡ b.counts.pins
     → n ≡ first (refusals b (reset_pins cycle pl))
 unfolding first refusals
-reset-number b cycle need room pl n h e f =
-    h ∙ ap (λ (k : ℕ). cond (cycle_astray b cycle) 5 (cond (ltb room k) 6 0)) e ∙ ap (λ (k : ℕ). cond (cycle_astray b cycle) 5 (cond (ltb k b.counts.pins) 6 0)) f
+reset-number b cycle need pl n h e = h ∙ ap (λ (k : ℕ). cond (cycle_astray b cycle) 5 (cond (ltb pl k) 6 0)) e
 
--- those of a pin setting, one after the other
-module _ (b : Board) (pin cycle pl : ℕ) (t : Bool) where
-  abbrev pub asked : ℕ
-  asked = first (no_such_index pin b.counts.pins ∷ clock_astray b cycle ∷ (11 when t) ∷ book_full 4 pl ∷ [])
+-- those of a pin setting
+abbrev pub asked : Board → ℕ → ℕ → ℕ → Bool → ℕ
+asked b pin cycle pl t = first (no_such_index pin b.counts.pins ∷ clock_astray b cycle ∷ (11 when t) ∷ book_full 4 pl ∷ [])
 
-  pub no_pin_lem : (count : ℕ) → count ≡ b.counts.pins → count ≤ pin → 2 ≡ asked
-  unfolding first
-  no_pin_lem count e l = rw (le-leb b.counts.pins pin (omega arith))
-
-  module _ (count : ℕ) (e : count ≡ b.counts.pins) (l : pin < count) where
-    there : leb b.counts.pins pin ≡ false
-    there = lt-leb b.counts.pins pin (omega arith)
-
-    pub astray : cycle_astray b cycle ≡ true → 5 ≡ asked
-    unfolding first
-    astray a = rw (there, a)
-
-    pub taken : cycle_astray b cycle ≡ false → t ≡ true → 11 ≡ asked
-    unfolding first
-    taken a k = rw (there, a, k)
-
-    pub full : (room : ℕ) → room ≡ pl → cycle_astray b cycle ≡ false → t ≡ false → room < 4 → 6 ≡ asked
-    unfolding first
-    full room r a k f = rw (there, a, k, lt-ltb pl 4 (omega arith))
-
-    pub none : (room : ℕ) → room ≡ pl → cycle_astray b cycle ≡ false → t ≡ false → 4 ≤ room → 0 ≡ asked
-    unfolding first
-    none room r a k f = rw (there, a, k, le-ltb pl 4 (omega arith))
-
--- and none of them
-pub setting-there : (b : Board) (pin cycle pl n : ℕ) (t : Bool) → n ≡ asked b pin cycle pl t → n ≡ 0 → (pin < b.counts.pins) × (4 ≤ pl)
+-- and none of them: there is room
+pub setting-room : (b : Board) (pin cycle pl n : ℕ) (t : Bool) → n ≡ asked b pin cycle pl t → n ≡ 0 → 4 ≤ pl
 unfolding first
-setting-there b pin cycle pl n t h z =
-    let q = four (leb b.counts.pins pin) (cycle_astray b cycle) t (ltb pl 4) (sym h ∙ z) in (leb-false _ _ q.0, ltb-false _ _ q.1)
+setting-room b pin cycle pl n t h z = ltb-false _ _ (four (leb b.counts.pins pin) (cycle_astray b cycle) t (ltb pl 4) (sym h ∙ z))
   where
-    four : (t u k v : Bool) → ◌≡◌ {A = ℕ} (cond t 2 (cond u 5 (cond k 11 (cond v 6 0)))) 0 → (t ≡ false) × (v ≡ false)
+    four : (t u k v : Bool) → ◌≡◌ {A = ℕ} (cond t 2 (cond u 5 (cond k 11 (cond v 6 0)))) 0 → v ≡ false
     four true u k v h = absurd (omega (arith, h))
     four false true k v h = absurd (omega (arith, h))
     four false false true v h = absurd (omega (arith, h))
     four false false false true h = absurd (omega (arith, h))
-    four false false false false h = (refl, refl)
+    four false false false false h = refl
 
 -- they are step's
 pub setting-number : (b : Board) (pin mode drain out up down function cycle pl n : ℕ) (g : PinCfg) → g ≡ cfg_of mode drain out up down
@@ -95,12 +59,6 @@ unfolding refusals
 setting-number b pin mode drain out up down function cycle pl n g e h =
     h ∙ ap (λ (y : PinCfg). asked b pin cycle pl (S.taken b.pads pin (S.selected b.pads pin y function))) e
     ∙ ap (λ (t : Bool). asked b pin cycle pl t) (sym (taken-same b pin mode drain out up down function))
-
-three : (t u v : Bool) → ◌≡◌ {A = ℕ} (cond t 2 (cond u 5 (cond v 6 0))) 0 → (t ≡ false) × (v ≡ false)
-three true u v h = absurd (omega (arith, h))
-three false true v h = absurd (omega (arith, h))
-three false false true h = absurd (omega (arith, h))
-three false false false h = (refl, refl)
 
 two : (u v : Bool) → ◌≡◌ {A = ℕ} (cond u 5 (cond v 6 0)) 0 → v ≡ false
 two true v h = absurd (omega (arith, h))
@@ -112,12 +70,10 @@ pub bit_le : (b : Bool) → cond b 1 0 ≤ 1
 bit_le true = lit≤ tt
 bit_le false = lit≤ tt
 
--- none applies: there is such a pin, and room
-pub pin-there : (b : Board) (pin cycle pl n : ℕ) → n ≡ first (no_such_index pin b.counts.pins ∷ clock_astray b cycle ∷ book_full 4 pl ∷ []) → n ≡ 0
-    → (pin < b.counts.pins) × (4 ≤ pl)
+-- none applies: there is room
+pub pin-room : (b : Board) (pin cycle pl n : ℕ) → n ≡ first (no_such_index pin b.counts.pins ∷ clock_astray b cycle ∷ book_full 4 pl ∷ []) → n ≡ 0 → 4 ≤ pl
 unfolding first
-pin-there b pin cycle pl n h z =
-    let q = three (leb b.counts.pins pin) (cycle_astray b cycle) (ltb pl 4) (sym h ∙ z) in (leb-false _ _ q.0, ltb-false _ _ q.1)
+pin-room b pin cycle pl n h z = setting-room b pin cycle pl n false h z
 
 pub reset-room : (b : Board) (cycle pl n : ℕ) → n ≡ first (refusals b (reset_pins cycle pl)) → n ≡ 0 → b.counts.pins ≤ pl
 unfolding first refusals
@@ -175,7 +131,7 @@ pin-set w w₁ w₂ x x₁ u u₁ pin mode drain out up down function n cycle r 
     pin-moved w w₁ w₂ x x₁ u u₁ (set_pin pin mode drain out up down function cycle (places u)) n cycle r
     (S.set_pin (view w x).pads pin g function) change (setting-number (view w x) pin mode drain out up down function cycle (places u) n g cfg h) z
     (ap (λ (y : PinCfg). moved (view w x) cycle (S.set_pin (view w x).pads pin y function)) (sym cfg))
-    (setting-there (view w x) pin cycle (places u) n _ h z).1 moves last e put few
+    (setting-room (view w x) pin cycle (places u) n _ h z) moves last e put few
 
 pub pin-driven : (w w₁ w₂ : List ℕ) (x x₁ : List Float) (u u₁ : Lent) (pin : ℕ) (d d₁ : ExtDrive) (n cycle : ℕ) (r : Answer) (change : Option Edge)
     → n ≡ first (no_such_index pin (view w x).counts.pins ∷ clock_astray (view w x) cycle ∷ book_full 4 (places u) ∷ []) → n ≡ 0
@@ -188,7 +144,7 @@ unfolding refusals performed
 pin-driven w w₁ w₂ x x₁ u u₁ pin d d₁ n cycle r change h z ext moves last e put few =
     pin-moved w w₁ w₂ x x₁ u u₁ (drive_pin pin d₁ cycle (places u)) n cycle r
     (S.drive_pin (view w x).pads pin d) change h z (ap (λ (y : ExtDrive). moved (view w x) cycle (S.drive_pin (view w x).pads pin y)) (sym ext))
-    (pin-there (view w x) pin cycle (places u) n h z).1 moves last e put few
+    (pin-room (view w x) pin cycle (places u) n h z) moves last e put few
 
 -- every pin reset
 pub pins-reset : (w w₁ w₂ : List ℕ) (x x₁ : List Float) (u u₁ : Lent) (n k cycle : ℕ) (r : Answer)

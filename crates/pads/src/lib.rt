@@ -11,6 +11,7 @@ ghost use Rattle.machine.specs.Call as C;
 ghost use Rattle.machine.specs.Refusals.{◌when◌, first, no_such_index, clock_astray, book_full};
 ghost use Rattle.machine.specs.Step.{step, cfg_of};
 ghost use Rattle.machine.specs.Sys as S;
+ghost use Rattle.std.specs.Result.{IfOk};
 ghost use Rattle.state.specs.Lent.{lent_board, SameLoan};
 ghost use Rattle.state.specs.View.{view};
 ghost use Rattle.pads.specs.Ext.{drive_of};
@@ -20,7 +21,7 @@ use answer::{Answer, Refusal};
 use book::LentBook;
 use gpio::{Edge, PinCfg};
 use pins::ExtDrive;
-use state::{LentBoard, WORDS};
+use state::{LentBoard, PinIndex, WORDS};
 
 // How a call sets a pin, in its numbers: all but the mode and the function are yes or no, and 0 is no.
 #[derive(Clone, Copy)]
@@ -48,14 +49,14 @@ impl PinSetting {
     }
 }
 
-// A mode above 3 acts as input.
+// A call gives it as a number, and any may come: one above 3 acts as input.
 fn mode_of(mode: u32) -> u8
     ensures { result ≡ cond (leb mode 3) mode 0 }
 {
     if mode <= 3 { mode as u8 } else { 0 }
 }
 
-// The outside drive of a number: 1 low, 2 high, 3 analogue, every other nothing.
+// A call gives the outside drive as a number, and any may come: 1 low, 2 high, 3 analogue, every other nothing.
 fn ext_of(kind: u32, volts: f64) -> ExtDrive
     ensures { result ≡ drive_of kind volts }
 {
@@ -67,20 +68,44 @@ fn ext_of(kind: u32, volts: f64) -> ExtDrive
     }
 }
 
-// What an outside drive is refused for.
+// What a pin's call is refused for after its index: the cycle, a signal that another pin routes, a book with too few places.
+fn check(
+    words: &[u64; WORDS],
+    book: &LentBook<'_>,
+    cycle: u64,
+    taken: bool,
+    need: usize,
+) -> Result<(), Refusal>
+    ensures { (x : List Float) → refusal_number result ≡ first (clock_astray (view words.now x) cycle ∷ (11 when taken) ∷ book_full need (places (slices_of book.now)) ∷ []) }
+{
+    if answer::is_astray(words, cycle) {
+        return Err(Refusal::ClockAstray);
+    }
+    if taken {
+        return Err(Refusal::SignalTaken);
+    }
+    if book.places() < need {
+        return Err(Refusal::BookFull);
+    }
+    Ok(())
+}
+
+// The pin of an outside drive, or what the drive is refused for.
 fn check_drive(
     words: &[u64; WORDS],
     book: &LentBook<'_>,
     pin: u32,
     cycle: u64,
-) -> Result<(), Refusal>
-    ensures { (x : List Float) → refusal_number result ≡ first (no_such_index pin (view words.now x).counts.pins ∷ clock_astray (view words.now x) cycle ∷ book_full 4 (places (slices_of book.now)) ∷ []) }
+) -> Result<PinIndex, Refusal>
+    ensures refusal { (x : List Float) → refusal_number result ≡ first (no_such_index pin (view words.now x).counts.pins ∷ clock_astray (view words.now x) cycle ∷ book_full 4 (places (slices_of book.now)) ∷ []) }
+    ensures index { IfOk result (λ p. p.n ≡ pin) }
 {
-    let count = state::pin_count(words);
-    answer::check(words, pin, count, 4, cycle, 4, book.places())
+    let p = state::pin(words, pin).ok_or(Refusal::NoSuchIndex)?;
+    check(words, book, cycle, false, 4)?;
+    Ok(p)
 }
 
-// What a pin setting is refused for: a signal that another pin routes comes after the cycle and before the book.
+// The pin of a setting, or what the setting is refused for: a signal that another pin routes comes after the cycle and before the book.
 fn check_setting(
     words: &[u64; WORDS],
     book: &LentBook<'_>,
@@ -88,24 +113,14 @@ fn check_setting(
     cfg: PinCfg,
     function: u32,
     cycle: u64,
-) -> Result<(), Refusal>
-    ensures { (x : List Float) → refusal_number result ≡ first (no_such_index pin (view words.now x).counts.pins ∷ clock_astray (view words.now x) cycle ∷ (11 when S.taken (view words.now x).pads pin (S.selected (view words.now x).pads pin cfg function)) ∷ book_full 4 (places (slices_of book.now)) ∷ []) }
+) -> Result<PinIndex, Refusal>
+    ensures refusal { (x : List Float) → refusal_number result ≡ first (no_such_index pin (view words.now x).counts.pins ∷ clock_astray (view words.now x) cycle ∷ (11 when S.taken (view words.now x).pads pin (S.selected (view words.now x).pads pin cfg function)) ∷ book_full 4 (places (slices_of book.now)) ∷ []) }
+    ensures index { IfOk result (λ p. p.n ≡ pin) }
 {
-    let count = state::pin_count(words);
-    if count <= pin as usize {
-        return Err(Refusal::NoSuchIndex);
-    }
-    let taken = sys::is_taken(words, pin as usize, cfg, function);
-    if answer::is_astray(words, cycle) {
-        return Err(Refusal::ClockAstray);
-    }
-    if taken {
-        return Err(Refusal::SignalTaken);
-    }
-    if book.places() < 4 {
-        return Err(Refusal::BookFull);
-    }
-    Ok(())
+    let p = state::pin(words, pin).ok_or(Refusal::NoSuchIndex)?;
+    let taken = sys::is_taken(words, p, cfg, function);
+    check(words, book, cycle, taken, 4)?;
+    Ok(p)
 }
 
 // A pin was changed by a call at a cycle: the cycle is the last, and the change is in the book.
@@ -117,7 +132,7 @@ fn changed(
 ) -> Answer
     requires { (book.old.count ≡ 0) × (Room 1 (slices_of book.old)) }
     ensures same_slices { SameSlices book.old book.new }
-    ensures x_after { (x : List Float) → view words.new x ≡ with_last (view words.old x) at }
+    ensures board { (x : List Float) → view words.new x ≡ with_last (view words.old x) at }
     ensures counted { result ≡ answer 0 0 book.new.count }
     ensures entered { filled book.new ≡ puts (filled book.old) (entry_of at change) }
     ensures at_most_one { book.new.count ≤ 1 }
@@ -143,8 +158,8 @@ pub fn set_pin(
 {
     book.count = 0;
     let cfg = setting.configuration();
-    check_setting(board.words, book, pin, cfg, setting.function, cycle)?;
-    let change = sys::set_pin(board, pin as usize, cfg, setting.function);
+    let p = check_setting(board.words, book, pin, cfg, setting.function, cycle)?;
+    let change = sys::set_pin(board, p, cfg, setting.function);
     Ok(changed(board.words, book, change, cycle))
 }
 
@@ -164,9 +179,9 @@ pub fn drive_pin(
     ensures holds { Holds (step (lent_board board.old) (C.drive_pin pin (drive_of kind volts) cycle (places (slices_of book.old)))).entries (slices_of book.old) (slices_of book.new) (told result).count }
 {
     book.count = 0;
-    check_drive(board.words, book, pin, cycle)?;
+    let p = check_drive(board.words, book, pin, cycle)?;
     let ext = ext_of(kind, volts);
-    let change = sys::drive_pin(board, pin as usize, ext);
+    let change = sys::drive_pin(board, p, ext);
     Ok(changed(board.words, book, change, cycle))
 }
 
@@ -183,7 +198,7 @@ pub fn reset_pins(
 {
     book.count = 0;
     let need = state::pin_count(board.words);
-    answer::check(board.words, 0, 1, 4, cycle, need, book.places())?;
+    check(board.words, book, cycle, false, need)?;
     sys::reset_pins(board, book, cycle);
     state::set_last(board.words, cycle);
     Ok(answer::entered(book))

@@ -32,16 +32,18 @@ impl Source {
     {
         self as u8
     }
+}
 
-    // The source of a number: of every other number nobody's.
-    pub fn of_number(n: u64) -> Source
-        ensures { result ≡ source_of n }
-    {
+// The source of a number: of every other number nobody's.
+impl From<u64> for Source {
+    ghost from_gives = { λ n source. source ≡ source_of n };
+
+    fn from(n: u64) -> Self {
         match n {
-            1 => Source::Chip,
-            2 => Source::Outside,
-            3 => Source::Pull,
-            _ => Source::Held,
+            1 => Self::Chip,
+            2 => Self::Outside,
+            3 => Self::Pull,
+            _ => Self::Held,
         }
     }
 }
@@ -80,7 +82,7 @@ pub fn supply_at(vcc: f64, level: u8) -> f64
     if level != 0 { vcc } else { 0.0 }
 }
 
-// Within 0 and the supply. Not-a-number and minus zero stay.
+// Within 0 and the supply. Not-a-number and minus zero stay. No `f64::clamp`: it wants a supply that is not below 0, and here any may come.
 fn clamp(v: f64, vcc: f64) -> f64
     ensures { result ≡ clamped v vcc }
 {
@@ -150,7 +152,8 @@ impl Pin {
         self
     }
 
-    // An input, by what the outside connects to it.
+    // An input, by what the outside connects to it. Compiled in as `resolve` is.
+    #[inline(always)]
     #[tactic(auto, unfolding(crate::specs::Pins::sensed_from))]
     fn sensed(self, vcc: f64) -> Pin
         ensures { result ≡ sensed_from self vcc self.ext }
@@ -178,7 +181,9 @@ impl Pin {
         }
     }
 
-    // The pin with its level, volts and source resolved.
+    // The pin with its level, volts and source resolved. It, gpio's functions over it and state's that load a pin are compiled into the calls of pins: called,
+    // with the pin in memory, to drive one takes twice as long.
+    #[inline(always)]
     #[tactic(auto, unfolding(crate::specs::Pins::resolved))]
     pub fn resolve(self, vcc: f64) -> Pin
         ensures { result ≡ resolved self vcc }

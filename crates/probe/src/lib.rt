@@ -13,7 +13,7 @@ ghost use Rattle.probe.specs.Probe.{Moved};
 
 use answer::Answer;
 use book::LentBook;
-use state::{LentBoard, REALS, WORDS};
+use state::{LentBoard, PinIndex, REALS, TimerIndex, WORDS};
 
 // Signal s, of 256, driven to a level.
 #[unsafe(no_mangle)]
@@ -40,7 +40,10 @@ pub extern "C" fn probe_refresh_pin(
     ensures { Moved (refresh_pin (view words.old reals.old).pads (i % 128)) (view words.old reals.old) (view words.new reals.new) result }
 {
     let mut board = LentBoard { words, reals };
-    let change = sys::refresh_pin(&mut board, (i % 128) as usize);
+    let p = PinIndex {
+        n: (i % 128) as usize,
+    };
+    let change = sys::refresh_pin(&mut board, p);
     change.is_some() as u8
 }
 
@@ -49,7 +52,9 @@ pub extern "C" fn probe_refresh_pin(
 pub extern "C" fn probe_timer(words: &mut [u64; WORDS], i: u32)
     ensures { (x : List Float) → view words.new x ≡ with_timer (view words.old x) (i % 8) (timer_at (view words.old x) (i % 8)) }
 {
-    let k = (i % 8) as usize;
+    let k = TimerIndex {
+        n: (i % 8) as usize,
+    };
     let t = state::load_timer(words, k);
     state::store_timer(words, k, t);
 }

@@ -10,14 +10,15 @@ ghost use Rattle.state.specs.View.{view};
 ghost use Rattle.machine.specs.Board.{timer_at, with_timer};
 ghost use Rattle.regfile.specs.Course.{same_course};
 
-use state::WORDS;
+use fields::Reg;
+use state::{TimerIndex, WORDS};
 
 // ---- compares
 
 // Timer i's reference moved to its last step at or before a cycle. A stopped timer keeps its own.
-pub fn sync(words: &mut [u64; WORDS], i: usize, cycle: u64)
-    requires { (i < 8) × (cycle < 9223372036854775808) }
-    ensures { (x : List Float) → view words.new x ≡ with_timer (view words.old x) i (synced (timer_at (view words.old x) i) cycle) }
+pub fn sync(words: &mut [u64; WORDS], i: TimerIndex, cycle: u64)
+    requires { cycle < 9223372036854775808 }
+    ensures { (x : List Float) → view words.new x ≡ with_timer (view words.old x) i.n (synced (timer_at (view words.old x) i.n) cycle) }
 {
     let t = state::load_timer(words, i);
     if t.count.running {
@@ -27,9 +28,9 @@ pub fn sync(words: &mut [u64; WORDS], i: usize, cycle: u64)
 }
 
 // Channel ch is done if its compare ccr lies behind the counter.
-fn settle_done(words: &mut [u64; WORDS], i: usize, ch: usize, ccr: u32)
-    requires { (i < 8) × (ch < 4) }
-    ensures { (x : List Float) → view words.new x ≡ with_timer (view words.old x) i (with_done (timer_at (view words.old x) i) (set (timer_at (view words.old x) i).chan.cc_done ch (behind_of (timer_at (view words.old x) i) ccr))) }
+fn settle_done(words: &mut [u64; WORDS], i: TimerIndex, ch: usize, ccr: u32)
+    requires { ch < 4 }
+    ensures { (x : List Float) → view words.new x ≡ with_timer (view words.old x) i.n (with_done (timer_at (view words.old x) i.n) (set (timer_at (view words.old x) i.n).chan.cc_done ch (behind_of (timer_at (view words.old x) i.n) ccr))) }
 {
     let t = state::load_timer(words, i);
     let done = t.is_past(ccr);
@@ -37,10 +38,10 @@ fn settle_done(words: &mut [u64; WORDS], i: usize, ch: usize, ccr: u32)
 }
 
 // A write of CCR1 to CCR4, and whether it acts at once: the outputs are then to be driven.
-pub fn write_ccr(words: &mut [u64; WORDS], i: usize, ch: usize, v: u32, cycle: u64) -> bool
-    requires { (i < 8) × (ch < 4) × (cycle < 9223372036854775808) }
-    ensures x_after { (x : List Float) → view words.new x ≡ with_timer (view words.old x) i (R.ccr_written (timer_at (view words.old x) i) ch v cycle).timer }
-    ensures value { (x : List Float) → result ≡ is_some (R.ccr_written (timer_at (view words.old x) i) ch v cycle).drive }
+pub fn write_ccr(words: &mut [u64; WORDS], i: TimerIndex, ch: usize, v: u32, cycle: u64) -> bool
+    requires { (ch < 4) × (cycle < 9223372036854775808) }
+    ensures board { (x : List Float) → view words.new x ≡ with_timer (view words.old x) i.n (R.ccr_written (timer_at (view words.old x) i.n) ch v cycle).timer }
+    ensures acts { (x : List Float) → result ≡ is_some (R.ccr_written (timer_at (view words.old x) i.n) ch v cycle).drive }
 {
     let t = state::load_timer(words, i);
     let ccr = v & t.max();
@@ -65,19 +66,19 @@ fn stays(old: u32, new: u32) -> bool
 }
 
 // CR1 of a timer that the write neither starts, stops nor turns: CR1 and the reference are stored.
-fn write_steady(words: &mut [u64; WORDS], i: usize, new: u32, cycle: u64)
-    requires { (i < 8) × (cycle < 9223372036854775808) }
-    ensures { (x : List Float) → view words.new x ≡ with_timer (view words.old x) i (with_cr1 (synced (timer_at (view words.old x) i) cycle) new) }
+fn write_steady(words: &mut [u64; WORDS], i: TimerIndex, new: u32, cycle: u64)
+    requires { cycle < 9223372036854775808 }
+    ensures { (x : List Float) → view words.new x ≡ with_timer (view words.old x) i.n (with_cr1 (synced (timer_at (view words.old x) i.n) cycle) new) }
 {
     sync(words, i, cycle);
-    fields::set_reg(words, i, 0, new);
+    fields::set_reg(words, i, Reg::Cr1, new);
 }
 
 // A write of CR1 that leaves CEN and DIR. Any other is not done: false.
-pub fn write_cr1(words: &mut [u64; WORDS], i: usize, v: u32, cycle: u64) -> bool
-    requires { (i < 8) × (cycle < 9223372036854775808) }
-    ensures div_value { result ≡ true → (x : List Float) (div : ℕ) → R.astray (R.cr1_written (timer_at (view words.old x) i) v cycle div) ≡ false }
-    ensures x_after { result ≡ true → (x : List Float) (div : ℕ) → view words.new x ≡ with_timer (view words.old x) i (R.cr1_written (timer_at (view words.old x) i) v cycle div) }
+pub fn write_cr1(words: &mut [u64; WORDS], i: TimerIndex, v: u32, cycle: u64) -> bool
+    requires { cycle < 9223372036854775808 }
+    ensures counts_on { result ≡ true → (x : List Float) (div : ℕ) → R.astray (R.cr1_written (timer_at (view words.old x) i.n) v cycle div) ≡ false }
+    ensures board { result ≡ true → (x : List Float) (div : ℕ) → view words.new x ≡ with_timer (view words.old x) i.n (R.cr1_written (timer_at (view words.old x) i.n) v cycle div) }
     ensures words_unchanged { result ≡ false → words.new ≡ words.old }
 {
     let t = state::load_timer(words, i);

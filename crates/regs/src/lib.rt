@@ -1,4 +1,5 @@
-// The registers of a timer by value: the Rust's read_reg and write_reg of periph/tim.rs, over crate tim's timer.
+// The registers of a timer by value: the Rust's read_reg and write_reg of periph/tim.rs, over crate tim's timer. A register is a number, its offset, to
+// C and in the manual. `Ready`, or `Fit` and a bound of the cycle, stands in the contracts: a timer's type has no bounds (crate tim says why).
 #![tactic(auto)]
 
 ghost use Rattle.std.specs.Prelude.{◌≡◌, ℕ, ◌<◌};
@@ -165,7 +166,7 @@ fn write_arr(timer: Timer, v: u32, now: u64) -> Written
     }
 }
 
-// An immediate compare settles its own channel.
+// An immediate compare settles its own channel. A function and no store in place: the counter is read of the timer before it.
 fn settle(mut timer: Timer, ch: usize) -> Timer
     requires { ch < 4 }
     ensures { result ≡ R.settled_channel timer ch }

@@ -5,13 +5,11 @@ ghost use Rattle.std.specs.Prelude.{◌<◌, ◌≤◌};
 
 use book::LentBook;
 use line::Reader;
-use reply::{Book, Failure, Output};
+use reply::{Book, Failure, Output, Stop, Taker};
 use settings::Read as Record;
 use state::{LentBoard, REALS, WORDS};
-use std::io;
-use std::io::Read;
 use std::process::ExitCode;
-use text::{Command, Reason};
+use text::Command;
 
 // 100,001 events make at most four entries each: a longer book never matters.
 const PLACES: usize = 400004;
@@ -20,9 +18,6 @@ const PLACES: usize = 400004;
 const WRITTEN: usize = 15;
 
 const BYTES: usize = 65537;
-
-// How much of the list is read at once.
-const PART: usize = 65536;
 
 // A number of places, up to so many.
 fn at_most(asked: u64, most: usize) -> usize
@@ -100,15 +95,20 @@ impl<'a, R: Print> Session<'a, R> {
         self.output.answer(&answer, book, ran.entries)
     }
 
+    // An answer by its number, which C is given too and where 0 is a call that was served: only then there are numbers behind it.
+    fn tell(&mut self, number: u32, numbers: &[u64]) -> Result<(), Failure> {
+        let answer = [u64::from(number), 0, 0];
+        match number {
+            0 => self.output.numbers(&answer, numbers),
+            _ => self.output.plain(&answer),
+        }
+    }
+
     // The setting at place K of the pilots up to N.
     fn pilot(&mut self, n: u32, k: u32) -> Result<(), Failure> {
         let p = small::pilot(n, k);
-        let answer = [u64::from(p.number), 0, 0];
-        if p.number != 0 {
-            return self.output.plain(&answer);
-        }
         let setting = [p.reload, p.prescaler, p.compare, p.mode, p.down].map(u64::from);
-        self.output.numbers(&answer, &setting)
+        self.tell(p.number, &setting)
     }
 
     // The writer of records, lent as many of the line's places as a record can need.
@@ -127,12 +127,10 @@ impl<'a, R: Print> Session<'a, R> {
             wide(call, 7),
         );
         let answer = [u64::from(stored.number), 0, u64::from(stored.count)];
-        if stored.number != 0 {
-            return self.output.plain(&answer);
-        }
-        match places.get(..stored.count as usize) {
-            Some(bytes) => self.output.bytes(&answer, bytes),
-            None => Ok(()),
+        match (stored.number, places.get(..stored.count as usize)) {
+            (0, Some(bytes)) => self.output.bytes(&answer, bytes),
+            (0, None) => Ok(()),
+            _ => self.output.plain(&answer),
         }
     }
 
@@ -146,15 +144,11 @@ impl<'a, R: Print> Session<'a, R> {
         }
         let n = call.len().saturating_sub(1).min(BYTES);
         let record = read(&bytes[..n]);
-        let answer = [u64::from(record.number), 0, 0];
-        if record.number != 0 {
-            return self.output.plain(&answer);
-        }
         let t = record.timer;
         let timer = [
             t.number, t.width, t.channels, t.bus, t.word, t.bit, t.irq, t.manual,
         ];
-        self.output.numbers(&answer, &timer.map(u64::from))
+        self.tell(record.number, &timer.map(u64::from))
     }
 
     // A line is complete: its call is answered.
@@ -186,28 +180,20 @@ impl<'a, R: Print> Session<'a, R> {
             _ => self.run(list.words(), 0),
         }
     }
+}
 
-    // Takes the bytes of a part of the list.
-    fn pass(&mut self, list: &mut Reader, part: &[u8]) -> Result<(), Stop> {
-        for b in part {
-            if let Some(command) = list.feed(*b)? {
-                self.call(list, command)?;
-            }
+impl<R: Print> Taker for Session<'_, R> {
+    type Lines = Reader;
+
+    fn feed(&mut self, list: &mut Reader, b: u8) -> Result<(), Stop> {
+        if let Some(command) = list.feed(b)? {
+            self.call(list, command)?;
         }
         Ok(())
     }
 
-    // Takes the list, to its end or to the first line that is no call. A proved loop has to end, and nothing says that a list does: so it has more turns
-    // than any run uses up. The line that the list ends in is perhaps an empty one.
-    fn take(&mut self, list: &mut Reader, input: &mut impl Read) -> Result<(), Stop> {
-        let mut part = [0; PART];
-        for _ in 0..u64::MAX {
-            let n = input.read(&mut part)?;
-            if n == 0 {
-                break;
-            }
-            self.pass(list, &part[..n])?;
-        }
+    // The line that the list ends in is perhaps an empty one.
+    fn end(&mut self, list: &mut Reader) -> Result<(), Stop> {
         if let Some(command) = list.end()? {
             self.call(list, command)?;
         }
@@ -215,39 +201,6 @@ impl<'a, R: Print> Session<'a, R> {
     }
 }
 
-// Why a run ends before its list: a line is no call, the list cannot be read, or an answer not be written.
-#[derive(Drop)]
-enum Stop {
-    Malformed(Reason),
-    Read,
-    Write(Failure),
-}
-
-impl From<Reason> for Stop {
-    fn from(reason: Reason) -> Stop {
-        Stop::Malformed(reason)
-    }
-}
-
-impl From<io::Error> for Stop {
-    fn from(_: io::Error) -> Stop {
-        Stop::Read
-    }
-}
-
-impl From<Failure> for Stop {
-    fn from(failure: Failure) -> Stop {
-        Stop::Write(failure)
-    }
-}
-
-// Tells something on standard error, if that can be written.
-fn tell(rt: &impl Eprint, text: &str) {
-    let _ = rt.eprint(text);
-}
-
-// What could not be read or written is told on standard error, and the exit status is 0 all the same. Where nobody reads any more nothing is told,
-// and the status is what a shell gives for a program that SIGPIPE ends.
 fn main(rt: HostRuntime) -> ExitCode {
     let mut words = [0; WORDS];
     let mut reals = [0.0; REALS];
@@ -266,19 +219,11 @@ fn main(rt: HostRuntime) -> ExitCode {
         sources: &mut [0; PLACES],
         output: Output::new(&rt),
     };
-    let taken = match session.take(&mut list, &mut rt.stdin()) {
-        Err(Stop::Malformed(reason)) => session.output.malformed(list.line(), reason),
-        Err(Stop::Write(failure)) => Err(failure),
-        Err(Stop::Read) => {
-            tell(&rt, "replay: a read failed: the list ends before its end\n");
-            Ok(())
-        }
-        Ok(()) => Ok(()),
-    };
-    match taken.and_then(|()| session.output.flush()) {
-        Ok(()) => {}
-        Err(Failure::Lost) => tell(&rt, "replay: a write failed: answers are missing\n"),
-        Err(Failure::Unread) => return ExitCode::from(141),
-    }
-    ExitCode::SUCCESS
+    let taken = session.take(&mut list, &mut rt.stdin());
+    session.output.finish(
+        taken,
+        list.line(),
+        "replay: a read failed: the list ends before its end\n",
+        "replay: a write failed: answers are missing\n",
+    )
 }

@@ -1,14 +1,18 @@
-// An answer as text, by way of a buffer that is written out when it is nearly full.
+// An answer as text, by way of a buffer that is written out when it is nearly full; and what programs share: how an input is taken, and how a run ends.
 #![tactic(auto)]
 
 ghost use Rattle.std.specs.Prelude.{◌≡◌, ◌+◌, ◌<◌, ◌≤◌, ◌++◌, ◌∷◌, [], take, IsErr, OnOk};
 ghost use Rattle.text.specs.Digits.{places_of, digits_of};
 
 use std::io;
-use std::io::{ErrorKind, Print};
+use std::io::{Eprint, ErrorKind, Print, Read};
+use std::process::ExitCode;
 use text::Reason;
 
 pub const OUT: usize = 65536;
+
+// How much of an input is read at once.
+const PART: usize = 65536;
 
 // More than any piece that is put into the buffer at once.
 const PIECE: usize = 64;
@@ -32,14 +36,56 @@ impl From<io::Error> for Failure {
     }
 }
 
-// The reason that has a number.
-fn numbered(reason: u8) -> Reason {
-    match reason {
-        2 => Reason::UnknownWord,
-        3 => Reason::MissingNumber,
-        4 => Reason::SurplusNumber,
-        5 => Reason::NotANumber,
-        _ => Reason::TooLarge,
+// Why a run ends before its input: a line is malformed, the input cannot be read, or the output not be written.
+#[derive(Clone, Copy, Debug, PartialEq, Eq, Drop)]
+pub enum Stop {
+    Malformed(Reason),
+    Read,
+    Write(Failure),
+}
+
+impl From<Reason> for Stop {
+    fn from(reason: Reason) -> Stop {
+        Stop::Malformed(reason)
+    }
+}
+
+impl From<io::Error> for Stop {
+    fn from(_: io::Error) -> Stop {
+        Stop::Read
+    }
+}
+
+impl From<Failure> for Stop {
+    fn from(failure: Failure) -> Stop {
+        Stop::Write(failure)
+    }
+}
+
+// What an input is given to, by its lines.
+pub trait Taker {
+    type Lines;
+
+    // The next byte.
+    fn feed(&mut self, lines: &mut Self::Lines, b: u8) -> Result<(), Stop>;
+
+    // The input has ended, perhaps in the middle of a line.
+    fn end(&mut self, lines: &mut Self::Lines) -> Result<(), Stop>;
+
+    // Takes an input, to its end or to what stops the run. A proved loop has to end, and nothing says that an input does: so it has more turns than any run
+    // uses up.
+    fn take(&mut self, lines: &mut Self::Lines, input: &mut impl Read) -> Result<(), Stop> {
+        let mut part = [0; PART];
+        for _ in 0..u64::MAX {
+            let n = input.read(&mut part)?;
+            if n == 0 {
+                break;
+            }
+            for b in &part[..n] {
+                self.feed(lines, *b)?;
+            }
+        }
+        self.end(lines)
     }
 }
 
@@ -285,12 +331,48 @@ impl<'a, R: Print> Output<'a, R> {
         self.words(reason.words())?;
         self.line_end()
     }
+}
 
-    // The same by the reason's number; one that no reason has tells a number that is too large.
-    pub fn malformed_numbered(&mut self, line: u64, reason: u8) -> Result<(), Failure>
-        ensures told { result ≡ self.new.written }
-        ensures stays { IsErr self.old.written → self.new.written ≡ self.old.written }
+impl<R: Print + Eprint> Output<'_, R> {
+    // Tells something on standard error, if that can be written.
+    fn tell(&self, text: &str) {
+        let _ = self.rt.eprint(text);
+    }
+
+    // Ends the output of a run that has got to a line. A read that failed is told.
+    fn complete(
+        &mut self,
+        run: Result<(), Stop>,
+        line: u64,
+        read_failed: &str,
+    ) -> Result<(), Failure>
+        ensures { IsErr self.old.written → self.new.written ≡ self.old.written }
     {
-        self.malformed(line, numbered(reason))
+        match run {
+            Ok(()) => {}
+            Err(Stop::Malformed(reason)) => self.malformed(line, reason)?,
+            Err(Stop::Read) => self.tell(read_failed),
+            Err(Stop::Write(failure)) => return Err(failure),
+        }
+        self.flush()
+    }
+
+    // Ends a run. What could not be read or written is told, and the exit status is 0 all the same. Where nobody reads any more nothing is told, and the
+    // status is what a shell gives for a program that SIGPIPE ends.
+    pub fn finish(
+        &mut self,
+        run: Result<(), Stop>,
+        line: u64,
+        read_failed: &str,
+        write_failed: &str,
+    ) -> ExitCode
+        ensures { IsErr self.old.written → self.new.written ≡ self.old.written }
+    {
+        match self.complete(run, line, read_failed) {
+            Ok(()) => {}
+            Err(Failure::Lost) => self.tell(write_failed),
+            Err(Failure::Unread) => return ExitCode::from(141),
+        }
+        ExitCode::SUCCESS
     }
 }

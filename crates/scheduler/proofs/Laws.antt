@@ -1,14 +1,14 @@
 -- Laws of booked events.
-use mathlib.Core.Path.{◌≡◌, refl}
+use mathlib.Core.Path.{◌≡◌, refl, ◌∙◌}
 use mathlib.Core.Logic.{◌⊎◌, inl, inr, ◌≢◌}
 use mathlib.Core.Bool.{Bool, true, false}
 use mathlib.Core.List.{List, [], ◌∷◌}
-use Prim.Native.Nat.{ℕ, zero, suc, min, ◌+◌, ◌≤◌, ◌<◌}
+use Prim.Native.Nat.{ℕ, zero, suc, min, ◌≤◌, ◌<◌}
 use native.Mathlib.Omega.{arith}
 use lib.Dec.{leb}
-use lib.ListN.{length, get_or, drop}
-use Rattle.std.proofs.Common.{add-one}
-use lib.Seq.{drop-cons, get_or-set_same, get_or-set_other}
+use lib.ListN.{length}
+use Rattle.std.specs.List.{fold}
+use lib.Seq.{get_or-set_same, get_or-set_other}
 use borrow.Author.Tests.{leb-true, leb-false}
 use Rattle.scheduler.specs.Booking.{never, cycle_of, rebook, least}
 
@@ -18,10 +18,14 @@ unfolding least
 least-most [] = omega arith
 least-most (c ∷ m) = omega (arith, least-most m)
 
--- one owner more: the least so far, and the least of those that are left
-pub least-more : (m : List ℕ) (i low : ℕ) → i < length m → min (min low (get_or m i 0)) (least (drop (i + 1) m)) ≡ min low (least (drop i m))
+-- the least so far, taken through the rest
+lesser-of : (m : List ℕ) (low : ℕ) → low ≤ never → fold min low m ≡ min low (least m)
 unfolding least
-least-more m i low h = rw (drop-cons m i 0, add-one) (omega arith)
+lesser-of [] low h = omega arith
+lesser-of (c ∷ m) low h = lesser-of m (min low c) (omega arith) ∙ omega arith
+
+pub least-folded : (m : List ℕ) → fold min never m ≡ least m
+least-folded m = lesser-of m never (omega arith) ∙ omega (arith, least-most m)
 
 -- the least cycle is at most each owner's
 pub least-le : (m : List ℕ) (owner : ℕ) → owner < length m → least m ≤ cycle_of m owner

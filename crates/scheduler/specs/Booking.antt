@@ -15,6 +15,11 @@ never = 18446744073709551615
 abbrev pub empty : List ℕ
 empty = replicate 8 never
 
+-- "its least cycle, 2^64 − 1 if empty"
+unfoldable pub least : List ℕ → ℕ
+least [] = never
+least (c ∷ m) = min c (least m)
+
 -- the cycle that owner is booked at, 2^64 − 1 if none
 abbrev pub cycle_of : List ℕ → ℕ → ℕ
 cycle_of m owner = get_or m owner never
@@ -26,8 +31,3 @@ rebook m owner cycle = set m owner cycle
 -- owner's booking cancelled
 abbrev pub cancel : List ℕ → ℕ → List ℕ
 cancel m owner = set m owner never
-
--- "its least cycle, 2^64 − 1 if empty"
-unfoldable pub least : List ℕ → ℕ
-least [] = never
-least (c ∷ m) = min c (least m)

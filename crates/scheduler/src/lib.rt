@@ -1,5 +1,4 @@
-// Booked events (scheduler.rs): for each owner the cycle of its event. A core by value, and over it the Rust's methods behind a
-// reference, each thin.
+// Booked events (scheduler.rs): for each owner the cycle of its event, and the Rust's methods.
 #![tactic(auto)]
 
 ghost use Rattle.std.specs.Prelude.{◌≡◌, ◌<◌};
@@ -14,6 +13,7 @@ pub struct Scheduler {
     pub cycles: [u64; 8],
 }
 
+// That an owner is below 8 stands in each contract: it is the length of the array that it indexes, and callers have it as a plain number.
 impl Scheduler {
     // No owner has a booking.
     pub fn new() -> Scheduler
@@ -22,56 +22,19 @@ impl Scheduler {
         Scheduler { cycles: [NEVER; 8] }
     }
 
-    // Books or rebooks `owner` at `cycle` (the source's `at`).
-    pub fn booked(self, owner: usize, cycle: u64) -> Scheduler
-        requires { owner < 8 }
-        ensures { result ≡ holding (rebook self.cycles owner cycle) }
-    {
-        let mut cycles = self.cycles;
-        cycles[owner] = cycle;
-        Scheduler { cycles }
-    }
-
-    // Cancels the booking of `owner`.
-    pub fn cancelled(self, owner: usize) -> Scheduler
-        requires { owner < 8 }
-        ensures { result ≡ holding (cancel self.cycles owner) }
-    {
-        self.booked(owner, NEVER)
-    }
-
-    // The cycle that `owner` is booked at, or NEVER (the source's `is_scheduled`).
-    pub fn when(self, owner: usize) -> u64
-        requires { owner < 8 }
-        ensures { result ≡ cycle_of self.cycles owner }
-    {
-        self.cycles[owner]
-    }
-
-    // The least booked cycle, or NEVER: computed at each call.
-    pub fn least(self) -> u64
-        ensures { result ≡ least self.cycles }
-    {
-        let mut low = NEVER;
-        for cycle in self.cycles {
-            low = low.min(cycle);
-        }
-        low
-    }
-
     // Schedules (or re-schedules) `owner` at `cycle`.
     pub fn at(&mut self, owner: usize, cycle: u64)
         requires { owner < 8 }
-        ensures { self.new ≡ holding (rebook self.old.cycles owner cycle) }
+        ensures scheduled { self.new ≡ holding (rebook self.old.cycles owner cycle) }
     {
-        *self = self.booked(owner, cycle);
+        self.cycles[owner] = cycle;
     }
 
     pub fn cancel(&mut self, owner: usize)
         requires { owner < 8 }
         ensures { self.new ≡ holding (cancel self.old.cycles owner) }
     {
-        *self = self.cancelled(owner);
+        self.at(owner, NEVER);
     }
 
     // Books or rebooks `owner` at `cycle`, or cancels its booking by NEVER. Every booking of the board goes through here.
@@ -91,14 +54,14 @@ impl Scheduler {
         requires { owner < 8 }
         ensures { result ≡ cycle_of self.now.cycles owner }
     {
-        self.when(owner)
+        self.cycles[owner]
     }
 
-    // The Rust's field `next`.
+    // The Rust's field `next`: the least booked cycle, or NEVER, computed at each call.
     pub fn next(&self) -> u64
         ensures { result ≡ least self.now.cycles }
     {
-        self.least()
+        self.cycles.iter().fold(NEVER, |low, cycle| low.min(*cycle))
     }
 }
 

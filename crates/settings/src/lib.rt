@@ -19,7 +19,7 @@ pub struct Settings {
     pub manual: u32,
 }
 
-// A writer's answer: the number, and how many bytes were written.
+// A writer's answer: the number, and how many bytes were written. No Result, here and in `Read`: C is handed them.
 #[repr(C)]
 #[derive(Clone, Copy, Default)]
 pub struct Stored {
@@ -36,26 +36,20 @@ pub struct Read {
     pub timer: Settings,
 }
 
-// Why no record is written or read.
+// Why no record is written or read, with the number that C is given.
 #[derive(Clone, Copy)]
 enum Refusal {
-    BadSettings,
-    CutShort,
-    StrangeKind,
-    WrongLength,
+    BadSettings = 1,
+    CutShort = 13,
+    StrangeKind = 14,
+    WrongLength = 15,
 }
 
 impl Refusal {
-    // The number that C is given.
     fn number(self) -> u32
         ensures { result ≡ number_of self }
     {
-        match self {
-            Refusal::BadSettings => 1,
-            Refusal::CutShort => 13,
-            Refusal::StrangeKind => 14,
-            Refusal::WrongLength => 15,
-        }
+        self as u32
     }
 }
 
@@ -81,7 +75,7 @@ impl From<Refusal> for Read {
     }
 }
 
-// Settings that may be too large for a record; any mode but 0 is manual.
+// Settings that may be too large for a record; any mode but 0 is manual. Numbers, since C gives them.
 #[derive(Clone, Copy)]
 struct Given {
     number: u64,
@@ -120,6 +114,7 @@ fn within(most: u64, x: u64) -> bool
 
 impl Given {
     // What a record can hold.
+    #[tactic(auto, unfolding(crate::specs::Record::good))]
     fn is_good(self) -> bool
         ensures { result ≡ good (inst_of self) }
     {

@@ -1,5 +1,5 @@
-// Set-up over the lent state, from numbers: seven of each timer (number, width, channels, bus, enable word, enable bit, interrupt), the mask of those in
-// manual mode, and the signal table.
+// Set-up over the lent state, from numbers, which C gives: seven of each timer (number, width, channels, bus, enable word, enable bit, interrupt), the mask
+// of those in manual mode, and the signal table.
 #![tactic(auto)]
 
 ghost use Rattle.std.specs.Prelude.{◌≡◌, true, List, ◌-◌, ◌<◌, ◌≤◌, Float, length};
@@ -14,7 +14,7 @@ ghost use Rattle.setup.specs.Given.{setup_given};
 ghost use Rattle.setup.specs.Setup.{count_of, inst_given, insts_from, insts_of, sizes_good, timers_of, with_timers, with_table};
 
 use answer::{Answer, Refusal};
-use state::{LentBoard, WORDS};
+use state::{LentBoard, TimerIndex, WORDS};
 use tim::{Inst, Timer};
 
 // What a set-up is asked for: the core clock and the supply, how many pins and interrupt lines, the mask of the timers in manual mode, seven numbers of
@@ -90,7 +90,7 @@ impl SetUp<'_> {
         }
     }
 
-    // Number n is none of the timers' from `from` on.
+    // Number n is none of the timers' from `from` on. A loop, here and below: the laws go from one timer to the next.
     fn is_fresh(self, n: u32, from: usize) -> bool
         requires { (from ≤ count_of self.timers.now) × (count_of self.timers.now ≤ 8) }
         ensures { result ≡ S.fresh n (insts_from self.entry.manual self.entry.timers.now (count_of self.entry.timers.now - from) from) }
@@ -128,7 +128,7 @@ impl SetUp<'_> {
         (1..=8).contains(&self.timer_count()) && (1..=128).contains(&self.pins) && self.lines <= 256
     }
 
-    // The sizes and limits; the frequency is not among them.
+    // The sizes and limits; the frequency is not among them. No chain of `&&`: tried, and what is known of one limit at the next is lost behind it.
     fn within_limits(self) -> bool
         ensures { result ≡ S.within_limits (setup_given self.entry) }
     {
@@ -154,7 +154,8 @@ impl SetUp<'_> {
         let n = self.timer_count();
         for i in 0..n {
             let t = Timer::new(self.inst_at(i));
-            state::store_timer(words, i, t);
+            let index = TimerIndex { n: i };
+            state::store_timer(words, index, t);
         }
     }
 

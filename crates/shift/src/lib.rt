@@ -8,7 +8,7 @@ ghost use Rattle.shift.specs.Shift.{piece, sourceless, Shift, shift, level_bit, 
 ghost use Rattle.shift.specs.Kept.{counts, rest, turned_high, more_edges, took, track_at, put_track, fresh_track, Fresh, from_of, to_of, number_kept, number_given, strays, entered, fed, put_figures, Written, high_tracks, Ended, Stands};
 ghost use Rattle.shift.specs.Refused.{number_with};
 
-// The kept words: four a pin, from, to, the number.
+// The kept words: four a pin, from, to, the number. C lends them, in which no struct can stand.
 const FROM: usize = 512;
 
 const TO: usize = 513;
@@ -28,7 +28,7 @@ pub struct Track {
     pub edges: u64,
 }
 
-// The number, 0, 9 or 10, and how many pins are high at the end of the shift.
+// The number, 0, 9 or 10, and how many pins are high at the end of the shift. No Result: C is handed it.
 #[repr(C)]
 #[derive(Clone, Copy)]
 pub struct Summary {
@@ -39,18 +39,15 @@ pub struct Summary {
 // Why nothing is reported. The kept words and the summary hold its number.
 #[derive(Clone, Copy)]
 enum Refusal {
-    Reversed,
-    OutOfOrder,
+    Reversed = 9,
+    OutOfOrder = 10,
 }
 
 impl Refusal {
     fn number(self) -> u32
         ensures { result ≡ number_with self }
     {
-        match self {
-            Refusal::Reversed => 9,
-            Refusal::OutOfOrder => 10,
-        }
+        self as u32
     }
 }
 
@@ -97,11 +94,7 @@ impl Span {
     fn more(self, edges: u64, cycle: u64) -> u64
         ensures { result ≡ more_edges edges self.from cycle }
     {
-        if self.from < cycle {
-            edges.wrapping_add(1)
-        } else {
-            edges
-        }
+        edges.wrapping_add(u64::from(self.from < cycle))
     }
 
     // A pin before its first entry: at one level to the end.
@@ -149,7 +142,7 @@ fn turned(high: u64, rest: u64, level: u64) -> u64
     }
 }
 
-// ---- the kept words
+// ---- the kept words. A pin is below 128 wherever it is a place in them; a book's bytes may say any, which `placed` tests.
 
 // Field by field, here and in `store`: the names say which word is which.
 fn load(kept: &[u64; KEPT], pin: usize) -> Track
@@ -223,7 +216,7 @@ fn level_of(words: &[u32; 4], pin: usize) -> u64
     ensures { result ≡ level_bit words.now pin }
 {
     let k = pin / 32;
-    ((words[k] >> (pin % 32)) % 2) as u64
+    u64::from((words[k] >> (pin % 32)) % 2)
 }
 
 fn begin_pins(kept: &mut [u64; KEPT], words: &[u32; 4], span: Span)

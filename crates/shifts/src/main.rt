@@ -2,19 +2,14 @@
 // `replay` writes them: an answer's three numbers before its entries are passed over. Each entry is fed by itself, so memory stays constant.
 #![tactic(auto)]
 
-use reply::{Failure, Output};
+use reply::{Output, Stop, Taker};
 use shift::{FIGURES, KEPT};
-use std::io;
-use std::io::Read;
 use std::process::ExitCode;
-use text::{Reading, Reason};
-
-// How much of the input is read at once.
-const BYTES: usize = 65536;
+use text::{Lines, Piece, Reading, Reason};
 
 // The number of 32 bits that a word is.
 fn short(reading: Reading) -> Result<u32, Reason> {
-    u32::try_from(reading.told()?).map_err(|_| Reason::TooLarge)
+    text::short(reading.told()?)
 }
 
 // A pin or a level as a byte: one that a byte does not hold is as wrong as 255.
@@ -180,13 +175,9 @@ enum Phase {
     Entries(Answer),
 }
 
-// How far the input has been taken, and what the report needs of it.
+// The word and the line that are being read, and what the report needs of the entries.
 #[derive(Drop)]
 struct Shift {
-    line: u64,
-    comment: bool,
-    // A carriage return belongs to the line's end, or else to a word.
-    carriage_return: bool,
     word: Option<Word>,
     phase: Phase,
     kept: [u64; KEPT],
@@ -195,9 +186,6 @@ struct Shift {
 impl Shift {
     fn new() -> Shift {
         Shift {
-            line: 1,
-            comment: false,
-            carriage_return: false,
             word: None,
             phase: Phase::First(First::default()),
             kept: [0; KEPT],
@@ -241,8 +229,6 @@ impl Shift {
 
     // The line ends, or the input.
     fn line_end(&mut self) -> Result<(), Reason> {
-        self.comment = false;
-        self.carriage_return = false;
         self.word_end()?;
         match self.phase {
             Phase::First(first) => {
@@ -257,65 +243,8 @@ impl Shift {
         Ok(())
     }
 
-    // The next byte of the input.
-    fn feed(&mut self, b: u8) -> Result<(), Reason> {
-        if b == b'\n' {
-            self.line_end()?;
-            self.line = self.line.saturating_add(1);
-            return Ok(());
-        }
-        if self.comment {
-            return Ok(());
-        }
-        if self.carriage_return {
-            self.carriage_return = false;
-            self.letter(b'\r')?;
-        }
-        match b {
-            b'\r' => self.carriage_return = true,
-            b'#' => {
-                self.comment = true;
-                self.word_end()?;
-            }
-            _ if text::is_space(b) => self.word_end()?,
-            _ => self.letter(b)?,
-        }
-        Ok(())
-    }
-
-    // The input has ended, perhaps in the middle of a line.
-    fn end(&mut self) -> Result<(), Reason> {
-        self.line_end()?;
-        match self.phase {
-            Phase::First(_) => Err(Reason::MissingNumber),
-            Phase::Entries(_) => Ok(()),
-        }
-    }
-
-    fn pass(&mut self, part: &[u8]) -> Result<(), Reason> {
-        for b in part {
-            self.feed(*b)?;
-        }
-        Ok(())
-    }
-
-    // Takes the input, to its end or to the first byte that is wrong. A proved loop has to end, and nothing says that the input does:
-    // so it has more turns than any run uses up.
-    fn take(&mut self, input: &mut impl Read) -> io::Result<Result<(), Reason>> {
-        let mut part = [0; BYTES];
-        for _ in 0..u64::MAX {
-            let n = input.read(&mut part)?;
-            if n == 0 {
-                break;
-            }
-            if let Err(reason) = self.pass(&part[..n]) {
-                return Ok(Err(reason));
-            }
-        }
-        Ok(self.end())
-    }
-
-    // `NUMBER HIGH`, and where NUMBER is 0 a line `PIN HIGH LOW EDGES` for each pin: 128 lines of at most 67 bytes, which the buffer holds.
+    // `NUMBER HIGH`, and where NUMBER, which is C's too, is 0 a line `PIN HIGH LOW EDGES` for each pin: 128 lines of at most 67 bytes, which the buffer
+    // holds.
     fn report<R: Print>(&self, output: &mut Output<'_, R>) {
         let mut figures = [0; FIGURES];
         let summary = shift::shift_end(&self.kept, &mut figures);
@@ -337,52 +266,48 @@ impl Shift {
     }
 }
 
-// Why the report is missing or not whole.
-#[derive(Drop)]
-enum Stop {
-    Read,
-    Write(Failure),
-}
+impl Taker for Shift {
+    type Lines = Lines;
 
-impl From<Failure> for Stop {
-    fn from(failure: Failure) -> Stop {
-        Stop::Write(failure)
+    fn feed(&mut self, lines: &mut Lines, b: u8) -> Result<(), Stop> {
+        let (returned, piece) = lines.next(b);
+        if returned {
+            self.letter(b'\r')?;
+        }
+        match piece {
+            Piece::Nothing => {}
+            Piece::Letter => self.letter(b)?,
+            Piece::WordEnd => self.word_end()?,
+            Piece::LineEnd => {
+                self.line_end()?;
+                lines.end();
+            }
+        }
+        Ok(())
     }
-}
 
-impl From<io::Error> for Stop {
-    fn from(_: io::Error) -> Stop {
-        Stop::Read
+    fn end(&mut self, _: &mut Lines) -> Result<(), Stop> {
+        self.line_end()?;
+        match self.phase {
+            Phase::First(_) => Err(Stop::Malformed(Reason::MissingNumber)),
+            Phase::Entries(_) => Ok(()),
+        }
     }
 }
 
 // A report of a part of the input would be a wrong one: if it cannot be read to its end there is none.
-fn run<R: Print>(input: &mut impl Read, output: &mut Output<'_, R>) -> Result<(), Stop> {
-    let mut shift = Shift::new();
-    match shift.take(input)? {
-        Ok(()) => shift.report(output),
-        Err(reason) => output.malformed(shift.line, reason)?,
-    }
-    output.flush()?;
-    Ok(())
-}
-
-// Tells something on standard error, if that can be written.
-fn tell(rt: &impl Eprint, text: &str) {
-    let _ = rt.eprint(text);
-}
-
-// What could not be read or written is told on standard error, and the exit status is 0 all the same. Where nobody reads any more nothing is told,
-// and the status is what a shell gives for a program that SIGPIPE ends.
 fn main(rt: HostRuntime) -> ExitCode {
     let mut output = Output::new(&rt);
-    match run(&mut rt.stdin(), &mut output) {
-        Ok(()) => {}
-        Err(Stop::Read) => tell(&rt, "shifts: a read failed: there is no report\n"),
-        Err(Stop::Write(Failure::Lost)) => {
-            tell(&rt, "shifts: a write failed: the report is not whole\n");
-        }
-        Err(Stop::Write(Failure::Unread)) => return ExitCode::from(141),
+    let mut lines = Lines::new();
+    let mut shift = Shift::new();
+    let taken = shift.take(&mut lines, &mut rt.stdin());
+    if taken.is_ok() {
+        shift.report(&mut output);
     }
-    ExitCode::SUCCESS
+    output.finish(
+        taken,
+        lines.line(),
+        "shifts: a read failed: there is no report\n",
+        "shifts: a write failed: the report is not whole\n",
+    )
 }

@@ -33,7 +33,7 @@ gpios-at (b ∷ bs) rs zero d h = refl
 gpios-at (b ∷ bs) [] (suc p) d h = gpios-at bs [] p d (omega arith)
 gpios-at (b ∷ bs) (r ∷ rs) (suc p) d h = gpios-at bs rs p d (omega arith)
 
-no_flag : (n : ℕ) → not (eqb (n % 2) 1) ≡ eqb (n % 2) 0
+pub no_flag : (n : ℕ) → not (eqb (n % 2) 1) ≡ eqb (n % 2) 0
 no_flag n = go (eqb (n % 2) 1) refl
   where
     go : (b : Bool) → eqb (n % 2) 1 ≡ b → not b ≡ eqb (n % 2) 0

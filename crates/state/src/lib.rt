@@ -1,7 +1,9 @@
 // The board's state in lent memory: what a call reads and changes goes through these functions.
 #![tactic(auto)]
 
-ghost use Rattle.std.specs.Prelude.{◌≡◌, List, [], ◌∷◌, ℕ, ◌+◌, ◌*◌, ◌%◌, ◌<◌, ◌≤◌, min, ltb, length, drop, Float};
+mod index;
+
+ghost use Rattle.std.specs.Prelude.{◌≡◌, true, false, List, [], ◌∷◌, ℕ, ◌+◌, ◌*◌, ◌%◌, ◌<◌, ◌≤◌, ltb, length, drop, Float, MatchOption};
 ghost use Rattle.std.proofs.Math.Seq.{paste};
 ghost use Rattle.tim.specs.Timer.{Fit};
 ghost use Rattle.gpio.specs.Gpio.{GpioFit};
@@ -15,6 +17,7 @@ ghost use Rattle.state.specs.View.{view, divider_held, tree_of};
 
 use clk::ClockTree;
 use gpio::Gpio;
+pub use index::{PinIndex, TimerIndex};
 use pins::ClockModel;
 use scheduler::Scheduler;
 use tim::Timer;
@@ -97,17 +100,17 @@ pub struct SeenBoard<'a> {
 }
 
 impl SeenBoard<'_> {
-    // Pin p.
-    pub fn load_gpio(self, p: usize) -> Gpio
-        requires { p < 128 }
-        ensures { result ≡ pin_at (seen_board self.entry) p }
+    // Pin p. Compiled in as `Pin::resolve` is.
+    #[inline(always)]
+    pub fn load_gpio(self, p: PinIndex) -> Gpio
+        ensures { result ≡ pin_at (seen_board self.entry) p.n }
     {
         let mut b = [0u64; 16];
-        get(self.words, GPIO + p * codec::GPIO_WORDS, &mut b);
+        get(self.words, GPIO + p.n * codec::GPIO_WORDS, &mut b);
         codec::unpack_gpio(
             b,
-            self.reals[GPIO_REALS + p * 2],
-            self.reals[GPIO_REALS + (p * 2 + 1)],
+            self.reals[GPIO_REALS + p.n * 2],
+            self.reals[GPIO_REALS + (p.n * 2 + 1)],
         )
     }
 
@@ -148,25 +151,25 @@ impl LentBoard<'_> {
         }
     }
 
-    // Pin p.
-    pub fn load_gpio(&self, p: usize) -> Gpio
-        requires { p < 128 }
-        ensures { result ≡ pin_at (lent_board self.now) p }
+    // Pin p. Compiled in the same way.
+    #[inline(always)]
+    pub fn load_gpio(&self, p: PinIndex) -> Gpio
+        ensures { result ≡ pin_at (lent_board self.now) p.n }
     {
         let board = self.seen();
         board.load_gpio(p)
     }
 
-    pub fn store_gpio(&mut self, p: usize, g: Gpio)
-        requires { (p < 128) × (GpioFit g) }
+    pub fn store_gpio(&mut self, p: PinIndex, g: Gpio)
+        requires { GpioFit g }
         ensures same_loan { SameLoan self.old self.new }
-        ensures board { lent_board self.new ≡ pin_set (lent_board self.old) p g }
+        ensures board { lent_board self.new ≡ pin_set (lent_board self.old) p.n g }
     {
         known_lengths(self.words, self.reals);
         let b = codec::pack_gpio(g);
-        put(self.words, GPIO + p * codec::GPIO_WORDS, &b);
-        self.reals[GPIO_REALS + p * 2] = g.pin.volts;
-        self.reals[GPIO_REALS + (p * 2 + 1)] = codec::ext_volts(g);
+        put(self.words, GPIO + p.n * codec::GPIO_WORDS, &b);
+        self.reals[GPIO_REALS + p.n * 2] = g.pin.volts;
+        self.reals[GPIO_REALS + (p.n * 2 + 1)] = codec::ext_volts(g);
     }
 
     pub fn set_tree(&mut self, t: ClockTree)
@@ -220,40 +223,39 @@ fn put(words: &mut [u64; WORDS], at: usize, b: &[u64])
 
 // ---- timers
 
-pub fn load_timer(words: &[u64; WORDS], i: usize) -> Timer
-    requires { i < 8 }
-    ensures { (x : List Float) → result ≡ timer_at (view words.now x) i }
+pub fn load_timer(words: &[u64; WORDS], i: TimerIndex) -> Timer
+    ensures { (x : List Float) → result ≡ timer_at (view words.now x) i.n }
 {
     let mut b = [0u64; 40];
-    get(words, TIMERS + i * codec::TIMER_WORDS, &mut b);
+    get(words, TIMERS + i.n * codec::TIMER_WORDS, &mut b);
     codec::unpack_timer(b)
 }
 
-pub fn store_timer(words: &mut [u64; WORDS], i: usize, t: Timer)
-    requires { (i < 8) × (Fit t) }
-    ensures { (x : List Float) → view words.new x ≡ with_timer (view words.old x) i t }
+pub fn store_timer(words: &mut [u64; WORDS], i: TimerIndex, t: Timer)
+    requires { Fit t }
+    ensures { (x : List Float) → view words.new x ≡ with_timer (view words.old x) i.n t }
 {
     let b = codec::pack_timer(t);
-    put(words, TIMERS + i * codec::TIMER_WORDS, &b);
+    put(words, TIMERS + i.n * codec::TIMER_WORDS, &b);
 }
 
 // Stores timer i but for what set-up fixed.
-pub fn store_live(words: &mut [u64; WORDS], i: usize, t: Timer)
-    requires { (i < 8) × (Fit t) }
-    ensures { (x : List Float) → view words.new x ≡ with_timer (view words.old x) i (with_inst t (timer_at (view words.old x) i).inst) }
+pub fn store_live(words: &mut [u64; WORDS], i: TimerIndex, t: Timer)
+    requires { Fit t }
+    ensures { (x : List Float) → view words.new x ≡ with_timer (view words.old x) i.n (with_inst t (timer_at (view words.old x) i.n).inst) }
 {
     let b = codec::pack_timer(t);
-    put(words, TIMERS + (i * codec::TIMER_WORDS + 7), &b[7..39]);
+    put(words, TIMERS + (i.n * codec::TIMER_WORDS + 7), &b[7..39]);
 }
 
 // ---- pins
 
 // The signal of function f of pin p.
-pub fn af(words: &[u64; WORDS], p: usize, f: usize) -> u32
-    requires { (p < 128) × (f < 16) }
-    ensures { (x : List Float) → result ≡ af_at (view words.now x) p f }
+pub fn af(words: &[u64; WORDS], p: PinIndex, f: usize) -> u32
+    requires { f < 16 }
+    ensures { (x : List Float) → result ≡ af_at (view words.now x) p.n f }
 {
-    (words[AF + (p * 16 + f)] % 256) as u32
+    u32::from(codec::low_8(words[AF + (p.n * 16 + f)]))
 }
 
 // Entry k of the signal table: that of pin k / 16 and its function k % 16.
@@ -272,33 +274,38 @@ pub fn vcc(reals: &[f64; REALS]) -> f64
 
 // ---- signals
 
-pub fn route(words: &[u64; WORDS], s: usize) -> usize
+// The pin that routes signal s. A word from 128 on is none.
+pub fn route(words: &[u64; WORDS], s: usize) -> Option<PinIndex>
     requires { s < 256 }
-    ensures { (x : List Float) → result ≡ route_at (view words.now x) s }
+    ensures { (x : List Float) → MatchOption result (route_at (view words.now x) s ≡ 128) (λ p. p.n ≡ route_at (view words.now x) s) }
 {
-    lesser(words[ROUTE + s], 128) as usize
+    let word = words[ROUTE + s];
+    if word >= 128 {
+        return None;
+    }
+    Some(PinIndex { n: word as usize })
 }
 
-// A pin routes signal s.
-pub fn is_routed(words: &[u64; WORDS], s: usize) -> bool
+pub fn set_route(words: &mut [u64; WORDS], s: usize, p: PinIndex)
     requires { s < 256 }
-    ensures { (x : List Float) → result ≡ ltb (route_at (view words.now x) s) 128 }
+    ensures { (x : List Float) → view words.new x ≡ route_set (view words.old x) s p.n }
 {
-    words[ROUTE + s] < 128
+    words[ROUTE + s] = p.n as u64;
 }
 
-pub fn set_route(words: &mut [u64; WORDS], s: usize, p: usize)
-    requires { (s < 256) × (p ≤ 128) }
-    ensures { (x : List Float) → view words.new x ≡ route_set (view words.old x) s p }
+// No pin routes signal s.
+pub fn clear_route(words: &mut [u64; WORDS], s: usize)
+    requires { s < 256 }
+    ensures { (x : List Float) → view words.new x ≡ route_set (view words.old x) s 128 }
 {
-    words[ROUTE + s] = p as u64;
+    words[ROUTE + s] = 128;
 }
 
 pub fn sig_level(words: &[u64; WORDS], s: usize) -> u8
     requires { s < 256 }
     ensures { (x : List Float) → result ≡ sig_level_at (view words.now x) s }
 {
-    (words[SIG_LEVEL + s] % 2) as u8
+    codec::lowest(words[SIG_LEVEL + s])
 }
 
 pub fn set_sig_level(words: &mut [u64; WORDS], s: usize, level: u8)
@@ -335,7 +342,7 @@ pub fn enr(words: &[u64; WORDS], i: usize) -> u32
     requires { i < 9 }
     ensures { (x : List Float) → result ≡ enr_at (view words.now x) i }
 {
-    (words[ENR + i] % 4294967296) as u32
+    codec::low_32(words[ENR + i])
 }
 
 pub fn set_enr(words: &mut [u64; WORDS], i: usize, v: u32)
@@ -356,22 +363,20 @@ fn bookings(words: &[u64; WORDS]) -> Scheduler
     Scheduler::from(cycles)
 }
 
-pub fn booked(words: &[u64; WORDS], owner: usize) -> u64
-    requires { owner < 8 }
-    ensures { (x : List Float) → result ≡ booked_at (view words.now x) owner }
+pub fn booked(words: &[u64; WORDS], owner: TimerIndex) -> u64
+    ensures { (x : List Float) → result ≡ booked_at (view words.now x) owner.n }
 {
-    bookings(words).is_scheduled(owner)
+    bookings(words).is_scheduled(owner.n)
 }
 
 // Books owner at a cycle, or cancels its booking by the cycle 2^64 - 1. All booking goes through here: the bookings are lent to the
 // scheduler's method, and the one word that changed is stored.
-pub fn book(words: &mut [u64; WORDS], owner: usize, cycle: u64)
-    requires { owner < 8 }
-    ensures { (x : List Float) → view words.new x ≡ booking_set (view words.old x) owner cycle }
+pub fn book(words: &mut [u64; WORDS], owner: TimerIndex, cycle: u64)
+    ensures { (x : List Float) → view words.new x ≡ booking_set (view words.old x) owner.n cycle }
 {
     let mut scheduler = bookings(words);
-    scheduler.book(owner, cycle);
-    words[BOOKING + owner] = scheduler.cycles[owner];
+    scheduler.book(owner.n, cycle);
+    words[BOOKING + owner.n] = scheduler.cycles[owner.n];
 }
 
 // The least booked cycle.
@@ -387,21 +392,17 @@ pub fn next_booked(words: &[u64; WORDS]) -> u64
 fn has_line(words: &[u64; WORDS], irq: usize) -> bool
     ensures { (x : List Float) → result ≡ ltb irq (view words.now x).nvic.nirq }
 {
-    if irq >= 256 {
-        return false;
-    }
-    (irq as u64) < words[LINE_COUNT]
+    irq < 256 && (irq as u64) < words[LINE_COUNT]
 }
 
 // Timer i drives line irq; without such a line nothing changes.
-pub fn set_line(words: &mut [u64; WORDS], irq: u32, i: usize, level: bool)
-    requires { i < 8 }
-    ensures { (x : List Float) → view words.new x ≡ with_nvic (view words.old x) (set_line (view words.old x).nvic irq i level) }
+pub fn set_line(words: &mut [u64; WORDS], irq: u32, i: TimerIndex, level: bool)
+    ensures { (x : List Float) → view words.new x ≡ with_nvic (view words.old x) (set_line (view words.old x).nvic irq i.n level) }
 {
     let n = irq as usize;
     if has_line(words, n) {
         let at = LINES + n;
-        words[at] = nvic::driven(words[at], i, level);
+        words[at] = nvic::driven(words[at], i.n, level);
     }
 }
 
@@ -432,23 +433,35 @@ pub fn line_state(words: &[u64; WORDS], irq: u32) -> u64
 pub fn timer_count(words: &[u64; WORDS]) -> usize
     ensures { (x : List Float) → result ≡ (view words.now x).counts.timers }
 {
-    lesser(words[TIMER_COUNT], 8) as usize
+    words[TIMER_COUNT].min(8) as usize
 }
 
-// A timer of that index.
-pub fn has_timer(words: &[u64; WORDS], i: u32) -> bool
-    ensures { (x : List Float) → result ≡ ltb i (view words.now x).counts.timers }
+// The timer of that index, if the board has one.
+pub fn timer(words: &[u64; WORDS], index: u32) -> Option<TimerIndex>
+    ensures { (x : List Float) → MatchOption result (ltb index (view words.now x).counts.timers ≡ false) (λ i. (i.n ≡ index) × (ltb index (view words.now x).counts.timers ≡ true)) }
 {
-    if i >= 8 {
-        return false;
+    let n = index as usize;
+    if n >= timer_count(words) {
+        return None;
     }
-    (i as u64) < words[TIMER_COUNT]
+    Some(TimerIndex { n })
 }
 
 pub fn pin_count(words: &[u64; WORDS]) -> usize
     ensures { (x : List Float) → result ≡ (view words.now x).counts.pins }
 {
-    lesser(words[PIN_COUNT], 128) as usize
+    words[PIN_COUNT].min(128) as usize
+}
+
+// The pin of that index, if the board has one.
+pub fn pin(words: &[u64; WORDS], index: u32) -> Option<PinIndex>
+    ensures { (x : List Float) → MatchOption result (ltb index (view words.now x).counts.pins ≡ false) (λ p. (p.n ≡ index) × (ltb index (view words.now x).counts.pins ≡ true)) }
+{
+    let n = index as usize;
+    if n >= pin_count(words) {
+        return None;
+    }
+    Some(PinIndex { n })
 }
 
 // The numbers of timers, pins and interrupt lines.
@@ -471,10 +484,4 @@ pub fn set_last(words: &mut [u64; WORDS], cycle: u64)
     ensures { (x : List Float) → view words.new x ≡ with_last (view words.old x) cycle }
 {
     words[LAST] = cycle;
-}
-
-fn lesser(a: u64, b: u64) -> u64
-    ensures { result ≡ min a b }
-{
-    if a <= b { a } else { b }
 }

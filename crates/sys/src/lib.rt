@@ -7,70 +7,67 @@ ghost use Rattle.state.specs.Lent.{lent_board, SameLoan};
 ghost use Rattle.state.specs.View.{view};
 ghost use Rattle.book.specs.Book.{Room};
 ghost use Rattle.book.specs.Lent.{slices_of, filled, SameSlices};
-ghost use Rattle.machine.specs.Board.{with_pads, plain_cfg};
+ghost use Rattle.machine.specs.Board.{with_pads};
 ghost use Rattle.machine.specs.Sys as S;
 ghost use Rattle.sys.specs.Moves.{signal_driven, Moves, Reset};
 
 use book::LentBook;
 use gpio::{Edge, PinCfg};
 use pins::{ExtDrive, Source};
-use state::{LentBoard, WORDS};
+use state::{LentBoard, PinIndex, WORDS};
 
 // Re-resolves the level of pin i after any change of its inputs.
-pub fn update_pin(board: &mut LentBoard<'_>, i: usize) -> Option<Edge>
-    requires { i < 128 }
+pub fn update_pin(board: &mut LentBoard<'_>, i: PinIndex) -> Option<Edge>
     ensures same_loan { SameLoan board.old board.new }
-    ensures moves { Moves (S.update_pin (lent_board board.old).pads i) (lent_board board.old) (lent_board board.new) result }
+    ensures moves { Moves (S.update_pin (lent_board board.old).pads i.n) (lent_board board.old) (lent_board board.new) result }
 {
     let g = board.load_gpio(i);
     let vcc = state::vcc(board.reals);
-    let m = gpio::update(i as u8, g, vcc);
+    let m = gpio::update(i.n as u8, g, vcc);
     board.store_gpio(i, m.gpio);
     m.change
 }
 
 // Pin i is push-pull, and its signal drives it.
-fn is_driven(words: &[u64; WORDS], i: usize) -> bool
-    requires { i < 128 }
-    ensures { (x : List Float) → result ≡ signal_driven (pin_at (view words.now x) i) }
+fn is_driven(words: &[u64; WORDS], i: PinIndex) -> bool
+    ensures { (x : List Float) → result ≡ signal_driven (pin_at (view words.now x) i.n) }
 {
     levels::is_push_pull(words, i) && gpio::drives(levels::signal(words, i))
 }
 
 // Such a pin refreshed: only what changes is stored.
 #[inline(always)]
-fn refresh_driven(board: &mut LentBoard<'_>, i: usize) -> Option<Edge>
-    requires { (i < 128) × (signal_driven (pin_at (lent_board board.old) i) ≡ true) }
+fn refresh_driven(board: &mut LentBoard<'_>, i: PinIndex) -> Option<Edge>
+    requires { signal_driven (pin_at (lent_board board.old) i.n) ≡ true }
     ensures same_loan { SameLoan board.old board.new }
-    ensures moves { Moves (S.refresh_pin (lent_board board.old).pads i) (lent_board board.old) (lent_board board.new) result }
+    ensures moves { Moves (S.refresh_pin (lent_board board.old).pads i.n) (lent_board board.old) (lent_board board.new) result }
 {
     let was = levels::level(board.words, i);
     let l = state::sig_level(board.words, levels::signal(board.words, i) as usize);
     levels::drive_level(board, i, l);
-    gpio::changed(i as u8, was, l, Source::Chip)
+    gpio::changed(i.n as u8, was, l, Source::Chip)
 }
 
-// Any pin: loaded, its side made anew, resolved and stored.
-fn refresh_any(board: &mut LentBoard<'_>, i: usize) -> Option<Edge>
-    requires { i < 128 }
+// Any pin: loaded, its side made anew, resolved and stored. Compiled in: called, an event and a pin's setting take a twentieth longer.
+#[inline(always)]
+fn refresh_any(board: &mut LentBoard<'_>, i: PinIndex) -> Option<Edge>
     ensures same_loan { SameLoan board.old board.new }
-    ensures moves { Moves (S.refresh_pin (lent_board board.old).pads i) (lent_board board.old) (lent_board board.new) result }
+    ensures moves { Moves (S.refresh_pin (lent_board board.old).pads i.n) (lent_board board.old) (lent_board board.new) result }
 {
     let g = board.load_gpio(i);
     let s = gpio::signal_of(g);
     let level = state::sig_level(board.words, s as usize);
     let vcc = state::vcc(board.reals);
-    let m = gpio::refresh(i as u8, g, level, vcc);
+    let m = gpio::refresh(i.n as u8, g, level, vcc);
     board.store_gpio(i, m.gpio);
     m.change
 }
 
 // Recomputes what the chip drives on pin i from its configuration, the selected signal and the signal's level, then re-resolves it.
 #[inline(always)]
-pub fn refresh_pin(board: &mut LentBoard<'_>, i: usize) -> Option<Edge>
-    requires { i < 128 }
+pub fn refresh_pin(board: &mut LentBoard<'_>, i: PinIndex) -> Option<Edge>
     ensures same_loan { SameLoan board.old board.new }
-    ensures moves { Moves (S.refresh_pin (lent_board board.old).pads i) (lent_board board.old) (lent_board board.new) result }
+    ensures moves { Moves (S.refresh_pin (lent_board board.old).pads i.n) (lent_board board.old) (lent_board board.new) result }
 {
     if is_driven(board.words, i) {
         refresh_driven(board, i)
@@ -80,19 +77,19 @@ pub fn refresh_pin(board: &mut LentBoard<'_>, i: usize) -> Option<Edge>
 }
 
 // Pin i leaves signal s: the route goes, if it is the pin's.
-fn leave(words: &mut [u64; WORDS], i: usize, s: u32)
-    requires { (i < 128) × (s < 256) }
-    ensures { (x : List Float) → view words.new x ≡ with_pads (view words.old x) (S.leave (view words.old x).pads i s) }
+fn leave(words: &mut [u64; WORDS], i: PinIndex, s: u32)
+    requires { s < 256 }
+    ensures { (x : List Float) → view words.new x ≡ with_pads (view words.old x) (S.leave (view words.old x).pads i.n s) }
 {
-    if s != 0 && state::route(words, s as usize) == i {
-        state::set_route(words, s as usize, 128);
+    if s != 0 && state::route(words, s as usize).is_some_and(|p| p.n == i.n) {
+        state::clear_route(words, s as usize);
     }
 }
 
 // Pin i takes signal s.
-fn take(words: &mut [u64; WORDS], i: usize, s: u32)
-    requires { (i < 128) × (s < 256) }
-    ensures { (x : List Float) → view words.new x ≡ with_pads (view words.old x) (S.take (view words.old x).pads i s) }
+fn take(words: &mut [u64; WORDS], i: PinIndex, s: u32)
+    requires { s < 256 }
+    ensures { (x : List Float) → view words.new x ≡ with_pads (view words.old x) (S.take (view words.old x).pads i.n s) }
 {
     if s != 0 {
         state::set_route(words, s as usize, i);
@@ -100,10 +97,9 @@ fn take(words: &mut [u64; WORDS], i: usize, s: u32)
 }
 
 // The signal that function f of pin i selects, 0 unless in alternate mode.
-fn selected(words: &[u64; WORDS], i: usize, c: PinCfg, f: u32) -> u32
-    requires { i < 128 }
-    ensures value { (x : List Float) → result ≡ S.selected (view words.now x).pads i c f }
-    ensures upper_bound { result < 256 }
+fn selected(words: &[u64; WORDS], i: PinIndex, c: PinCfg, f: u32) -> u32
+    ensures signal { (x : List Float) → result ≡ S.selected (view words.now x).pads i.n c f }
+    ensures range { result < 256 }
 {
     if c.mode == 2 {
         state::af(words, i, (f % 16) as usize)
@@ -113,23 +109,18 @@ fn selected(words: &[u64; WORDS], i: usize, c: PinCfg, f: u32) -> u32
 }
 
 // Another pin routes the signal that function f of pin i selects: the signal's route says it in one look.
-pub fn is_taken(words: &[u64; WORDS], i: usize, c: PinCfg, f: u32) -> bool
-    requires { i < 128 }
-    ensures { (x : List Float) → result ≡ S.taken (view words.now x).pads i (S.selected (view words.now x).pads i c f) }
+pub fn is_taken(words: &[u64; WORDS], i: PinIndex, c: PinCfg, f: u32) -> bool
+    ensures { (x : List Float) → result ≡ S.taken (view words.now x).pads i.n (S.selected (view words.now x).pads i.n c f) }
 {
     let new = selected(words, i, c, f);
-    if new == 0 {
-        return false;
-    }
-    let p = state::route(words, new as usize);
-    p != 128 && p != i
+    new != 0 && state::route(words, new as usize).is_some_and(|p| p.n != i.n)
 }
 
 // Configures pin i and selects its function f; refresh_pin follows.
-pub fn select_af(board: &mut LentBoard<'_>, i: usize, c: PinCfg, f: u32)
-    requires { (i < 128) × (c.odr ≤ 1) }
+pub fn select_af(board: &mut LentBoard<'_>, i: PinIndex, c: PinCfg, f: u32)
+    requires { c.odr ≤ 1 }
     ensures same_loan { SameLoan board.old board.new }
-    ensures board { lent_board board.new ≡ with_pads (lent_board board.old) (S.select_af (lent_board board.old).pads i c f) }
+    ensures board { lent_board board.new ≡ with_pads (lent_board board.old) (S.select_af (lent_board board.old).pads i.n c f) }
 {
     let g = board.load_gpio(i);
     let old = g.sig;
@@ -140,20 +131,19 @@ pub fn select_af(board: &mut LentBoard<'_>, i: usize, c: PinCfg, f: u32)
 }
 
 // Pin i set: configured, and refreshed.
-pub fn set_pin(board: &mut LentBoard<'_>, i: usize, c: PinCfg, f: u32) -> Option<Edge>
-    requires { (i < 128) × (c.odr ≤ 1) }
+pub fn set_pin(board: &mut LentBoard<'_>, i: PinIndex, c: PinCfg, f: u32) -> Option<Edge>
+    requires { c.odr ≤ 1 }
     ensures same_loan { SameLoan board.old board.new }
-    ensures moves { Moves (S.set_pin (lent_board board.old).pads i c f) (lent_board board.old) (lent_board board.new) result }
+    ensures moves { Moves (S.set_pin (lent_board board.old).pads i.n c f) (lent_board board.old) (lent_board board.new) result }
 {
     select_af(board, i, c, f);
     refresh_pin(board, i)
 }
 
 // Pin i driven from outside.
-pub fn drive_pin(board: &mut LentBoard<'_>, i: usize, e: ExtDrive) -> Option<Edge>
-    requires { i < 128 }
+pub fn drive_pin(board: &mut LentBoard<'_>, i: PinIndex, e: ExtDrive) -> Option<Edge>
     ensures same_loan { SameLoan board.old board.new }
-    ensures moves { Moves (S.drive_pin (lent_board board.old).pads i e) (lent_board board.old) (lent_board board.new) result }
+    ensures moves { Moves (S.drive_pin (lent_board board.old).pads i.n e) (lent_board board.old) (lent_board board.new) result }
 {
     let g = board.load_gpio(i);
     board.store_gpio(i, gpio::connect(g, e));
@@ -168,12 +158,8 @@ pub fn move_signal(board: &mut LentBoard<'_>, s: usize, level: u8) -> Option<Edg
     ensures moves { Moves (S.sig_out (lent_board board.old).pads s level) (lent_board board.old) (lent_board board.new) result }
 {
     state::set_sig_level(board.words, s, level);
-    if state::is_routed(board.words, s) {
-        let p = state::route(board.words, s);
-        refresh_pin(board, p)
-    } else {
-        None
-    }
+    let p = state::route(board.words, s)?;
+    refresh_pin(board, p)
 }
 
 // Drives output signal s to a level, on the pin that routes it.
@@ -189,27 +175,13 @@ pub fn sig_out(board: &mut LentBoard<'_>, s: usize, level: u8) -> Option<Edge>
     }
 }
 
-// An input with nothing selected.
-fn plain() -> PinCfg
-    ensures { result ≡ plain_cfg }
-{
-    PinCfg {
-        mode: 0,
-        open_drain: false,
-        odr: 0,
-        pullup: false,
-        pulldown: false,
-    }
-}
-
-// Pin i an input again: never push-pull.
-fn reset_pin(board: &mut LentBoard<'_>, i: usize) -> Option<Edge>
-    requires { i < 128 }
+// Pin i an input again, with nothing selected: never push-pull.
+fn reset_pin(board: &mut LentBoard<'_>, i: PinIndex) -> Option<Edge>
     ensures same_loan { SameLoan board.old board.new }
-    ensures moves { Moves (S.reset_pin (lent_board board.old).pads i) (lent_board board.old) (lent_board board.new) result }
+    ensures moves { Moves (S.reset_pin (lent_board board.old).pads i.n) (lent_board board.old) (lent_board board.new) result }
 {
     let g = board.load_gpio(i);
-    board.store_gpio(i, gpio::configure(g, plain(), 0));
+    board.store_gpio(i, gpio::configure(g, PinCfg::default(), 0));
     refresh_any(board, i)
 }
 
@@ -224,7 +196,8 @@ pub fn reset_pins(board: &mut LentBoard<'_>, book: &mut LentBook<'_>, cycle: u64
     blank::unroute(board.words);
     let n = state::pin_count(board.words);
     for i in 0..n {
-        let change = reset_pin(board, i);
+        let p = PinIndex { n: i };
+        let change = reset_pin(board, p);
         book.append(change, cycle);
     }
 }

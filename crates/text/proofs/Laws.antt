@@ -2,17 +2,13 @@
 use mathlib.Core.Path.{◌≡◌, refl, ◌∙◌}
 use mathlib.Core.Bool.{Bool, true, false, cond, ◌&&◌}
 use mathlib.Core.List.{List, [], ◌∷◌}
-use Prim.Native.Nat.{ℕ, ◌+◌, ◌*◌, ◌^◌, ◌<◌, ◌≤◌}
+use Prim.Native.Nat.{ℕ, ◌+◌, ◌*◌, ◌^◌, ◌<◌}
 use native.Mathlib.Nat.{le-mul_of_pos_right}
 use native.Mathlib.Omega.{arith}
-use native.Mathlib.Numerals.{add-one}
-use lib.ListN.{length, get_or, drop, drop_of_length-le}
-use lib.Seq.{drop-cons}
 use lib.Dec.{ltb, eqb}
 use borrow.Author.Tests.{ltb-false, le-ltb, eqb-true}
 use Rattle.std.specs.Prelude.{Ok, Err}
 use Rattle.text.specs.declared.NumberError.TheVariants.{NotANumber, TooLarge}
-use Rattle.text.specs.declared.Reading.{Reading}
 use Rattle.text.specs.declared.Reading.TheVariants.{Zero, Prefix, Digits, Large, Wrong}
 use Rattle.text.specs.Numbers.{digit_of, is_digit, digit_value, are_digits, value_from, fitted, told_from, number_in, is_x, value_of, start, held, more_of, large_of, first_of, second_of, next_of, told_of, reading_of}
 
@@ -97,12 +93,3 @@ reads (b ∷ x ∷ bs) = go (eqb b 48) refl
     go : (t : Bool) → eqb b 48 ≡ t → told_of (reading_of (cond (eqb b 48) Zero (more_of 10 0 b)) (x ∷ bs)) ≡ cond (eqb b 48 && is_x x) (number_in 16 bs) (told_from 10 0 (b ∷ x ∷ bs))
     go true e = rw (eqb-true b 48 e) (read-zero x bs ∙ rw (zero-first (x ∷ bs)))
     go false e = rw e (read_more 10 b (x ∷ bs) (omega arith))
-
--- a byte of the word read, in the loop
-pub read_step : (r r₁ : Reading) (w : List ℕ) (i : ℕ) → r₁ ≡ next_of r (get_or w i 0) → i < length w → reading_of r₁ (drop (i + 1) w) ≡ reading_of r (drop i w)
-unfolding reading_of
-read_step r r₁ w i e h = rw (e, add-one i, drop-cons w i 0 h)
-
-pub read_done : (r : Reading) (w : List ℕ) (i : ℕ) → length w ≤ i → reading_of r (drop i w) ≡ reading_of start w → r ≡ reading_of start w
-unfolding reading_of
-read_done r w i h e = rw (drop_of_length-le w h) at e

@@ -1,18 +1,33 @@
 -- Words compared byte by byte, and a word's place among others.
-use Rattle.std.proofs.Common.{◌≡◌, refl, ℕ, Bool, true, false, ◌&&◌, List, [], ◌∷◌, eqb, map, nat_eq, rules, ◌∙◌, ◌≤◌, zero, suc, length, arith, ap, cond, ◌+◌, Some, slice_get}
+use Rattle.std.proofs.Common.{◌≡◌, refl, ℕ, Bool, true, false, ◌&&◌, List, [], ◌∷◌, eqb, map, nat_eq, rules, ◌∙◌, zero, suc, length, arith, ap, cond, ◌+◌, Some, slice_get}
 use native.Mathlib.Numerals.{add-one}
 use Rattle.std.specs.Cmp.Lexicographic.{pointwise}
 use Rattle.std.specs.List.{find}
 use Rattle.std.specs.Prelude.{Option, None}
 use lib.Dec.{T, eqb→eq}
-use lib.ListN.{get_or-eq_default}
 use Rattle.std.specs.Option.{option_copied}
 use Rattle.std.specs.Slice.{IsItemAt}
 use Rattle.std.proofs.lemmas.Option.{slice_get_past, slice_get_read}
 use denote.Ref.{Bor}
 use mathlib.Core.Path.{sym}
-use Rattle.text.specs.Words.{same_word, place_in, call_of, command_at, commands, word_of, number_of, field_of, shapes}
+use Rattle.text.specs.Words.{same_word, place_in, call_of, command_at, commands, word_of, number_of}
 use Rattle.text.specs.declared.Command.{Command}
+
+both_left : (a b : Bool) → T (a && b) → T a
+both_left true b t = tt
+both_left false b t = t
+
+both_right : (a b : Bool) → T (a && b) → T b
+both_right true b t = t
+both_right false b t = absurd t
+
+-- words that are the same by this are one word
+pub same_word_lem : (a b : List ℕ) → T (same_word a b) → a ≡ b
+unfolding same_word
+same_word_lem [] [] t = refl
+same_word_lem [] (y ∷ ys) t = absurd t
+same_word_lem (x ∷ xs) [] t = absurd t
+same_word_lem (x ∷ xs) (y ∷ ys) t = cc (eqb→eq x y (both_left (eqb x y) (same_word xs ys) t), same_word_lem xs ys (both_right (eqb x y) (same_word xs ys) t))
 
 -- what `==` of two slices says
 pub same_pointwise : (a b : List ℕ) → pointwise nat_eq a b ≡ same_word a b
@@ -46,14 +61,6 @@ got xs i (Some x) h = sym (slice_get_read xs (length xs) i x.now refl h.3.0 (h.3
 
 -- ---- numbers
 
-both_left : (a b : Bool) → T (a && b) → T a
-both_left true b t = tt
-both_left false b t = t
-
-both_right : (a b : Bool) → T (a && b) → T b
-both_right true b t = t
-both_right false b t = absurd t
-
 -- each call's number is its place, counted from i
 abbrev in_order : ℕ → List Command → Bool
 in_order i [] = true
@@ -67,18 +74,7 @@ place-number (x ∷ cs) i t zero c e =
     sym (ap number_of n) ∙ m ∙ omega arith
 place-number (x ∷ cs) i t (suc k) c e = place-number cs (suc i) (both_right (eqb (number_of x) i) (in_order (suc i) cs) t) k c e ∙ omega arith
 
+-- the call's number, which begins its words, is its place in the table
 pub number_at : (n : ℕ) (c : Command) → Some c ≡ command_at n → number_of c ≡ n
 unfolding command_at
 number_at n c e = place-number commands 0 tt n c (sym e) ∙ omega arith
-
-past : {X : Type 0} (xs : List X) (k : ℕ) → slice_get xs k ≡ None → length xs ≤ k
-past [] k e = omega arith
-past (x ∷ xs) zero e = absurd (search rules)
-past (x ∷ xs) (suc k) e = omega (arith, past xs k e)
-
-pub field_none : (n k : ℕ) → None ≡ command_at n → None ≡ field_of n k
-unfolding command_at field_of
-field_none n k e = rw (get_or-eq_default shapes [] {n = n} (past commands n (sym e)))
-
-pub field_some : (n k : ℕ) (c : Command) → Some c ≡ command_at n → field_of (number_of c) k ≡ field_of n k
-field_some n k c e = ap (λ m. field_of m k) (number_at n c e)

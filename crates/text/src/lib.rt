@@ -1,10 +1,13 @@
 // The call list as text (docs/CALLS.md): numbers read and written digit by digit, words, and the numbers of each call.
 #![tactic(auto)]
 
-ghost use Rattle.std.specs.Prelude.{◌≡◌, ◌+◌, ◌-◌, ◌*◌, ◌≤◌, ◌<◌, ◌^◌, length, slice_index_or, [], SomeIff};
-ghost use Rattle.text.specs.Numbers.{digit_of, next_of, more_of, large_of, first_of, second_of, told_of, start, value_of};
-ghost use Rattle.text.specs.Words.{is_space, same_word, call_of, field_of, shapes, number_of, word_of, command_at, words_of, reason_of};
+ghost use Rattle.std.specs.Prelude.{◌≡◌, ◌+◌, ◌-◌, ◌*◌, ◌≤◌, ◌<◌, ◌^◌, length, min, slice_index_or, [], SomeIff, MatchResult};
+ghost use Rattle.text.specs.Numbers.{digit_of, next_of, more_of, large_of, first_of, second_of, told_of, start};
+ghost use Rattle.text.specs.Words.{is_space, same_word, call_of, field_of, shapes, number_of, word_of, words_of, reason_of};
 ghost use Rattle.text.specs.Digits.{places_of, last_digits, over, Wrote};
+ghost use Rattle.text.specs.Lines.{is_returned, next_piece, next_place};
+ghost use Rattle.text.specs.declared.Place.TheVariants as Place;
+ghost use Rattle.text.specs.declared.Reason.TheVariants as Reason;
 
 use std::error::Error;
 use std::fmt;
@@ -16,10 +19,10 @@ pub enum NumberError {
     TooLarge,
 }
 
-// Why a line is no call (docs/CALLS.md, "What ends the run"), each with its number.
+// Why a line is no call (docs/CALLS.md, "What ends the run").
 #[derive(Clone, Copy, Debug, PartialEq, Eq)]
 pub enum Reason {
-    UnknownWord = 2,
+    UnknownWord,
     MissingNumber,
     SurplusNumber,
     NotANumber,
@@ -174,15 +177,11 @@ impl Reading {
     }
 }
 
-// What a word in a number's place is.
-pub fn read_number(word: &[u8]) -> Result<u64, NumberError>
-    ensures { result ≡ value_of word.now }
+// A number of 32 bits.
+pub fn short(x: u64) -> Result<u32, Reason>
+    ensures { MatchResult result (λ y. y ≡ x) (λ e. (2 ^ 32 ≤ x) × (e ≡ Reason.TooLarge)) }
 {
-    let mut reading = Reading::new();
-    for b in word {
-        reading = reading.next(*b);
-    }
-    reading.told()
+    u32::try_from(x).or(Err(Reason::TooLarge))
 }
 
 // How many decimal digits a number has.
@@ -224,6 +223,80 @@ pub fn is_space(b: u8) -> bool
     ensures { result ≡ is_space b }
 {
     matches!(b, b' ' | b'\t')
+}
+
+// What a byte of a text is: nothing, a letter of a word, what ends a word, or what ends a line.
+#[derive(Clone, Copy, Debug, PartialEq, Eq)]
+pub enum Piece {
+    Nothing,
+    Letter,
+    WordEnd,
+    LineEnd,
+}
+
+// Where the next byte of a line is: among words, behind a carriage return, which belongs to the line's end or else to a word, or in a comment.
+#[derive(Clone, Copy, Debug, PartialEq, Eq)]
+pub enum Place {
+    Words,
+    CarriageReturn,
+    Comment,
+}
+
+// The lines of a text (docs/CALLS.md), byte by byte: the number of the line, and where its next byte is.
+#[derive(Clone, Copy, Debug)]
+pub struct Lines {
+    line: u64,
+    place: Place,
+}
+
+impl Lines {
+    // Before the first byte.
+    pub fn new() -> Lines
+        ensures line { result.line ≡ 1 }
+        ensures place { result.place ≡ Place.Words }
+    {
+        Lines {
+            line: 1,
+            place: Place::Words,
+        }
+    }
+
+    // The number of the line.
+    pub fn line(&self) -> u64
+        ensures { result ≡ self.now.line }
+    {
+        self.line
+    }
+
+    // What the next byte is, and whether the carriage return before it is a letter.
+    #[tactic(auto, unfolding(crate::specs::Lines::piece_of, crate::specs::Lines::place_of))]
+    pub fn next(&mut self, b: u8) -> (bool, Piece)
+        ensures returned { result.0 ≡ is_returned self.old.place b }
+        ensures piece { result.1 ≡ next_piece self.old.place b }
+        ensures place { self.new.place ≡ next_place self.old.place b }
+        ensures line { self.new.line ≡ self.old.line }
+    {
+        let returned = self.place == Place::CarriageReturn && b != b'\n';
+        let (place, piece) = match (self.place, b) {
+            (_, b'\n') => (Place::Words, Piece::LineEnd),
+            (Place::Comment, _) => (Place::Comment, Piece::Nothing),
+            (_, b'\r') => (Place::CarriageReturn, Piece::Nothing),
+            (_, b'#') => (Place::Comment, Piece::WordEnd),
+            _ if is_space(b) => (Place::Words, Piece::WordEnd),
+            _ => (Place::Words, Piece::Letter),
+        };
+        self.place = place;
+        (returned, piece)
+    }
+
+    // The line has ended, or the input: the next one begins.
+    pub fn end(&mut self)
+        ensures line { self.new.line ≡ min (self.old.line + 1) 18446744073709551615 }
+        ensures place { self.new.place ≡ Place.Words }
+    {
+        self.line = self.line.saturating_add(1);
+        self.place = Place::Words;
+    }
 }
 
 // Whether two words are the same.
@@ -341,13 +414,6 @@ impl Command {
         }
     }
 
-    // The one that has a number.
-    pub fn numbered(number: u8) -> Option<Command>
-        ensures { result ≡ command_at number }
-    {
-        Command::ALL.get(number as usize).copied()
-    }
-
     // Its number: its place in the table.
     pub fn number(self) -> u8
         ensures { result ≡ number_of self }
@@ -446,11 +512,4 @@ impl Command {
     {
         self.operands().get(k).copied()
     }
-}
-
-// What stands in place k of the numbers of the call that has a number.
-pub fn field(call: u8, k: usize) -> Option<Operand>
-    ensures { result ≡ field_of call k }
-{
-    Command::numbered(call)?.operand(k)
 }

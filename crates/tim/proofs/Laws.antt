@@ -1,9 +1,10 @@
 -- Bounds of what the timer's definitions give. Assumes nothing.
 use mathlib.Core.Path.{◌≡◌, refl, ap, sym, ◌∙◌}
 use mathlib.Core.Bool.{Bool, true, false, cond, not, ◌&&◌}
-use mathlib.Core.List.{[], ◌∷◌}
-use Rattle.std.proofs.Common.{Option, Some, None, add-one}
-use Prim.Native.Nat.{ℕ, zero, suc, ◌+◌, ◌-◌, ◌*◌, ◌%◌, ◌^◌, ◌≤◌, ◌<◌}
+use mathlib.Core.List.{List, [], ◌∷◌}
+use lib.ListN.{length, get_or}
+use Rattle.std.proofs.Common.{Option, Some, None}
+use Prim.Native.Nat.{ℕ, ◌+◌, ◌-◌, ◌*◌, ◌%◌, ◌^◌, ◌≤◌, ◌<◌}
 use lib.Dec.{ltb, leb, eqb}
 use native.Mathlib.Omega.{arith}
 use native.Mathlib.Nat.{add-zero, le_refl, le_trans, mul-le-mul, mod-lt}
@@ -11,7 +12,7 @@ use borrow.Author.Tests.{eq-eqb, ne_eqb, lt-ltb, le-ltb, ltb-true, leb-true, leb
 use mir.Val.{bool_byte}
 use Rattle.tim.specs.declared.Timer.{Timer}
 use Rattle.tim.specs.declared.Ahead.{Ahead}
-use Rattle.tim.specs.declared.Next.TheVariants.{Compare, Update}
+use Rattle.tim.specs.declared.Next.TheVariants.{Compare}
 use Rattle.tim.specs.declared.Due.TheVariants.{At, Stopped}
 use Rattle.rm0440.specs.Bits.{UDIS, OPM}
 use Rattle.rm0440.specs.Update.{shadow}
@@ -74,9 +75,14 @@ odd x h = go (eqb (x % 2) 1) refl
     go true e = refl
     go false e = absurd (h (omega (arith, mod-lt x {m = 2} (omega arith), eqb-false (x % 2) 1 e)))
 
--- four channels, each equal
-pub four : {a b c d a' b' c' d' : Bool} → a ≡ a' → b ≡ b' → c ≡ c' → d ≡ d' → (a ∷ b ∷ c ∷ d ∷ []) ≡ (a' ∷ b' ∷ c' ∷ d' ∷ [])
-four p q r s = rw (p, q, r, s)
+-- a list of four is that of its elements
+pub four_of : (xs : List Bool) (a b c d : Bool) → length xs ≡ 4 → get_or xs 0 false ≡ a → get_or xs 1 false ≡ b → get_or xs 2 false ≡ c → get_or xs 3 false ≡ d → xs ≡ a ∷ b ∷ c ∷ d ∷ []
+four_of [] a b c d h p q r s = absurd (omega arith)
+four_of (x ∷ []) a b c d h p q r s = absurd (omega arith)
+four_of (x ∷ y ∷ []) a b c d h p q r s = absurd (omega arith)
+four_of (x ∷ y ∷ z ∷ []) a b c d h p q r s = absurd (omega arith)
+four_of (x ∷ y ∷ z ∷ w ∷ []) a b c d h p q r s = rw (p, q, r, s)
+four_of (x ∷ y ∷ z ∷ w ∷ v ∷ xs) a b c d h p q r s = absurd (omega arith)
 
 -- ---- the compares that can be next
 
@@ -120,23 +126,6 @@ steps-some t ch best n h e = by-steps t ch best h ∙ ap (considered-by t ch bes
 pub steps-none : (t : Timer) (ch : ℕ) (best : Ahead) → waiting t ch ≡ true → steps_to t (ccr_in_use t ch) ≡ None → consider t ch best ≡ best
 unfolding considered-by
 steps-none t ch best h e = by-steps t ch best h ∙ ap (considered-by t ch best) e
-
--- the first n channels considered after the update
-pub first_of : Timer → ℕ → Ahead
-first_of t zero = record { steps = update_steps t; next = Update }
-first_of t (suc n) = consider t n (first_of t n)
-
-pub first-step : (t : Timer) (n : ℕ) → first_of t (n + 1) ≡ consider t n (first_of t n)
-unfolding first_of
-first-step t n = rw add-one refl
-
-pub first-none : (t : Timer) (k : ℕ) → k ≡ update_steps t → record { steps = k; next = Update } ≡ first_of t 0
-unfolding first_of
-first-none t k e = rw e
-
-pub first-four : (t : Timer) → first_of t 4 ≡ next_steps t
-unfolding next_steps first_of
-first-four t = refl
 
 -- ---- the output reference
 

@@ -1,5 +1,6 @@
 // A general-purpose timer by value: the Rust's periph/tim.rs, without its registers (crate regs). It knows nothing of
-// pins, lines or booking.
+// pins, lines or booking. Three facts stand in the contracts of many methods, since callers have plain numbers and a timer of any fields: a channel is
+// below 4, the length of its arrays; a cycle is below 2^63, so that sums of cycles fit; a timer is in its bounds (`Fit`, of which more at `Timer`).
 #![tactic(auto)]
 
 ghost use Rattle.std.specs.Prelude.{◌≡◌, Bool, true, false, cond, ◌&&◌, ℕ, ◌+◌, ◌-◌, ◌*◌, ◌/◌, ◌%◌, ◌<◌, ◌≤◌, min, eqb, get_or, set};
@@ -22,6 +23,19 @@ pub struct Inst {
     pub en_reg: u32,
     pub en_bit: u32,
     pub manual: bool,
+}
+
+impl Inst {
+    // The counter's largest value.
+    fn max(self) -> u32
+        ensures { result ≡ C.max_of self }
+    {
+        if self.width == 32 {
+            Timer::MAX32
+        } else {
+            Timer::MAX16
+        }
+    }
 }
 
 // The registers as written.
@@ -82,7 +96,23 @@ pub struct Ahead {
     pub next: Next,
 }
 
-// The next event with its cycle, or none when the timer is stopped or blocked.
+impl Ahead {
+    // The nearer of what is nearest so far and channel ch's compare, so many steps ahead. Compiled in as `steps_to` is.
+    #[inline(always)]
+    fn or_compare(self, steps: u64, ch: usize) -> Ahead
+        ensures { result ≡ nearer steps ch self }
+    {
+        if steps < self.steps {
+            return Ahead {
+                steps,
+                next: Next::Compare(ch),
+            };
+        }
+        self
+    }
+}
+
+// The next event with its cycle, or none when the timer is stopped or blocked. No Option of a pair: the definitions of every event name the two.
 #[derive(Clone, Copy)]
 pub enum Due {
     At(u64, Next),
@@ -166,7 +196,7 @@ impl Timer {
         requires { div ≤ 8192 }
         ensures { result ≡ C.reset_state inst div }
     {
-        let top = max_of(inst);
+        let top = inst.max();
         Timer {
             inst,
             regs: Regs {
@@ -213,7 +243,7 @@ impl Timer {
     pub fn max(self) -> u32
         ensures { result ≡ T.max self }
     {
-        max_of(self.inst)
+        self.inst.max()
     }
 
     pub fn down(self) -> bool
@@ -295,7 +325,8 @@ impl Timer {
     }
 
     // Re-bases the reference to the most recent counter step at or before now (keeps the sub-step phase), blocked to now. Quotient and remainder are
-    // one division.
+    // one division. It is compiled into its callers: called, with the timer in memory, a write of a compare takes half as long again.
+    #[inline(always)]
     pub fn sync(self, now: u64) -> Timer
         requires { (Fit self) × (now < 9223372036854775808) }
         ensures { result ≡ synced self now }
@@ -357,7 +388,9 @@ impl Timer {
         !self.chan.cc_done[ch] && self.is_output(ch)
     }
 
-    // Steps to a compare value that lies ahead of the counter: downward at or below it, upward from it to the reload.
+    // Steps to a compare value that lies ahead of the counter: downward at or below it, upward from it to the reload. Compiled in, with `or_compare`, where it is
+    // asked: on its own it is compiled to a number beside a flag, and a delivery with nothing due takes a twentieth longer.
+    #[inline(always)]
     fn steps_to(self, ccr: u32) -> Option<u32>
         ensures { result ≡ steps_to self ccr }
     {
@@ -380,7 +413,7 @@ impl Timer {
             return best;
         }
         match self.steps_to(self.chan.ccr_act[ch]) {
-            Some(steps) => nearer(steps as u64, ch, best),
+            Some(steps) => best.or_compare(u64::from(steps), ch),
             None => best,
         }
     }
@@ -446,36 +479,20 @@ impl Timer {
         ch < self.inst.channels as usize && self.count.arr_act < self.chan.ccr_act[ch]
     }
 
-    pub fn with_done(mut self, done: [bool; 4]) -> Timer
-        ensures { result ≡ C.with_done self done }
+    // Marks channels whose compare lies behind the counter as done for this period.
+    pub fn recompute_cc_done(mut self) -> Timer
+        ensures { result ≡ C.recomputed self }
     {
-        self.chan.cc_done = done;
+        self.chan.cc_done = std::array::from_fn(|ch: usize| self.is_done(ch));
         self
     }
 
-    // Marks channels whose compare lies behind the counter as done for this period. Four calls and no `array::from_fn`: tried, and the proof didn't
-    // close, there and below.
-    pub fn recompute_cc_done(self) -> Timer
-        ensures { result ≡ C.recomputed self }
-    {
-        self.with_done([
-            self.is_done(0),
-            self.is_done(1),
-            self.is_done(2),
-            self.is_done(3),
-        ])
-    }
-
     // After an update the counter restarts: every channel compares again, including a compare equal to the restart value.
-    pub fn recompute_cc_done_after_update(self) -> Timer
+    pub fn recompute_cc_done_after_update(mut self) -> Timer
         ensures { result ≡ C.recomputed_after_update self }
     {
-        self.with_done([
-            self.is_done_after_update(0),
-            self.is_done_after_update(1),
-            self.is_done_after_update(2),
-            self.is_done_after_update(3),
-        ])
+        self.chan.cc_done = std::array::from_fn(|ch: usize| self.is_done_after_update(ch));
+        self
     }
 
     // The output reference of channel ch at a count. By ranges: an arm for each mode is compiled to a table of jumps, in each of an event's channels.
@@ -513,6 +530,7 @@ impl Timer {
         level
     }
 
+    // A method and no store in place: it ends three chains.
     fn with_flag(mut self, flag: u32) -> Timer
         ensures { result ≡ C.with_flag self flag }
     {
@@ -560,13 +578,6 @@ impl Timer {
         self
     }
 
-    fn with_running(mut self, on: bool) -> Timer
-        ensures { result ≡ C.with_running self on }
-    {
-        self.count.running = on;
-        self
-    }
-
     // A pulse ends: one-pulse, unless UDIS goes first in manual mode.
     fn pulse_ends(self) -> bool
         ensures { result ≡ C.pulse_ends self }
@@ -607,7 +618,9 @@ impl Timer {
         self
     }
 
-    // Update event at cycle at: reload shadow registers, restart the period.
+    // Update event at cycle at: reload shadow registers, restart the period. It is compiled into the delivery's loop whole: with its parts compiled in one by
+    // one an event takes a tenth longer.
+    #[inline(always)]
     pub fn update(self, at: u64, div: u32) -> Timer
         requires { (Fit self) × (div ≤ 8192) }
         ensures { result ≡ C.updated self at div }
@@ -658,22 +671,18 @@ impl Timer {
         requires { (Fit self) × (now < 9223372036854775808) }
         ensures { result ≡ C.stopped self now }
     {
-        self.sync(now).with_running(false)
-    }
-
-    fn with_tick(mut self, tick: u32) -> Timer
-        ensures { result ≡ C.with_tick self tick }
-    {
-        self.count.tick = tick;
-        self
+        let mut t = self.sync(now);
+        t.count.running = false;
+        t
     }
 
     pub fn on_clock_change(self, now: u64, div: u32) -> Timer
         requires { (Fit self) × (now < 9223372036854775808) × (div ≤ 8192) }
         ensures { result ≡ C.retimed self now div }
     {
-        let tick = step_cycles(self.count.psc_act, div);
-        self.sync(now).with_tick(tick)
+        let mut retimed = self.sync(now);
+        retimed.count.tick = step_cycles(self.count.psc_act, div);
+        retimed
     }
 
     // The update that EGR's UG makes.
@@ -696,27 +705,4 @@ impl Timer {
         }
         self.with_flag(1)
     }
-}
-
-fn max_of(inst: Inst) -> u32
-    ensures { result ≡ C.max_of inst }
-{
-    if inst.width == 32 {
-        Timer::MAX32
-    } else {
-        Timer::MAX16
-    }
-}
-
-// The nearer of what is nearest so far and channel ch's compare, so many steps ahead.
-fn nearer(steps: u64, ch: usize, best: Ahead) -> Ahead
-    ensures { result ≡ nearer steps ch best }
-{
-    if steps < best.steps {
-        return Ahead {
-            steps,
-            next: Next::Compare(ch),
-        };
-    }
-    best
 }

@@ -8,7 +8,7 @@ use lib.Dec.{eqb, ltb, leb}
 use lib.Ieee.{Float}
 use lib.ListN.{length}
 use lib.Pow.{shr-shr}
-use borrow.Author.Tests.{le-leb, lt-leb, lt-ltb, le-ltb, leb-true, ltb-true, ltb-false, eqb-true, eqb-false, eq-eqb, ne_eqb}
+use borrow.Author.Tests.{le-leb, lt-leb, lt-ltb, le-ltb, ltb-false, eqb-true, eqb-false, eq-eqb, ne_eqb}
 use Rattle.tim.specs.declared.Timer.{Timer}
 use Rattle.tim.specs.declared.Inst.{Inst}
 use Rattle.rm0440.specs.Bits.{is_set}
@@ -21,20 +21,20 @@ use Rattle.gpio.specs.Gpio.{signal_of}
 use Rattle.sig.specs.Signal.{tim_signal}
 use Rattle.machine.specs.Board.{Board, timer_at, gpio_at, route_of, level_of}
 use Rattle.machine.specs.Call.{query_why}
-use Rattle.machine.specs.Step.{step, absent, cycle_astray}
-use Rattle.machine.specs.Sys.{driver}
+use Rattle.machine.specs.Step.{step, cycle_astray}
 use Rattle.machine.specs.Deliver.{due_by}
 use Rattle.machine.specs.Why.{channel_of, feeds, feeder_from, feeder, is_behind, timer_behind, is_alternate, is_off, is_held, counts_low, tests, reasons, first_true, why_low}
-use Rattle.machine.proofs.Whys.{feeder-found}
 use Rattle.state.specs.View.{view}
 use Rattle.state.proofs.InRange.{bounded}
 use Rattle.answer.specs.declared.Answer.{Answer}
 use Rattle.answer.specs.Promise.{answer, Answers}
 use Rattle.answer.proofs.Given.{away}
-use Rattle.std.proofs.Common.{Option, Some, None}
+use Rattle.std.specs.Prelude.{Option, Some, None, MatchOption}
 use Rattle.std.specs.Option.{unwrap_or}
 use Rattle.why.specs.declared.Reason.{Reason}
 use Rattle.why.specs.declared.Reason.TheVariants.{Unknown}
+use Rattle.why.specs.declared.channel.Feed.{Feed}
+use Rattle.why.specs.Fed.{index_or, IsFed}
 use Rattle.why.specs.Tests.{number_of, number_or, pin_tests, channel_tests}
 
 -- ---- the timer that feeds a signal
@@ -68,29 +68,6 @@ module _ (k : Inst) (s : ℕ) where
         pub feeds-at : s - (16 * (k.n + 10) + 2) < 4 → ltb (s - (16 * (k.n + 10) + 2)) k.channels ≡ feeds k s
         feeds-at h = sym (opened ∙ rw (lt-ltb (channel_of k s) 4 (omega (arith, offset)), sym offset))
 
--- what feeding says
-both : (a b : Bool) → (a && b) ≡ true → (a ≡ true) × (b ≡ true)
-both true b h = (refl, h)
-both false b h = (h, cc)
-
-pub record Fed (k : Inst) (s : ℕ) : Type 0 where
-  pub high : k.n ≤ 4
-  pub from : 16 * (k.n + 10) + 2 ≤ s
-  pub channel : channel_of k s < 4
-
-pub fed : (k : Inst) (s : ℕ) → feeds k s ≡ true → Fed k s
-unfolding feeds
-fed k s h =
-    let a = both (driver k.n) (leb (tim_signal k.n 0) s && (ltb (channel_of k s) 4 && ltb (channel_of k s) k.channels)) h in
-    let b = both (leb (tim_signal k.n 0) s) (ltb (channel_of k s) 4 && ltb (channel_of k s) k.channels) a.1 in
-    let c = both (ltb (channel_of k s) 4) (ltb (channel_of k s) k.channels) b.1 in
-    let d = both (leb 2 k.n) (leb k.n 4) a.0 in
-    record {
-      high = leb-true k.n 4 d.1;
-      from = omega (arith, leb-true (tim_signal k.n 0) s b.0);
-      channel = ltb-true (channel_of k s) 4 c.0;
-    }
-
 pub channel-is : (k : Inst) (s : ℕ) → s - (16 * (k.n + 10) + 2) ≡ channel_of k s
 channel-is k s = omega arith
 
@@ -104,12 +81,12 @@ module _ (b : Board) (s : ℕ) where
   unfolding feeder_from
   opened-at n i h = let one : n - i ≡ suc (n - (i + 1)) = omega arith in ap (λ (m : ℕ). feeder_from m i b s) one
 
-  pub from-here : (n i : ℕ) (k : Inst) (r : Bool) → i < n → k ≡ (timer_at b i).inst → r ≡ feeds k s → r ≡ true → i ≡ feeder_from (n - i) i b s
-  from-here n i k r h e f t = sym (opened-at n i h ∙ rw (sym (ap (λ (x : Inst). feeds x s) e) ∙ sym f ∙ t))
+  pub from-here : (n i : ℕ) (k : Inst) → i < n → k ≡ (timer_at b i).inst → feeds k s ≡ true → i ≡ feeder_from (n - i) i b s
+  from-here n i k h e t = sym (opened-at n i h ∙ rw (sym (ap (λ (x : Inst). feeds x s) e) ∙ t))
 
-  pub from_next : (n i : ℕ) (k : Inst) (r : Bool) → i < n → k ≡ (timer_at b i).inst → r ≡ feeds k s → r ≡ false
+  pub from_next : (n i : ℕ) (k : Inst) → i < n → k ≡ (timer_at b i).inst → feeds k s ≡ false
       → feeder_from (n - (i + 1)) (i + 1) b s ≡ feeder_from (n - i) i b s
-  from_next n i k r h e f t = sym (opened-at n i h ∙ rw (sym (ap (λ (x : Inst). feeds x s) e) ∙ sym f ∙ t))
+  from_next n i k h e t = sym (opened-at n i h ∙ rw (sym (ap (λ (x : Inst). feeds x s) e) ∙ t))
 
   pub from_end : (n i : ℕ) → n ≤ i → i ≤ n → n ≡ feeder_from (n - i) i b s
   unfolding feeder_from
@@ -117,12 +94,10 @@ module _ (b : Board) (s : ℕ) where
 
 -- ---- a timer's event is due
 
-module _ (b : Board) (i cycle n : ℕ) (count : n ≡ b.counts.timers) where
-  pub behind-none : n ≤ i → false ≡ timer_behind b i cycle
-  behind-none h = rw (le-ltb i b.counts.timers (omega (arith, count, h)))
-
-  pub behind-due : (t : Timer) (r : Bool) → i < n → t ≡ timer_at b i → r ≡ due_by (next_event t) cycle → r ≡ timer_behind b i cycle
-  behind-due t r h load due = rw (lt-ltb i b.counts.timers (omega (arith, count, h))) (due ∙ ap (λ (u : Timer). due_by (next_event u) cycle) load)
+pub behind : (b : Board) (s cycle : ℕ) (f : Option Feed) (late : Bool) → IsFed b s f
+    → MatchOption f (late ≡ false) (λ y. late ≡ due_by (next_event (timer_at b y.timer.n)) cycle) → late ≡ timer_behind b (index_or b.counts.timers f) cycle
+behind b s cycle None late h m = rw (le-ltb b.counts.timers b.counts.timers (omega arith)) m
+behind b s cycle (Some f) late h m = rw (lt-ltb f.timer.n b.counts.timers h.0) m
 
 -- ---- bits and levels
 
@@ -312,36 +287,25 @@ module _ (b : Board) (g : Gpio) (p s i cycle level first : ℕ) (driven : level 
     pub reason-plain : (g.cfg.mode ≡ 2 → ⊥) → 10 ≡ reason_of b g p s i cycle (level_of b.pads s)
     reason-plain m = plain-ten g (level_of b.pads s) (ltb i b.counts.timers) (eqb (route_of b.pads s) p) (timer_at b i) (channel_of (timer_at b i).inst s) cycle first pinned none (ne_eqb g.cfg.mode 2 m)
 
-    module _ (mode : g.cfg.mode ≡ 2) (n : ℕ) (count : n ≡ b.counts.timers) where
-      pub reason-unfed : n ≤ i → 5 ≡ reason_of b g p s i cycle (level_of b.pads s)
+    module _ (mode : g.cfg.mode ≡ 2) where
+      pub reason-unfed : b.counts.timers ≤ i → 5 ≡ reason_of b g p s i cycle (level_of b.pads s)
       reason-unfed h =
-          unfed-five g (level_of b.pads s) (ltb i b.counts.timers) (eqb (route_of b.pads s) p) (timer_at b i) (channel_of (timer_at b i).inst s) cycle first pinned none (eq-eqb g.cfg.mode 2 mode) (le-ltb i b.counts.timers (omega (arith, count, h)))
+          unfed-five g (level_of b.pads s) (ltb i b.counts.timers) (eqb (route_of b.pads s) p) (timer_at b i) (channel_of (timer_at b i).inst s) cycle first pinned none (eq-eqb g.cfg.mode 2 mode) (le-ltb i b.counts.timers h)
 
-      module _ (h : i < n) (r : ℕ) (route : r ≡ route_of b.pads s) where
-        fed-here : ltb i b.counts.timers ≡ true
-        fed-here = lt-ltb i b.counts.timers (omega (arith, count, h))
-
-        pub reason-unrouted : (r ≡ p → ⊥) → 6 ≡ reason_of b g p s i cycle (level_of b.pads s)
+      module _ (h : i < b.counts.timers) where
+        pub reason-unrouted : eqb (route_of b.pads s) p ≡ false → 6 ≡ reason_of b g p s i cycle (level_of b.pads s)
         reason-unrouted u =
-            unrouted-six g (level_of b.pads s) (ltb i b.counts.timers) (eqb (route_of b.pads s) p) (timer_at b i) (channel_of (timer_at b i).inst s) cycle first pinned none (eq-eqb g.cfg.mode 2 mode) fed-here
-            (ne_eqb (route_of b.pads s) p (λ z. u (route ∙ z)))
+            unrouted-six g (level_of b.pads s) (ltb i b.counts.timers) (eqb (route_of b.pads s) p) (timer_at b i) (channel_of (timer_at b i).inst s) cycle first pinned none (eq-eqb g.cfg.mode 2 mode) (lt-ltb i b.counts.timers h) u
 
-        pub reason-channel : r ≡ p → (t : Timer) → t ≡ timer_at b i → (ch : ℕ) → ch ≡ channel_of t.inst s → (v : ℕ)
+        pub reason-channel : eqb (route_of b.pads s) p ≡ true → (t : Timer) → t ≡ timer_at b i → (ch : ℕ) → ch ≡ channel_of (timer_at b i).inst s → (v : ℕ)
             → v ≡ first_true (channel_tests t ch level cycle) → 7 + v ≡ reason_of b g p s i cycle (level_of b.pads s)
         reason-channel u t load ch channel v e =
-            channel-seven g (level_of b.pads s) (ltb i b.counts.timers) (eqb (route_of b.pads s) p) (timer_at b i) (channel_of (timer_at b i).inst s) cycle first pinned none (eq-eqb g.cfg.mode 2 mode) fed-here
-            (eq-eqb (route_of b.pads s) p (sym route ∙ u)) v
+            channel-seven g (level_of b.pads s) (ltb i b.counts.timers) (eqb (route_of b.pads s) p) (timer_at b i) (channel_of (timer_at b i).inst s) cycle first pinned none (eq-eqb g.cfg.mode 2 mode) (lt-ltb i b.counts.timers h)
+            u v
             (e ∙ ap (λ (l : ℕ). first_true (channel_tests t ch l cycle)) driven ∙ ap (λ (c : ℕ). first_true (channel_tests t c (level_of b.pads s) cycle)) channel
-            ∙ ap (λ (k : Timer). first_true (channel_tests k (channel_of k.inst s) (level_of b.pads s) cycle)) load)
+            ∙ ap (λ (k : Timer). first_true (channel_tests k (channel_of (timer_at b i).inst s) (level_of b.pads s) cycle)) load)
 
 -- ---- what the callees ask
-
-pub fed-loaded : (b : Board) (i s : ℕ) (t : Timer) → t ≡ timer_at b i → feeds (timer_at b i).inst s ≡ true → feeds t.inst s ≡ true
-fed-loaded b i s t e h = ap (λ (k : Timer). feeds k.inst s) e ∙ h
-
--- the timer that `feeder` found feeds the signal
-pub fed-feeder : (b : Board) (s i : ℕ) → i ≡ feeder b s → i < b.counts.timers → feeds (timer_at b i).inst s ≡ true
-fed-feeder b s i e h = rw e ((feeder-found b s).feeding (omega (arith, e, h)))
 
 pub gpio-small : (w : List ℕ) (x : List Float) (p : ℕ) (g : Gpio) → g ≡ gpio_at (view w x).pads p → g.sig < 256
 gpio-small w x p g e = rw e ((bounded w x).gpio-fit p).sig
@@ -356,14 +320,11 @@ in-time b cycle t e h = omega (arith, ltb-false 4611686018427387904 cycle (neith
 -- ---- the query
 
 module _ (w : List ℕ) (x : List Float) (pin cycle : ℕ) (r : Answer) where
-  pub no_pin_lem : (n : ℕ) → n ≡ (view w x).counts.pins → n ≤ pin → r ≡ answer 2 0 0 → Answers (step (view w x) (query_why pin cycle)) r w w x x
+  pub no_pin_lem : leb (view w x).counts.pins pin ≡ true → r ≡ answer 2 0 0 → Answers (step (view w x) (query_why pin cycle)) r w w x x
   unfolding step
-  no_pin_lem n k h e = away w x _ 2 (rw (le-leb (view w x).counts.pins pin (omega (arith, k, h)))) r e
+  no_pin_lem h e = away w x _ 2 (rw h) r e
 
-  module _ (n : ℕ) (count : n ≡ (view w x).counts.pins) (there : pin < n) where
-    here : absent pin (view w x).counts.pins ≡ false
-    here = lt-leb (view w x).counts.pins pin (omega (arith, count, there))
-
+  module _ (here : leb (view w x).counts.pins pin ≡ false) where
     module _ (t : Bool) (astray : t ≡ cycle_astray (view w x) cycle) where
       pub no-time : t ≡ true → r ≡ answer 5 0 0 → Answers (step (view w x) (query_why pin cycle)) r w w x x
       unfolding step

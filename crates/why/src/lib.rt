@@ -1,7 +1,9 @@
 // Why a pin is low (document 02, F-12): the first true of the reasons of crates/machine/specs/Why.antt. A query: nothing changes.
 #![tactic(auto)]
 
-ghost use Rattle.std.specs.Prelude.{◌≡◌, true, List, ◌+◌, ◌<◌, eqb, ltb, Float, IfSome};
+mod channel;
+
+ghost use Rattle.std.specs.Prelude.{◌≡◌, true, false, List, ◌+◌, ◌<◌, eqb, ltb, Float, IfSome, MatchOption};
 ghost use Rattle.tim.specs.Timer.{Fit};
 ghost use Rattle.tim.specs.Next.{next_event};
 ghost use Rattle.machine.specs.Board.{timer_at, route_of, level_of};
@@ -13,11 +15,13 @@ ghost use Rattle.answer.specs.Promise.{Tells};
 ghost use Rattle.answer.specs.Refused.{told};
 ghost use Rattle.state.specs.Lent.{seen_board};
 ghost use Rattle.state.specs.View.{view};
+ghost use Rattle.why.specs.Fed.{index_or, IsFed};
 ghost use Rattle.why.specs.Tests.{number_of, number_or, pin_tests, channel_tests};
 
 use answer::{Answer, Refusal};
+use channel::Feed;
 use gpio::{Gpio, PinCfg};
-use state::{SeenBoard, WORDS};
+use state::{PinIndex, SeenBoard, TimerIndex, WORDS};
 use tim::{Due, Inst, Timer};
 
 // ---- the reasons
@@ -49,48 +53,43 @@ impl Reason {
 
 // ---- the timer
 
-// Signal s is that of a channel of a timer that drives.
-fn feeds(k: Inst, s: u32) -> bool
-    ensures { result ≡ W.feeds k s }
+// The channel of a timer that drives whose signal s is, if it is one's.
+fn channel_of(k: Inst, s: u32) -> Option<usize>
+    ensures { MatchOption result (W.feeds k s ≡ false) (λ ch. (W.feeds k s ≡ true) × ((ch ≡ W.channel_of k s) × (ch < 4))) }
 {
     if k.n < 2 {
-        return false;
+        return None;
     }
     if k.n > 4 {
-        return false;
+        return None;
     }
     let first = 16 * (k.n + 10) + 2;
     if s < first {
-        return false;
+        return None;
     }
     let ch = s - first;
     if ch >= 4 {
-        return false;
+        return None;
     }
-    ch < k.channels
+    if ch >= k.channels {
+        return None;
+    }
+    Some(ch as usize)
 }
 
-// Which channel.
-fn channel_of(k: Inst, s: u32) -> usize
-    requires { W.feeds k s ≡ true }
-    ensures value { result ≡ W.channel_of k s }
-    ensures upper_bound { result < 4 }
-{
-    let first = 16 * (k.n + 10) + 2;
-    (s - first) as usize
-}
-
-// The timer that feeds signal s, by its index; the number of timers where none does.
-fn feeder(words: &[u64; WORDS], s: u32) -> usize
-    ensures { (x : List Float) → result ≡ W.feeder (view words.now x) s }
+// The timer that feeds signal s, if one does.
+fn feeder(words: &[u64; WORDS], s: u32) -> Option<Feed>
+    ensures timer { (x : List Float) → index_or (view words.now x).counts.timers result ≡ W.feeder (view words.now x) s }
+    ensures channel { (x : List Float) → IsFed (view words.now x) s result }
 {
     let n = state::timer_count(words);
     for i in 0..n {
-        if feeds(fields::inst(words, i), s) {
-            return i;
+        let timer = TimerIndex { n: i };
+        if let Some(channel) = channel_of(fields::inst(words, timer), s) {
+            return Some(Feed { timer, channel });
         }
     }
-    n
+    None
 }
 
 // An event of the timer is due at or before a cycle.
@@ -104,15 +103,14 @@ fn is_due(t: Timer, cycle: u64) -> bool
     }
 }
 
-// The timer of that index, if there is one, has an event due.
-fn is_behind(words: &[u64; WORDS], i: usize, cycle: u64) -> bool
-    ensures { (x : List Float) → result ≡ W.timer_behind (view words.now x) i cycle }
+// The timer that feeds a signal, if there is one, has an event due.
+fn is_behind(words: &[u64; WORDS], feeder: Option<Feed>, cycle: u64) -> bool
+    ensures { (x : List Float) → MatchOption feeder (result ≡ false) (λ f. result ≡ due_by (next_event (timer_at (view words.now x) f.timer.n)) cycle) }
 {
-    if state::timer_count(words) <= i {
-        return false;
+    match feeder {
+        Some(f) => is_due(state::load_timer(words, f.timer), cycle),
+        None => false,
     }
-    let t = state::load_timer(words, i);
-    is_due(t, cycle)
 }
 
 // ---- the pin
@@ -229,10 +227,26 @@ fn of_channel(t: Timer, ch: usize, level: u8, cycle: u64) -> Option<Reason>
 
 // ---- the reason
 
-// Of pin p, as g, with the selected signal s, which timer i feeds if there is one of that index.
-fn first_reason(words: &[u64; WORDS], p: usize, g: Gpio, s: u32, i: usize, cycle: u64) -> Reason
-    requires { (g.sig < 65536) × ((s < 256) × ((cycle < 9223372036854775808) × ((x : List Float) → i < (view words.now x).counts.timers → W.feeds (timer_at (view words.now x) i).inst s ≡ true))) }
-    ensures { (x : List Float) → number_of result ≡ W.first_true (W.tests g (level_of (view words.now x).pads s) (ltb i (view words.now x).counts.timers) (eqb (route_of (view words.now x).pads s) p) (timer_at (view words.now x) i) (W.channel_of (timer_at (view words.now x) i).inst s) cycle) }
+// Pin p routes signal s.
+fn is_routed(words: &[u64; WORDS], s: u32, p: PinIndex) -> bool
+    requires { s < 256 }
+    ensures { (x : List Float) → result ≡ eqb (route_of (view words.now x).pads s) p.n }
+{
+    state::route(words, s as usize).is_some_and(|r| r.n == p.n)
+}
+
+// Of pin p, as g, with the selected signal s, and the timer that feeds it if one does.
+fn first_reason(
+    words: &[u64; WORDS],
+    p: PinIndex,
+    g: Gpio,
+    s: u32,
+    feeder: Option<Feed>,
+    cycle: u64,
+) -> Reason
+    requires bounds { (g.sig < 65536) × (s < 256) × (cycle < 9223372036854775808) }
+    requires fed { (x : List Float) → IsFed (view words.now x) s feeder }
+    ensures { (x : List Float) → number_of result ≡ W.first_true (W.tests g (level_of (view words.now x).pads s) (ltb (index_or (view words.now x).counts.timers feeder) (view words.now x).counts.timers) (eqb (route_of (view words.now x).pads s) p.n) (timer_at (view words.now x) (index_or (view words.now x).counts.timers feeder)) (W.channel_of (timer_at (view words.now x) (index_or (view words.now x).counts.timers feeder)).inst s) cycle) }
 {
     let level = state::sig_level(words, s as usize);
     if let Some(first) = of_pin(g, level) {
@@ -241,15 +255,14 @@ fn first_reason(words: &[u64; WORDS], p: usize, g: Gpio, s: u32, i: usize, cycle
     if g.cfg.mode != 2 {
         return Reason::Unknown;
     }
-    if state::timer_count(words) <= i {
+    let Some(f) = feeder else {
         return Reason::Unfed;
-    }
-    if state::route(words, s as usize) != p {
+    };
+    if !is_routed(words, s, p) {
         return Reason::Unrouted;
     }
-    let t = state::load_timer(words, i);
-    let ch = channel_of(t.inst, s);
-    of_channel(t, ch, level, cycle).unwrap_or(Reason::Unknown)
+    let t = state::load_timer(words, f.timer);
+    of_channel(t, f.channel, level, cycle).unwrap_or(Reason::Unknown)
 }
 
 // ---- the query
@@ -258,19 +271,16 @@ fn first_reason(words: &[u64; WORDS], p: usize, g: Gpio, s: u32, i: usize, cycle
 pub fn why(board: SeenBoard<'_>, pin: u32, cycle: u64) -> Result<Answer, Refusal>
     ensures { Tells (step (seen_board board.entry) (C.query_why pin cycle)) (told result) board.entry }
 {
-    let p = pin as usize;
-    if state::pin_count(board.words) <= p {
-        return Err(Refusal::NoSuchIndex);
-    }
+    let p = state::pin(board.words, pin).ok_or(Refusal::NoSuchIndex)?;
     if answer::is_astray(board.words, cycle) {
         return Err(Refusal::ClockAstray);
     }
     let g = board.load_gpio(p);
     let s = gpio::signal_of(g);
-    let i = feeder(board.words, s);
-    if is_behind(board.words, i, cycle) {
+    let source = feeder(board.words, s);
+    if is_behind(board.words, source, cycle) {
         return Err(Refusal::EventsDue);
     }
-    let r = first_reason(board.words, p, g, s, i, cycle);
+    let r = first_reason(board.words, p, g, s, source, cycle);
     Ok(answer::served(r.number()))
 }

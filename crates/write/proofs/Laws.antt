@@ -232,6 +232,13 @@ compare-line : (t : Timer) (ch v cycle : ℕ) → (R.ccr_written t ch v cycle).l
 unfolding R.ccr_written
 compare-line t ch v cycle = either (λ (w : Written). w.line ≡ false) (Out.OCxPE (ccmr_byte t ch)) refl refl
 
+-- the count is looked at only where the outputs are driven
+at_count_lem : (b : Board) (i cycle cnt cnt₁ : ℕ) (driven lined booked : Bool) → (driven ≡ true → cnt ≡ cnt₁)
+    → after b i cycle (cond driven (Some cnt) None) lined booked ≡ after b i cycle (cond driven (Some cnt₁) None) lined booked
+unfolding followed
+at_count_lem b i cycle cnt cnt₁ true lined booked h = ap (λ (n : ℕ). after b i cycle (Some n) lined booked) (h refl)
+at_count_lem b i cycle cnt cnt₁ false lined booked h = refl
+
 -- a compare that waits: nothing follows
 pub waits-follow : (b b₁ : Board) (i cycle : ℕ) (k : Book) → b₁ ≡ with_last b cycle → Leaves (after b i cycle None false false) b₁ k k
 unfolding followed puts

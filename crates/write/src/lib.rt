@@ -18,13 +18,14 @@ ghost use Rattle.write.specs.Writes.{written, written_by, written_on};
 
 use answer::{Answer, Refusal};
 use book::LentBook;
-use state::{LentBoard, WORDS};
+use fields::Reg;
+use state::{LentBoard, TimerIndex, WORDS};
 use tim::Timer;
 
 // The register's present value, 0 for EGR.
-fn present(words: &[u64; WORDS], i: usize, off: u32, cycle: u64) -> u32
-    requires { (i < 8) × (register off ≡ off) × (cycle < 9223372036854775808) }
-    ensures { (x : List Float) → result ≡ present (timer_at (view words.now x) i) off cycle }
+fn present(words: &[u64; WORDS], i: TimerIndex, off: u32, cycle: u64) -> u32
+    requires { (register off ≡ off) × (cycle < 9223372036854775808) }
+    ensures { (x : List Float) → result ≡ present (timer_at (view words.now x) i.n) off cycle }
 {
     if off == 0x14 {
         return 0;
@@ -33,9 +34,16 @@ fn present(words: &[u64; WORDS], i: usize, off: u32, cycle: u64) -> u32
 }
 
 // The lane merged into its register. A whole write needs no present value.
-fn merged(words: &[u64; WORDS], i: usize, offset: u32, size: u32, value: u32, cycle: u64) -> u32
-    requires { (i < 8) × (size ≤ 4) × (cycle < 9223372036854775808) }
-    ensures { (x : List Float) → result ≡ lane_write (present (timer_at (view words.now x) i) (register offset) cycle) offset size value }
+fn merged(
+    words: &[u64; WORDS],
+    i: TimerIndex,
+    offset: u32,
+    size: u32,
+    value: u32,
+    cycle: u64,
+) -> u32
+    requires { (size ≤ 4) × (cycle < 9223372036854775808) }
+    ensures { (x : List Float) → result ≡ lane_write (present (timer_at (view words.now x) i.n) (register offset) cycle) offset size value }
 {
     if size == 4 {
         return value;
@@ -57,18 +65,18 @@ fn counter_astray(off: u32, t: Timer) -> bool
 fn write_timer(
     board: &mut LentBoard<'_>,
     book: &mut LentBook<'_>,
-    i: usize,
+    i: TimerIndex,
     off: u32,
     v: u32,
     cycle: u64,
 ) -> Result<(), Refusal>
-    requires timer { (i < 8) × (cycle ≤ 4611686018427387904) }
+    requires cycle { cycle ≤ 4611686018427387904 }
     requires empty { book.old.count ≡ 0 }
     requires room { Room 4 (slices_of book.old) }
     ensures same_loan { SameLoan board.old board.new }
     ensures same_slices { SameSlices book.old book.new }
-    ensures answers { AnswersLent (written_by (lent_board board.old) i off v cycle) (written result book.new.count) board.old board.new }
-    ensures holds { Holds (written_by (lent_board board.old) i off v cycle).entries (slices_of book.old) (slices_of book.new) (written result book.new.count).count }
+    ensures answers { AnswersLent (written_by (lent_board board.old) i.n off v cycle) (written result book.new.count) board.old board.new }
+    ensures holds { Holds (written_by (lent_board board.old) i.n off v cycle).entries (slices_of book.old) (slices_of book.new) (written result book.new.count).count }
     ensures at_most_four { book.new.count ≤ 4 }
 {
     let t = state::load_timer(board.words, i);
@@ -89,17 +97,17 @@ fn write_timer(
 fn write_cr1(
     board: &mut LentBoard<'_>,
     book: &mut LentBook<'_>,
-    i: usize,
+    i: TimerIndex,
     v: u32,
     cycle: u64,
 ) -> Result<(), Refusal>
-    requires timer { (i < 8) × (cycle ≤ 4611686018427387904) }
+    requires cycle { cycle ≤ 4611686018427387904 }
     requires empty { book.old.count ≡ 0 }
     requires room { Room 4 (slices_of book.old) }
     ensures same_loan { SameLoan board.old board.new }
     ensures same_slices { SameSlices book.old book.new }
-    ensures answers { AnswersLent (written_by (lent_board board.old) i 0 v cycle) (written result book.new.count) board.old board.new }
-    ensures holds { Holds (written_by (lent_board board.old) i 0 v cycle).entries (slices_of book.old) (slices_of book.new) (written result book.new.count).count }
+    ensures answers { AnswersLent (written_by (lent_board board.old) i.n 0 v cycle) (written result book.new.count) board.old board.new }
+    ensures holds { Holds (written_by (lent_board board.old) i.n 0 v cycle).entries (slices_of book.old) (slices_of book.new) (written result book.new.count).count }
     ensures at_most_four { book.new.count ≤ 4 }
 {
     if regfile::write_cr1(board.words, i, v, cycle) {
@@ -112,23 +120,21 @@ fn write_cr1(
 
 // DIER: the interrupt line follows.
 #[inline(always)]
-fn write_dier(words: &mut [u64; WORDS], i: usize, v: u32, cycle: u64)
-    requires { i < 8 }
-    ensures { (x : List Float) → Answers (written_by (view words.old x) i 12 v cycle) (answer 0 0 0) words.old words.new x x }
+fn write_dier(words: &mut [u64; WORDS], i: TimerIndex, v: u32, cycle: u64)
+    ensures { (x : List Float) → Answers (written_by (view words.old x) i.n 12 v cycle) (answer 0 0 0) words.old words.new x x }
 {
-    fields::set_reg(words, i, 3, v & regs::kept(3));
+    fields::set_reg(words, i, Reg::Dier, v & regs::kept(3));
     context::settle_line_at(words, i);
     state::set_last(words, cycle);
 }
 
 // SR: the interrupt line follows.
 #[inline(always)]
-fn write_sr(words: &mut [u64; WORDS], i: usize, v: u32, cycle: u64)
-    requires { i < 8 }
-    ensures { (x : List Float) → Answers (written_by (view words.old x) i 16 v cycle) (answer 0 0 0) words.old words.new x x }
+fn write_sr(words: &mut [u64; WORDS], i: TimerIndex, v: u32, cycle: u64)
+    ensures { (x : List Float) → Answers (written_by (view words.old x) i.n 16 v cycle) (answer 0 0 0) words.old words.new x x }
 {
     let t = state::load_timer(words, i);
-    fields::set_reg(words, i, 4, regs::kept_sr(t.regs.sr, v));
+    fields::set_reg(words, i, Reg::Sr, regs::kept_sr(t.regs.sr, v));
     context::settle_line_at(words, i);
     state::set_last(words, cycle);
 }
@@ -139,18 +145,19 @@ fn write_sr(words: &mut [u64; WORDS], i: usize, v: u32, cycle: u64)
 fn write_compare(
     board: &mut LentBoard<'_>,
     book: &mut LentBook<'_>,
-    i: usize,
+    i: TimerIndex,
     off: u32,
     v: u32,
     cycle: u64,
 ) -> Result<(), Refusal>
-    requires timer { (i < 8) × (R.is_ccr off ≡ true) × (cycle < 9223372036854775808) }
+    requires register { R.is_ccr off ≡ true }
+    requires cycle { cycle < 9223372036854775808 }
     requires empty { book.old.count ≡ 0 }
     requires room { Room 4 (slices_of book.old) }
     ensures same_loan { SameLoan board.old board.new }
     ensures same_slices { SameSlices book.old book.new }
-    ensures answers { AnswersLent (written_by (lent_board board.old) i off v cycle) (written result book.new.count) board.old board.new }
-    ensures holds { Holds (written_by (lent_board board.old) i off v cycle).entries (slices_of book.old) (slices_of book.new) (written result book.new.count).count }
+    ensures answers { AnswersLent (written_by (lent_board board.old) i.n off v cycle) (written result book.new.count) board.old board.new }
+    ensures holds { Holds (written_by (lent_board board.old) i.n off v cycle).entries (slices_of book.old) (slices_of book.new) (written result book.new.count).count }
     ensures at_most_four { book.new.count ≤ 4 }
 {
     let t = fields::inst(board.words, i);
@@ -177,19 +184,20 @@ fn write_compare(
 fn write_on(
     board: &mut LentBoard<'_>,
     book: &mut LentBook<'_>,
-    i: usize,
+    i: TimerIndex,
     offset: u32,
     size: u32,
     value: u32,
     cycle: u64,
 ) -> Result<(), Refusal>
-    requires timer { (i < 8) × (size ≤ 4) × (cycle ≤ 4611686018427387904) }
+    requires size { size ≤ 4 }
+    requires cycle { cycle ≤ 4611686018427387904 }
     requires empty { book.old.count ≡ 0 }
     requires room { Room 4 (slices_of book.old) }
     ensures same_loan { SameLoan board.old board.new }
     ensures same_slices { SameSlices book.old book.new }
-    ensures answers { AnswersLent (written_on (lent_board board.old) i offset size value cycle) (written result book.new.count) board.old board.new }
-    ensures holds { Holds (written_on (lent_board board.old) i offset size value cycle).entries (slices_of book.old) (slices_of book.new) (written result book.new.count).count }
+    ensures answers { AnswersLent (written_on (lent_board board.old) i.n offset size value cycle) (written result book.new.count) board.old board.new }
+    ensures holds { Holds (written_on (lent_board board.old) i.n offset size value cycle).entries (slices_of book.old) (slices_of book.new) (written result book.new.count).count }
     ensures at_most_four { book.new.count ≤ 4 }
 {
     let off = offset / 4 * 4;
@@ -226,8 +234,7 @@ pub fn write(
     ensures holds { Holds (step (lent_board board.old) (Call.write timer offset size value cycle (places (slices_of book.old)))).entries (slices_of book.old) (slices_of book.new) (told result).count }
 {
     book.count = 0;
-    answer::check_timer_and_book(board.words, timer, size, cycle, book)?;
-    let i = timer as usize;
+    let i = answer::check_timer_and_book(board.words, timer, size, cycle, book)?;
     if !context::clock_on(board.words, i) {
         state::set_last(board.words, cycle);
         return Ok(answer::served(0));

@@ -14,4 +14,4 @@ returns c =
     let s : g.sig % 256 ≡ g.sig = omega arith in
     let l = level-back g.pin.level (source_number g.pin.source) (omega arith) in
     let k = source-back g.pin.level g.pin.source (omega arith) in
-    simp (c.pack_cfg-cfg.ensures, c.pack_mcu-mcu.ensures, c.ext_code-ext.ensures, c.number.ensures, drive, s, l, k)
+    simp (c.pack_cfg-cfg.ensures, c.pack_mcu-mcu.ensures, c.ext_code-ext.ensures, c.level_word.ensures, drive, s, l, k)

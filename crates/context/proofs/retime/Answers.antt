@@ -4,16 +4,13 @@ use Rattle.context.proofs.Small.{loaded-fit, of-eight, retimed-fit}
 use Rattle.context.proofs.retime.Goals as goal
 
 pub on_clock_change-s-requires : goal.on_clock_change-s-requires
-on_clock_change-s-requires c = ((loaded-fit c.args.board.now.words.now c.args.board.now.reals.now c.args.i _ (c.load_timer-t.ensures c.args.board.now.reals.now)), c.requires.1, c.divider-div.ensures.lower_bound.1)
+on_clock_change-s-requires c = ((loaded-fit c.args.board.now.words.now c.args.board.now.reals.now c.args.i.n _ (c.load_timer-t.ensures c.args.board.now.reals.now)), c.requires, c.divider-div.ensures.range.1)
 
 pub store_timer-requires : goal.store_timer-requires
-store_timer-requires c = (c.requires.0, (retimed-fit _ _ c.args.cycle _ (loaded-fit c.args.board.now.words.now c.args.board.now.reals.now c.args.i _ (c.load_timer-t.ensures c.args.board.now.reals.now)) c.on_clock_change-s.ensures c.requires.1 c.divider-div.ensures.lower_bound.0 c.divider-div.ensures.lower_bound.1))
-
-pub rebook-requires : goal.rebook-requires
-rebook-requires c = c.requires.0
+store_timer-requires c = (retimed-fit _ _ c.args.cycle _ (loaded-fit c.args.board.now.words.now c.args.board.now.reals.now c.args.i.n _ (c.load_timer-t.ensures c.args.board.now.reals.now)) c.on_clock_change-s.ensures c.requires c.divider-div.ensures.range.0 c.divider-div.ensures.range.1)
 
 pub returns-then-s-clause-board : goal.returns-then-s-clause-board
-returns-then-s-clause-board c = retimed-running _ _ c.args.i c.args.cycle _ _ _ (c.load_timer-t.ensures c.args.board.now.reals.now) (rw (c.seen.ensures.words, c.seen.ensures.reals) at c.divider-div.ensures.value) c.on_clock_change-s.ensures (c.store_timer.ensures c.args.board.now.reals.now) _ (of-eight c.args.board.now.words.now c.args.board.now.reals.now c.args.i c.requires.0) c.if-s.true (c.rebook.ensures c.args.board.now.reals.now)
+returns-then-s-clause-board c = retimed-running _ _ c.args.i.n c.args.cycle _ _ _ (c.load_timer-t.ensures c.args.board.now.reals.now) (rw (c.seen.ensures.words, c.seen.ensures.reals) at c.divider-div.ensures.divider) c.on_clock_change-s.ensures (c.store_timer.ensures c.args.board.now.reals.now) _ (of-eight c.args.board.now.words.now c.args.board.now.reals.now c.args.i.n c.args.i.below) c.if-s.true (c.rebook.ensures c.args.board.now.reals.now)
 
 pub returns-else-s-clause-board : goal.returns-else-s-clause-board
-returns-else-s-clause-board c = retimed-stopped _ _ c.args.i c.args.cycle _ _ _ (c.load_timer-t.ensures c.args.board.now.reals.now) (rw (c.seen.ensures.words, c.seen.ensures.reals) at c.divider-div.ensures.value) c.on_clock_change-s.ensures (c.store_timer.ensures c.args.board.now.reals.now) c.if-s.false
+returns-else-s-clause-board c = retimed-stopped _ _ c.args.i.n c.args.cycle _ _ _ (c.load_timer-t.ensures c.args.board.now.reals.now) (rw (c.seen.ensures.words, c.seen.ensures.reals) at c.divider-div.ensures.divider) c.on_clock_change-s.ensures (c.store_timer.ensures c.args.board.now.reals.now) c.if-s.false

@@ -11,8 +11,8 @@ use Rattle.context.proofs.retime_all.Goals as goal
 pub loop-i-init : goal.loop-i-init
 loop-i-init c = (all_start _ c.args.cycle (lent_board c.args.board.now), record { words = refl; reals = refl })
 
-pub retime-requires : goal.retime-requires
-retime-requires c = (omega (arith, c.loop-i-test.true, c.timer_count-n.ensures c.args.board.now.reals.now, (bounded c.args.board.now.words.now c.args.board.now.reals.now).timers-le), c.requires)
+pub invariant_of-timer : goal.invariant_of-timer
+invariant_of-timer c = record { below = omega (arith, c.loop-i-test.true, c.timer_count-n.ensures c.args.board.now.reals.now, (bounded c.args.board.now.words.now c.args.board.now.reals.now).timers-le) }
 
 pub loop-i-preserved : goal.loop-i-preserved
 loop-i-preserved c = (all-step _ c.loop-i.i c.args.cycle _ _ c.loop-i-test.true c.retime.ensures.board ∙ c.loop-i.invariant.0, search rules)

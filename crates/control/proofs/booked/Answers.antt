@@ -1,16 +1,17 @@
--- By the number of timers.
+-- No such timer, or the timer's booking.
 use Rattle.control.proofs.Laws.{no-timer, booked-told}
-use Rattle.state.proofs.InRange.{bounded}
-use native.Mathlib.Omega.{arith}
-use mathlib.Core.List.{[]}
+use Rattle.state.proofs.Asked.{found, missing}
+use Rattle.std.proofs.lemmas.Result.{err_from_is_err_and}
 use mathlib.Core.Path.{refl}
 use Rattle.control.proofs.booked.Goals as goal
 
-pub returns-then-timer_count-t : goal.returns-then-timer_count-t
-returns-then-timer_count-t c = λ x. no-timer _ _ _ _ _ (c.timer_count.ensures x) c.if-timer_count-t.true refl
-
-pub booked-cycle-requires : goal.booked-cycle-requires
-booked-cycle-requires c = omega (arith, c.if-timer_count-t.false, c.timer_count.ensures [], (bounded c.args.words.now []).timers-le)
+pub returns-in_err-i : goal.returns-in_err-i
+returns-in_err-i c =
+    λ x. let p = err_from_is_err_and c.from_residual.result c.from_residual.ensures.1 in
+    let q = missing _ _ _ _ _ (c.timer.ensures x) c.ok_or.ensures.value c.in_err-i.was in
+    rw (p.1, p.2, q.0) (no-timer _ _ _ _ q.1 refl)
 
 pub returns : goal.returns
-returns c = λ x. booked-told _ _ _ _ _ _ (c.timer_count.ensures x) c.if-timer_count-t.false (c.booked-cycle.ensures x) c.served.ensures
+returns c =
+    λ x. let q = found _ _ _ _ _ (c.timer.ensures x) c.ok_or.ensures.value c.in_ok-i.was in
+    booked-told _ _ _ _ _ q.1 (rw q.0 at c.booked-cycle.ensures x) c.served.ensures

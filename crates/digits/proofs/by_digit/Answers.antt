@@ -4,5 +4,5 @@ use native.Mathlib.Omega.{arith}
 use Rattle.digits.proofs.Laws.{digits}
 use Rattle.digits.proofs.by_digit.Goals as goal
 
-pub returns : goal.returns
-returns c = record { exact = omega (arith, digits c.args.n c.args.d, digits (c.args.n / 65536) c.args.d); at_most = omega arith }
+pub returns-clause-exact : goal.returns-clause-exact
+returns-clause-exact c = omega (arith, digits c.args.n c.args.d, digits (c.args.n / 65536) c.args.d)

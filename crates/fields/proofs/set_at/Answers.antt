@@ -4,4 +4,4 @@ use native.Mathlib.Omega.{arith}
 use Rattle.fields.proofs.set_at.Goals as goal
 
 pub returns : goal.returns
-returns c = at_set c.args.words.now c.args.i c.sized.ensures c.requires.0 c.args.cnt c.args.base (omega arith) c.requires.1
+returns c = at_set c.args.words.now c.args.i.n c.told-words c.args.i.below c.args.cnt c.args.base (omega arith) c.requires

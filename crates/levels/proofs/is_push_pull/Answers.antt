@@ -1,11 +1,11 @@
 -- By the mode and the kind of output.
-use Rattle.state.proofs.Places.{push-pull, not-push-pull}
+use Rattle.state.proofs.Places.{no_flag, push-pull, not-push-pull}
 use borrow.Author.Tests.{ne_eqb}
-use mathlib.Core.Path.{sym, ◌∙◌}
+use Rattle.std.proofs.Common.{not, ◌∙◌, sym, ap}
 use Rattle.levels.proofs.is_push_pull.Goals as goal
 
-pub returns-then-words-p-eq2 : goal.returns-then-words-p-eq2
-returns-then-words-p-eq2 c = λ x. sym (push-pull c.args.words.now x c.args.p c.requires c.if-words-p-eq2.true)
+pub returns-then-low_8-eq2 : goal.returns-then-low_8-eq2
+returns-then-low_8-eq2 c = λ x. ap not c.is_odd.ensures ∙ (no_flag _ ∙ sym (push-pull c.args.words.now x c.args.p.n c.args.p.below (sym c.low_8.ensures ∙ c.if-low_8-eq2.true)))
 
-pub returns-else-words-p-eq2 : goal.returns-else-words-p-eq2
-returns-else-words-p-eq2 c = λ x. ne_eqb _ _ c.if-words-p-eq2.false ∙ sym (not-push-pull c.args.words.now x c.args.p c.requires c.if-words-p-eq2.false)
+pub returns-else-low_8-eq2 : goal.returns-else-low_8-eq2
+returns-else-low_8-eq2 c = λ x. ne_eqb _ _ c.if-low_8-eq2.false ∙ sym (not-push-pull c.args.words.now x c.args.p.n c.args.p.below (λ e. c.if-low_8-eq2.false (c.low_8.ensures ∙ e)))

@@ -12,7 +12,7 @@ returns-then-t-eq0 c = λ x. c.lane_of.ensures x ∙ counter-lane _ c.args.cycle
 
 pub cnt_at-requires : goal.cnt_at-requires
 cnt_at-requires c =
-    (loaded-fit c.args.words.now [] c.args.i _ (c.load_timer-t.ensures []), omega (arith, c.requires.1))
+    (loaded-fit c.args.words.now [] c.args.i.n _ (c.load_timer-t.ensures []), omega (arith, c.requires))
 
 pub returns : goal.returns
 returns c =

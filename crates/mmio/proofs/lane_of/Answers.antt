@@ -7,11 +7,11 @@ use Rattle.mmio.proofs.lane_of.Goals as goal
 
 pub value_of-reg-requires : goal.value_of-reg-requires
 value_of-reg-requires c =
-    (c.requires.0, c.requires.2)
+    c.requires.1
 
 pub overflow_cast-size : goal.overflow_cast-size
 overflow_cast-size c =
-    omega (arith, c.requires.1)
+    omega (arith, c.requires.0)
 
 pub returns : goal.returns
 returns c =

@@ -7,7 +7,7 @@ use Rattle.mmio.proofs.value_of.Goals as goal
 
 pub read_reg-requires : goal.read_reg-requires
 read_reg-requires c =
-    (loaded-fit c.args.words.now [] c.args.i _ (c.load_timer-t.ensures []), c.requires.1)
+    (loaded-fit c.args.words.now [] c.args.i.n _ (c.load_timer-t.ensures []), c.requires)
 
 pub returns : goal.returns
 returns c =

@@ -1,30 +1,29 @@
--- The four tests in order: index, cycle, socket, places.
-use mathlib.Core.Path.{sym, ◌∙◌}
+-- No such pin, or the pin and what the rest says.
+use Rattle.machine.specs.Refusals.{first}
+use Rattle.state.proofs.Asked.{found, missing}
+use Rattle.std.proofs.lemmas.Result.{err_from_is_err_and}
 use mathlib.Core.List.{[]}
-use native.Mathlib.Omega.{arith}
-use Rattle.book.specs.Book.{places}
-use Rattle.book.specs.Lent.{slices_of}
-use Rattle.machine.specs.Sys as S
-use Rattle.pads.proofs.Laws.{no_pin_lem, astray, taken, full, none}
-use Rattle.state.proofs.InRange.{bounded}
-use Rattle.state.specs.View.{view}
 use Rattle.pads.proofs.check_setting.Goals as goal
 
-pub returns-then-count-pin : goal.returns-then-count-pin
-returns-then-count-pin c = λ x. no_pin_lem (view c.args.words.now x) c.args.pin c.args.cycle (places (slices_of c.args.book.now)) (S.taken (view c.args.words.now x).pads c.args.pin (S.selected (view c.args.words.now x).pads c.args.pin c.args.cfg c.args.function)) _ (c.pin_count-count.ensures x) c.if-count-pin.true
+pub returns-in_err-p-clause-refusal : goal.returns-in_err-p-clause-refusal
+unfolding first
+returns-in_err-p-clause-refusal c =
+    λ x. let p = err_from_is_err_and c.from_residual.result c.from_residual.ensures.1 in
+    let q = missing _ _ _ _ _ (c.pin.ensures x) c.ok_or.ensures.value c.in_err-p.was in
+    rw (p.1, p.2, q.0, q.1)
 
-pub is_taken-taken-requires : goal.is_taken-taken-requires
-is_taken-taken-requires c =
-    omega (arith, c.if-count-pin.false, c.pin_count-count.ensures [], (bounded c.args.words.now []).pins-le)
+pub returns-in_err-check-clause-refusal : goal.returns-in_err-check-clause-refusal
+unfolding first
+returns-in_err-check-clause-refusal c =
+    λ x. let p = err_from_is_err_and c.from_residual-in_err-check.result c.from_residual-in_err-check.ensures.1 in
+    let q = found _ _ _ _ _ (c.pin.ensures x) c.ok_or.ensures.value c.in_ok-p.was in
+    rw (p.1, p.2, q.1, ← (rw q.0 at c.is_taken-taken.ensures x)) (c.in_err-check.ensures x)
 
-pub returns-then-is_astray : goal.returns-then-is_astray
-returns-then-is_astray c = λ x. astray (view c.args.words.now x) c.args.pin c.args.cycle (places (slices_of c.args.book.now)) (S.taken (view c.args.words.now x).pads c.args.pin (S.selected (view c.args.words.now x).pads c.args.pin c.args.cfg c.args.function)) _ (c.pin_count-count.ensures x) c.if-count-pin.false (sym (c.is_astray.ensures x) ∙ c.if-is_astray.true)
+pub returns-clause-refusal : goal.returns-clause-refusal
+unfolding first
+returns-clause-refusal c =
+    λ x. let q = found _ _ _ _ _ (c.pin.ensures x) c.ok_or.ensures.value c.in_ok-p.was in
+    rw (q.1, ← (rw q.0 at c.is_taken-taken.ensures x)) (c.in_ok-check.ensures x)
 
-pub returns-then-taken : goal.returns-then-taken
-returns-then-taken c = λ x. taken (view c.args.words.now x) c.args.pin c.args.cycle (places (slices_of c.args.book.now)) (S.taken (view c.args.words.now x).pads c.args.pin (S.selected (view c.args.words.now x).pads c.args.pin c.args.cfg c.args.function)) _ (c.pin_count-count.ensures x) c.if-count-pin.false (sym (c.is_astray.ensures x) ∙ c.if-is_astray.false) (sym (c.is_taken-taken.ensures x) ∙ c.if-taken.true)
-
-pub returns-then-places-lt4 : goal.returns-then-places-lt4
-returns-then-places-lt4 c = λ x. full (view c.args.words.now x) c.args.pin c.args.cycle (places (slices_of c.args.book.now)) (S.taken (view c.args.words.now x).pads c.args.pin (S.selected (view c.args.words.now x).pads c.args.pin c.args.cfg c.args.function)) _ (c.pin_count-count.ensures x) c.if-count-pin.false _ c.places.ensures (sym (c.is_astray.ensures x) ∙ c.if-is_astray.false) (sym (c.is_taken-taken.ensures x) ∙ c.if-taken.false) c.if-places-lt4.true
-
-pub returns : goal.returns
-returns c = λ x. none (view c.args.words.now x) c.args.pin c.args.cycle (places (slices_of c.args.book.now)) (S.taken (view c.args.words.now x).pads c.args.pin (S.selected (view c.args.words.now x).pads c.args.pin c.args.cfg c.args.function)) _ (c.pin_count-count.ensures x) c.if-count-pin.false _ c.places.ensures (sym (c.is_astray.ensures x) ∙ c.if-is_astray.false) (sym (c.is_taken-taken.ensures x) ∙ c.if-taken.false) c.if-places-lt4.false
+pub returns-clause-index : goal.returns-clause-index
+returns-clause-index c = (found _ _ _ _ _ (c.pin.ensures []) c.ok_or.ensures.value c.in_ok-p.was).0

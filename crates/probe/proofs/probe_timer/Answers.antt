@@ -1,12 +1,10 @@
 -- A loaded timer is fit to be stored.
 use Rattle.state.proofs.InRange.{bounded}
 use mathlib.Core.List.{[]}
-use borrow.Author.Rules.{rules}
 use Rattle.probe.proofs.probe_timer.Goals as goal
 
 pub store_timer-requires : goal.store_timer-requires
-store_timer-requires c =
-    (search rules, rw (c.load_timer-t.ensures []) ((bounded _ []).timer-fit _))
+store_timer-requires c = rw (c.load_timer-t.ensures []) ((bounded _ []).timer-fit _)
 
 pub returns : goal.returns
 returns c =

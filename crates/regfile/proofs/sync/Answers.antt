@@ -7,16 +7,16 @@ use Rattle.regfile.proofs.sync.Goals as goal
 
 pub sync-s-requires : goal.sync-s-requires
 sync-s-requires c =
-    (loaded-fit c.args.words.now [] c.args.i _ (c.load_timer-t.ensures []), c.requires.1)
+    (loaded-fit c.args.words.now [] c.args.i.n _ (c.load_timer-t.ensures []), c.requires)
 
 pub set_at-requires : goal.set_at-requires
 set_at-requires c =
-    (c.requires.0, rw c.sync-s.ensures (fit-synced c.load_timer-t.result (loaded-fit c.args.words.now [] c.args.i _ (c.load_timer-t.ensures [])) c.args.cycle c.requires.1).base-lt)
+    rw c.sync-s.ensures (fit-synced c.load_timer-t.result (loaded-fit c.args.words.now [] c.args.i.n _ (c.load_timer-t.ensures [])) c.args.cycle c.requires).base-lt
 
 pub returns-then-t : goal.returns-then-t
 returns-then-t c =
-    λ x. sync-running (view c.args.words.now x) c.args.i c.args.cycle _ (c.load_timer-t.ensures x) _ _ c.sync-s.ensures (c.set_at.ensures x)
+    λ x. sync-running (view c.args.words.now x) c.args.i.n c.args.cycle _ (c.load_timer-t.ensures x) _ _ c.sync-s.ensures (c.set_at.ensures x)
 
 pub returns-else-t : goal.returns-else-t
 returns-else-t c =
-    λ x. sync-stopped (view c.args.words.now x) c.args.i c.args.cycle _ (c.load_timer-t.ensures x) c.if-t.false
+    λ x. sync-stopped (view c.args.words.now x) c.args.i.n c.args.cycle _ (c.load_timer-t.ensures x) c.if-t.false

@@ -9,8 +9,8 @@ use Rattle.state.proofs.book.Goals as goal
 
 pub returns : goal.returns
 returns c =
-    let o = c.args.owner in
+    let o = c.args.owner.n in
     let table = λ (s : Scheduler). s.cycles in
-    λ x. booking-set _ x c.told-words o _ c.requires
+    λ x. booking-set _ x c.told-words o _ c.args.owner.below
     ∙ ap (booking_set (view c.args.words.now x) o)
-    (booked-word c.args.words.now x _ _ o c.args.cycle c.requires (ap table (c.bookings-scheduler.ensures x)) (ap table c.book.ensures))
+    (booked-word c.args.words.now x _ _ o c.args.cycle c.args.owner.below (ap table (c.bookings-scheduler.ensures x)) (ap table c.book.ensures))

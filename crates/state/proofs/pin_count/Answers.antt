@@ -4,4 +4,4 @@ use mathlib.Core.Path.{◌∙◌, sym}
 use Rattle.state.proofs.pin_count.Goals as goal
 
 pub returns : goal.returns
-returns c = λ x. c.lesser.ensures ∙ sym (pins-read c.args.words.now x)
+returns c = λ x. c.min.ensures ∙ sym (pins-read c.args.words.now x)

@@ -13,8 +13,8 @@ bounds-words-at-then-has_line c =
 
 pub returns-then-has_line : goal.returns-then-has_line
 returns-then-has_line c =
-    λ x. line_set_lem c.args.words.now x c.told-words (λ l. line_set l c.args.i c.args.level) c.args.irq c.driven.result (line-there c.args.words.now c.args.irq c.has_line.result c.has_line.ensures x c.if-has_line.true) c.driven.ensures
+    λ x. line_set_lem c.args.words.now x c.told-words (λ l. line_set l c.args.i.n c.args.level) c.args.irq c.driven.result (line-there c.args.words.now c.args.irq c.has_line.result c.has_line.ensures x c.if-has_line.true) c.driven.ensures
 
 pub returns-else-has_line : goal.returns-else-has_line
 returns-else-has_line c =
-    λ x. line-none c.args.words.now x c.told-words (λ l. line_set l c.args.i c.args.level) c.args.irq (line-absent c.args.words.now c.args.irq c.has_line.result c.has_line.ensures x c.if-has_line.false)
+    λ x. line-none c.args.words.now x c.told-words (λ l. line_set l c.args.i.n c.args.level) c.args.irq (line-absent c.args.words.now c.args.irq c.has_line.result c.has_line.ensures x c.if-has_line.false)

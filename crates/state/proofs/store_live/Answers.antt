@@ -5,4 +5,4 @@ use Rattle.state.proofs.store_live.Goals as goal
 
 pub returns : goal.returns
 returns c =
-    λ x. rw c.put.ensures (live-set c.args.words.now x c.told-words c.args.i c.requires.0 c.pack_timer-b.result c.args.t (search rules) c.pack_timer-b.ensures)
+    λ x. rw c.put.ensures (live-set c.args.words.now x c.told-words c.args.i.n c.args.i.below c.pack_timer-b.result c.args.t (search rules) c.pack_timer-b.ensures)

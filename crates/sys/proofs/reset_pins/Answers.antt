@@ -9,8 +9,8 @@ use Rattle.sys.proofs.reset_pins.Goals as goal
 pub loop-i-init : goal.loop-i-init
 loop-i-init c = (reset-begins _ c.args.cycle _ _, record { words = refl; reals = refl }, search rules)
 
-pub reset_pin-change-requires : goal.reset_pin-change-requires
-reset_pin-change-requires c = omega (arith, c.loop-i-test.true, pins-small _ _ (c.pin_count-n.ensures c.args.board.now.reals.now))
+pub invariant_of-p : goal.invariant_of-p
+invariant_of-p c = record { below = omega (arith, c.loop-i-test.true, pins-small _ _ (c.pin_count-n.ensures c.args.board.now.reals.now)) }
 
 pub append-requires : goal.append-requires
 append-requires c =

@@ -4,5 +4,5 @@ use Rattle.state.proofs.InRange.{bounded}
 use mathlib.Core.List.{[]}
 use Rattle.sys.proofs.selected.Goals as goal
 
-pub returns-then-c-eq2-clause-upper_bound : goal.returns-then-c-eq2-clause-upper_bound
-returns-then-c-eq2-clause-upper_bound c = rw (c.af.ensures []) ((bounded c.args.words.now []).af-lt (c.args.i * 16 + c.args.f % 16))
+pub returns-then-c-eq2-clause-range : goal.returns-then-c-eq2-clause-range
+returns-then-c-eq2-clause-range c = rw (c.af.ensures []) ((bounded c.args.words.now []).af-lt (c.args.i.n * 16 + c.args.f % 16))

@@ -6,4 +6,4 @@ use Rattle.sys.proofs.set_pin.Goals as goal
 
 pub returns-clause-moves : goal.returns-clause-moves
 unfolding set_pin
-returns-clause-moves c = then-moves _ _ _ _ (λ (p : Pads). refresh_pin p c.args.i) _ c.select_af.ensures.board c.refresh_pin.ensures.moves
+returns-clause-moves c = then-moves _ _ _ _ (λ (p : Pads). refresh_pin p c.args.i.n) _ c.select_af.ensures.board c.refresh_pin.ensures.moves

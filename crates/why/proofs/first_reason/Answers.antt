@@ -9,37 +9,33 @@ use Rattle.why.specs.declared.Reason.{Reason}
 use Rattle.why.specs.Tests.{number_of, number_or}
 use Rattle.state.specs.View.{view}
 use Rattle.state.proofs.InRange.{bounded}
-use Rattle.why.proofs.Laws.{reason-pin, reason-plain, reason-unfed, reason-unrouted, reason-channel, fed-loaded, unwrapped}
+use Rattle.why.proofs.Laws.{reason-pin, reason-plain, reason-unfed, reason-unrouted, reason-channel, unwrapped}
 use Rattle.why.proofs.first_reason.Goals as goal
 
 pub returns-in-Some : goal.returns-in-Some
-returns-in-Some c = λ x. reason-pin (view c.args.words.now x) c.args.g c.args.p c.args.s c.args.i c.args.cycle _ _ (c.sig_level-level.ensures x) (ap (number_or 5) (sym c.in-Some.is) ∙ c.of_pin.ensures.value) (subst (λ (o : Option Reason). IfSome o (λ r. number_of r < 5)) c.in-Some.is c.of_pin.ensures.below)
+returns-in-Some c = λ x. reason-pin (view c.args.words.now x) c.args.g c.args.p.n c.args.s _ c.args.cycle _ _ (c.sig_level-level.ensures x) (ap (number_or 5) (sym c.in-Some.is) ∙ c.of_pin.ensures.value) (subst (λ (o : Option Reason). IfSome o (λ r. number_of r < 5)) c.in-Some.is c.of_pin.ensures.below)
 
 pub returns-then-g-ne2 : goal.returns-then-g-ne2
-returns-then-g-ne2 c = λ x. reason-plain (view c.args.words.now x) c.args.g c.args.p c.args.s c.args.i c.args.cycle _ _ (c.sig_level-level.ensures x) (ap (number_or 5) (sym c.in_default.is) ∙ c.of_pin.ensures.value) (omega arith) c.if-g-ne2.true
+returns-then-g-ne2 c = λ x. reason-plain (view c.args.words.now x) c.args.g c.args.p.n c.args.s _ c.args.cycle _ _ (c.sig_level-level.ensures x) (ap (number_or 5) (sym c.in_default.is) ∙ c.of_pin.ensures.value) (omega arith) c.if-g-ne2.true
 
-pub returns-then-timer_count-i : goal.returns-then-timer_count-i
-returns-then-timer_count-i c = λ x. reason-unfed (view c.args.words.now x) c.args.g c.args.p c.args.s c.args.i c.args.cycle _ _ (c.sig_level-level.ensures x) (ap (number_or 5) (sym c.in_default.is) ∙ c.of_pin.ensures.value) (omega arith) c.if-g-ne2.false _ (c.timer_count.ensures x) c.if-timer_count-i.true
+pub returns-in_default-feeder : goal.returns-in_default-feeder
+returns-in_default-feeder c =
+    λ x. rw c.in_default-feeder.is
+    (reason-unfed (view c.args.words.now x) c.args.g c.args.p.n c.args.s _ c.args.cycle _ _ (c.sig_level-level.ensures x) (ap (number_or 5) (sym c.in_default.is) ∙ c.of_pin.ensures.value) (omega arith) c.if-g-ne2.false (omega arith))
 
-pub returns-then-route-p : goal.returns-then-route-p
-returns-then-route-p c =
-    λ x. reason-unrouted (view c.args.words.now x) c.args.g c.args.p c.args.s c.args.i c.args.cycle _ _ (c.sig_level-level.ensures x) (ap (number_or 5) (sym c.in_default.is) ∙ c.of_pin.ensures.value) (omega arith) c.if-g-ne2.false _ (c.timer_count.ensures x) c.if-timer_count-i.false _ (c.route.ensures x)
-    c.if-route-p.true
-
-pub load_timer-t-requires : goal.load_timer-t-requires
-load_timer-t-requires c = omega (arith, c.if-timer_count-i.false, c.timer_count.ensures [], (bounded c.args.words.now []).timers-le)
-
-pub channel_of-ch-requires : goal.channel_of-ch-requires
-channel_of-ch-requires c =
-    fed-loaded (view c.args.words.now []) c.args.i c.args.s _ (c.load_timer-t.ensures [])
-    (c.requires.1.1.1 [] (omega (arith, c.if-timer_count-i.false, c.timer_count.ensures [])))
+pub returns-then-not-is_routed : goal.returns-then-not-is_routed
+returns-then-not-is_routed c =
+    λ x. rw c.in-Some-feeder.is
+    (reason-unrouted (view c.args.words.now x) c.args.g c.args.p.n c.args.s _ c.args.cycle _ _ (c.sig_level-level.ensures x) (ap (number_or 5) (sym c.in_default.is) ∙ c.of_pin.ensures.value) (omega arith) c.if-g-ne2.false
+    (rw c.in-Some-feeder.is at c.requires.fed x).0 (sym (c.is_routed.ensures x) ∙ c.if-not-is_routed.true))
 
 pub of_channel-requires : goal.of_channel-requires
 of_channel-requires c =
-    (rw (c.load_timer-t.ensures []) ((bounded c.args.words.now []).timer-fit c.args.i), (c.channel_of-ch.ensures.upper_bound, c.requires.1.1.0))
+    (rw (c.load_timer-t.ensures []) ((bounded c.args.words.now []).timer-fit c.in-Some-feeder.f.timer.n), (c.in-Some-feeder.f.below, c.requires.bounds.2))
 
 pub returns : goal.returns
 returns c =
-    λ x. rw c.unwrap_or.ensures (unwrapped _) ∙ c.of_channel.ensures
-    ∙ reason-channel (view c.args.words.now x) c.args.g c.args.p c.args.s c.args.i c.args.cycle _ _ (c.sig_level-level.ensures x) (ap (number_or 5) (sym c.in_default.is) ∙ c.of_pin.ensures.value) (omega arith) c.if-g-ne2.false _ (c.timer_count.ensures x) c.if-timer_count-i.false _ (c.route.ensures x)
-    c.if-route-p.false _ (c.load_timer-t.ensures x) _ c.channel_of-ch.ensures.value _ refl
+    λ x. rw (c.unwrap_or.ensures, c.in-Some-feeder.is)
+    (unwrapped _ ∙ c.of_channel.ensures
+    ∙ reason-channel (view c.args.words.now x) c.args.g c.args.p.n c.args.s _ c.args.cycle _ _ (c.sig_level-level.ensures x) (ap (number_or 5) (sym c.in_default.is) ∙ c.of_pin.ensures.value) (omega arith) c.if-g-ne2.false
+    (rw c.in-Some-feeder.is at c.requires.fed x).0 (sym (c.is_routed.ensures x) ∙ c.if-not-is_routed.false) _ (c.load_timer-t.ensures x) _ (rw c.in-Some-feeder.is at c.requires.fed x).1 _ refl)

@@ -16,11 +16,11 @@ returns-then-size-eq4 c =
 
 pub present-old-requires : goal.present-old-requires
 present-old-requires c =
-    (c.requires.0, aligned c.args.offset, c.requires.2)
+    (aligned c.args.offset, c.requires.1)
 
 pub overflow_cast-size : goal.overflow_cast-size
 overflow_cast-size c =
-    omega (arith, c.requires.1)
+    omega (arith, c.requires.0)
 
 pub returns : goal.returns
 returns c =

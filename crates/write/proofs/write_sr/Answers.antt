@@ -5,4 +5,4 @@ use Rattle.write.proofs.write_sr.Goals as goal
 
 pub returns : goal.returns
 returns c =
-    λ x. sr-gives c.args.words.now x c.args.i c.args.v c.args.cycle _ _ _ (of-eight c.args.words.now x c.args.i c.requires) (c.settle_line_at.ensures x) (c.set_last.ensures x) _ _ (c.load_timer-t.ensures x) c.kept_sr.ensures (c.set_reg.ensures x)
+    λ x. sr-gives c.args.words.now x c.args.i.n c.args.v c.args.cycle _ _ _ (of-eight c.args.words.now x c.args.i.n c.args.i.below) (c.settle_line_at.ensures x) (c.set_last.ensures x) _ _ (c.load_timer-t.ensures x) c.kept_sr.ensures (c.set_reg.ensures x)

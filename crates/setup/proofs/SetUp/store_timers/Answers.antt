@@ -9,7 +9,10 @@ pub inst_at-requires : goal.inst_at-requires
 inst_at-requires c = omega (arith, c.requires, c.timer_count-n.ensures, c.loop-i-test.true)
 
 pub store_timer-requires : goal.store_timer-requires
-store_timer-requires c = (omega (arith, c.requires, c.timer_count-n.ensures, c.loop-i-test.true), new-fit _ _ c.new-t.ensures)
+store_timer-requires c = new-fit _ _ c.new-t.ensures
+
+pub invariant_of-index : goal.invariant_of-index
+invariant_of-index c = record { below = omega (arith, c.requires, c.timer_count-n.ensures, c.loop-i-test.true) }
 
 pub loop-i-preserved : goal.loop-i-preserved
 loop-i-preserved c = store_goes c.args.self.manual c.args.self.timers.now c.loop-i.i c.args.words.now c.loop-i.words c.loop-i.invariant (omega (arith, c.timer_count-n.ensures, c.loop-i-test.true)) c.requires _ _ _ c.inst_at.ensures c.new-t.ensures c.store_timer.ensures

@@ -8,7 +8,7 @@ returns-then-not-is_waiting c = sym (shut _ _ _ (sym c.is_waiting.ensures ∙ c.
 
 pub returns-in-Some : goal.returns-in-Some
 returns-in-Some c =
-    c.nearer.ensures ∙ sym (steps-some _ _ _ _ (sym c.is_waiting.ensures ∙ c.if-not-is_waiting.false) (sym c.steps_to.ensures ∙ c.in-Some.is))
+    c.or_compare.ensures ∙ rw c.from.ensures (sym (steps-some _ _ _ _ (sym c.is_waiting.ensures ∙ c.if-not-is_waiting.false) (sym c.steps_to.ensures ∙ c.in-Some.is)))
 
 pub returns-in-None : goal.returns-in-None
 returns-in-None c = sym (steps-none _ _ _ (sym c.is_waiting.ensures ∙ c.if-not-is_waiting.false) (sym c.steps_to.ensures ∙ c.in-None.is))

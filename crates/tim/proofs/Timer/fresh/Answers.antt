@@ -4,4 +4,4 @@ use Rattle.tim.proofs.Timer.fresh.Goals as goal
 
 pub returns : goal.returns
 unfolding reset_state
-returns c = rw (c.max_of-top.ensures, c.step_cycles.ensures)
+returns c = rw (c.max-top.ensures, c.step_cycles.ensures)
