@@ -66,17 +66,7 @@ pub extern "C" fn board_set_up(
 ) -> Answer
     ensures { Answers (step (view words.old reals.old) (C.set_up (setup_of hz vcc pins lines 0 timers.now table.now))) result words.old words.new reals.old reals.new }
 {
-    let mut board = LentBoard { words, reals };
-    let s = SetUp {
-        hz,
-        vcc,
-        pins,
-        lines,
-        manual: 0,
-        timers,
-        table,
-    };
-    Answer::from(setup::set_up(&mut board, s))
+    board_set_up_manual(words, reals, hz, vcc, pins, lines, 0, timers, table)
 }
 
 // Set up with timers in manual mode: timer i where bit i of `manual` is 1; a bit of no timer says nothing.

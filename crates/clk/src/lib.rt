@@ -63,13 +63,13 @@ impl ClockTree {
         ensures { result ≡ good self }
     {
         real::is_positive(self.sysclk_hz)
-            & real::is_positive(self.hclk_hz)
-            & in_range(self.ppre1)
-            & in_range(self.ppre2)
-            & in_range(self.ppre3)
-            & in_range(self.ppre4)
-            & in_range(self.tim1)
-            & in_range(self.tim2)
+            && real::is_positive(self.hclk_hz)
+            && in_range(self.ppre1)
+            && in_range(self.ppre2)
+            && in_range(self.ppre3)
+            && in_range(self.ppre4)
+            && in_range(self.tim1)
+            && in_range(self.tim2)
     }
 
     // Whether the timers have to be told of the tree t: no derived equality, since `sysclk_hz` does not count.
@@ -77,12 +77,12 @@ impl ClockTree {
     pub fn differs(self, t: ClockTree) -> bool
         ensures { result ≡ differing self t }
     {
-        (self.hclk_hz != t.hclk_hz)
-            | (self.ppre1 != t.ppre1)
-            | (self.ppre2 != t.ppre2)
-            | (self.ppre3 != t.ppre3)
-            | (self.ppre4 != t.ppre4)
-            | (self.tim1 != t.tim1)
-            | (self.tim2 != t.tim2)
+        self.hclk_hz != t.hclk_hz
+            || self.ppre1 != t.ppre1
+            || self.ppre2 != t.ppre2
+            || self.ppre3 != t.ppre3
+            || self.ppre4 != t.ppre4
+            || self.tim1 != t.tim1
+            || self.tim2 != t.tim2
     }
 }

@@ -303,7 +303,7 @@ fn pack_count(t: Count) -> [u64; 6]
     ]
 }
 
-// A timer as words.
+// A timer as words. `Fit` is asked for: no field of the timer, as tim says.
 #[tactic(auto, unfolding(crate::specs::Codec::decode_timer))]
 pub fn pack_timer(t: Timer) -> [u64; TIMER_WORDS]
     requires { Fit t }
@@ -351,7 +351,8 @@ fn unpack_mcu(b: &[u64; GPIO_WORDS]) -> Mcu
     }
 }
 
-// An outside drive of its number, and the volts of an analogue one.
+// An outside drive of its number, and the volts of an analogue one. A twin of pads' but above 3, which is nothing there: of one function for both, each would
+// have to be shown its own definition again, by the numbers below 4: no plainer.
 #[tactic(auto, unfolding(crate::specs::Pin::ext_of))]
 fn ext_of(code: u64, volts: f64) -> ExtDrive
     ensures { result ≡ ext_of code volts }

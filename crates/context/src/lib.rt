@@ -1,4 +1,5 @@
 // Clocks and booking over the lent state (sys.rs): a timer's enable bit and divider, its interrupt line and its next event, and the clock tree.
+// A cycle below 2^63 is a plain number: it is compared, summed and stored, and a type would be put together and taken apart at each call.
 #![tactic(auto)]
 
 ghost use Rattle.std.specs.Prelude.{◌≡◌, true, List, ◌<◌, ◌≤◌, max, Float};
@@ -12,7 +13,7 @@ ghost use Rattle.machine.specs.Step.{clock_on, timer_retimed, all_retimed, tree_
 
 use clk::ClockTree;
 use state::{LentBoard, SeenBoard, TimerIndex, WORDS};
-use tim::{Due, Timer};
+use tim::{Divider, Due, Timer};
 
 // Timer i's clock is on: its bit of its enable word. Past the ninth word and past bit 31 there is none.
 #[inline(always)]
@@ -20,22 +21,21 @@ pub fn clock_on(words: &[u64; WORDS], i: TimerIndex) -> bool
     ensures { (x : List Float) → result ≡ clock_on (view words.now x) (timer_at (view words.now x) i.n) }
 {
     let reg = fields::en_reg(words, i);
-    if reg >= 9 {
-        return false;
-    }
     let t = fields::inst(words, i);
     let bit = t.en_bit;
-    bit < 32 && (state::enr(words, reg) >> bit) % 2 == 1
+    reg < 9 && bit < 32 && (state::enr(words, reg) >> bit) % 2 == 1
 }
 
 // Core cycles per cycle of timer t's clock.
 #[inline(always)]
-pub fn divider(board: SeenBoard<'_>, t: Timer) -> u32
-    ensures divider { result ≡ divider_of (seen_board board.entry) t }
-    ensures range { (1 ≤ result) × (result ≤ 8192) }
+pub fn divider(board: SeenBoard<'_>, t: Timer) -> Divider
+    ensures divider { result.n ≡ divider_of (seen_board board.entry) t }
+    ensures positive { 1 ≤ result.n }
 {
     let tree = board.tree();
-    tree.timer_div(t.inst.apb)
+    Divider {
+        n: tree.timer_div(t.inst.apb),
+    }
 }
 
 // Timer t's interrupt line follows SR & DIER & 1f of it, the board's timer i, and the wishes of the other timers.
@@ -83,7 +83,7 @@ pub fn rebook(words: &mut [u64; WORDS], i: TimerIndex, cycle: u64)
 }
 
 // Timer i takes the tree's divider; a running one is booked anew.
-pub fn retime(board: &mut LentBoard<'_>, i: TimerIndex, cycle: u64)
+fn retime(board: &mut LentBoard<'_>, i: TimerIndex, cycle: u64)
     requires { cycle < 9223372036854775808 }
     ensures same_loan { SameLoan board.old board.new }
     ensures board { lent_board board.new ≡ timer_retimed i.n cycle (lent_board board.old) }

@@ -1,4 +1,6 @@
 // The delivery of a timer's due events over the lent state, their level changes into the lent book (tim.rs, on_event).
+// A cycle below 2^63 is a plain number: it is compared, summed and stored, and a type would be put together and taken apart at each call.
+// `Fit` of a timer is asked for: no field of it, as tim says.
 #![tactic(auto)]
 
 ghost use Rattle.std.specs.Prelude.{◌≡◌, cond, List, ◌<◌, ◌≤◌, eqb, Float};
@@ -16,7 +18,7 @@ ghost use Rattle.delivery.specs.Delivery.{OfFour, number_of, verdict_of, Ends, D
 
 use book::LentBook;
 use state::{LentBoard, TimerIndex, WORDS};
-use tim::{Due, Next, Timer};
+use tim::{CH1, CH2, CH3, CH4, Channel, Divider, Due, Next, Timer};
 
 // Why a delivery stops: nothing more is due, or more than it may handle or has places for.
 #[derive(Clone, Copy)]
@@ -59,10 +61,7 @@ fn verdict(at: u64, cycle: u64, events: u64, left: usize) -> Option<Stop>
     if at > cycle {
         return Some(Stop::Done);
     }
-    if events >= 100001 {
-        return Some(Stop::Backlog);
-    }
-    if left < 4 {
+    if events >= 100001 || left < 4 {
         return Some(Stop::Backlog);
     }
     None
@@ -71,25 +70,23 @@ fn verdict(at: u64, cycle: u64, events: u64, left: usize) -> Option<Stop>
 // A compare event, the channel written out: a timer of constant places stays in registers. By one call with the channel an event takes half as long again.
 // It and `apply` are compiled into the loop whole, without being compiled by themselves first: so a delivery of half an event takes a twentieth less.
 #[inline(always)]
-fn compare(t: Timer, ch: usize) -> Timer
-    requires { ch < 4 }
-    ensures { result ≡ compared t ch }
+fn compare(t: Timer, ch: Channel) -> Timer
+    ensures { result ≡ compared t ch.n }
 {
-    match ch {
-        0 => t.compare(0),
-        1 => t.compare(1),
-        2 => t.compare(2),
-        _ => t.compare(3),
+    match ch.n {
+        0 => t.compare(CH1),
+        1 => t.compare(CH2),
+        2 => t.compare(CH3),
+        _ => t.compare(CH4),
     }
 }
 
 // The compare value of channel ch in use, written out the same way.
-fn compare_value(t: Timer, ch: usize) -> u32
-    requires { ch < 4 }
-    ensures { result ≡ ccr_in_use t ch }
+fn compare_value(t: Timer, ch: Channel) -> u32
+    ensures { result ≡ ccr_in_use t ch.n }
 {
     let act = t.chan.ccr_act;
-    match ch {
+    match ch.n {
         0 => act[0],
         1 => act[1],
         2 => act[2],
@@ -99,13 +96,13 @@ fn compare_value(t: Timer, ch: usize) -> u32
 
 // The timer after an event at its due cycle.
 #[inline(always)]
-fn apply(t: Timer, e: Next, at: u64, div: u32) -> Timer
-    requires { (OfFour e) × (Fit t) × (div ≤ 8192) }
-    ensures { result ≡ applied t e at div }
+fn apply(t: Timer, e: Next, at: u64, div: Divider) -> Timer
+    requires { (OfFour e) × (Fit t) }
+    ensures { result ≡ applied t e at div.n }
 {
     match e {
         Next::Update => t.update(at, div),
-        Next::Compare(ch) => compare(t, ch),
+        Next::Compare(n) => compare(t, Channel { n }),
     }
 }
 
@@ -116,7 +113,7 @@ fn count_at(t: Timer, e: Next) -> u32
 {
     match e {
         Next::Update => t.count.cnt0,
-        Next::Compare(ch) => compare_value(t, ch),
+        Next::Compare(n) => compare_value(t, Channel { n }),
     }
 }
 
@@ -126,19 +123,20 @@ fn run(
     board: &mut LentBoard<'_>,
     book: &mut LentBook<'_>,
     timer: Timer,
-    div: u32,
+    div: Divider,
     cycle: u64,
 ) -> Ran
-    requires timer { (Fit timer) × (1 ≤ div) × (div ≤ 8192) × (cycle < 9223372036854775808) }
+    requires timer { (Fit timer) × (1 ≤ div.n) × (cycle < 9223372036854775808) }
     requires empty { book.old.count ≡ 0 }
     ensures same_loan { SameLoan board.old board.new }
     ensures same_slices { SameSlices book.old book.new }
-    ensures ends { Ends (handled most_events cycle div (places (slices_of book.old)) timer (lent_board board.old).pads) (lent_board board.old) (lent_board board.new) (filled book.old) (filled book.new) result }
+    ensures ends { Ends (handled most_events cycle div.n (places (slices_of book.old)) timer (lent_board board.old).pads) (lent_board board.old) (lent_board board.new) (filled book.old) (filled book.new) result }
     ensures fit { (Fit result.timer) × (result.due ≡ next_event result.timer) × (Room book.new.count (slices_of book.old)) × (book.new.count ≤ 400004) }
 {
     let room = book.places();
     let mut t = timer;
     let mut events: u64 = 0;
+    // The papers' form: the next event is taken apart by let else, and the loop ends by what it returns.
     loop {
         let due = t.next_event();
         let Due::At(at, e) = due else {

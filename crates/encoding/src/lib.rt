@@ -24,7 +24,7 @@ fn word(calls: &[u32], k: usize) -> u32
     calls.get(k).copied().unwrap_or(0)
 }
 
-// Two words, low then high.
+// Two words, low then high. `line` joins them too: no plainer as one, since neither crate uses the other.
 #[tactic(auto, unfolding(crate::specs::Encoding::word64))]
 fn word64(calls: &[u32], k: usize) -> u64
     requires { k < 4294967296 }
@@ -40,11 +40,8 @@ fn float(bits: u64) -> f64
     ensures { result ≡ Ieee.of_bits Ieee.binary64 bits }
 {
     let exponent = bits % 9223372036854775808 / 4503599627370496;
-    if exponent != 2047 {
-        return f64::from_bits(bits);
-    }
     let digits = bits % 4503599627370496;
-    if digits == 0 {
+    if exponent != 2047 || digits == 0 {
         return f64::from_bits(bits);
     }
     f64::NAN
@@ -224,7 +221,7 @@ fn set_up_size(calls: &[u32]) -> usize
     10 + timers * 7 + table
 }
 
-// How many words the call has that they begin with.
+// How many words the call has that they begin with. Beside `decoded`: the parts of a set-up are cut out only where all its words are there.
 #[tactic(auto, unfolding(crate::specs::Encoding::size_of))]
 fn size_of(operation: Operation, calls: &[u32]) -> usize
     requires { E.word calls.now 0 ≡ number_of operation }

@@ -1,8 +1,9 @@
-// A pin by value (sys.rs): what its configuration and its signal make it drive, and whether its level changed. Functions of a pin and no methods, as
-// sys.rs has them: a pin's number comes first, which is no part of it.
+// A pin by value (sys.rs): what its configuration and its signal make it drive, and whether its level changed. Functions and no methods: each takes values
+// and gives one, under the name of its definition, and half of them are of a part of a pin or of a number.
+// Signal 0 is none, and no Option: it is the number that the signals' table has for none, and a lent word holds it.
 #![tactic(auto)]
 
-ghost use Rattle.std.specs.Prelude.{◌≡◌, ◌<◌};
+ghost use Rattle.std.specs.Prelude.{◌≡◌};
 ghost use Rattle.gpio.specs.Gpio as G;
 
 use pins::{ExtDrive, Mcu, Pin, Source};
@@ -102,7 +103,6 @@ pub fn signal_of(g: Gpio) -> u32
 
 // A signal that drives its pin. The UARTs' signals end at 159; the timers' lie above, and need one test.
 pub fn drives(s: u32) -> bool
-    requires { s < 65536 }
     ensures { result ≡ G.drives s }
 {
     s >= 160 || s != 0 && !sig::is_input(s as u16)
@@ -110,7 +110,6 @@ pub fn drives(s: u32) -> bool
 
 #[tactic(auto, unfolding(crate::specs::Gpio::side_of))]
 fn side_of(g: Gpio, level: u8) -> Mcu
-    requires { g.sig < 65536 }
     ensures { result ≡ G.side_of g level }
 {
     if g.cfg.mode == 1 {
@@ -155,7 +154,6 @@ pub fn update(i: u8, g: Gpio, vcc: f64) -> Moved
 #[inline(always)]
 #[tactic(auto, unfolding(crate::specs::Gpio::refreshed))]
 pub fn refresh(i: u8, g: Gpio, level: u8, vcc: f64) -> Moved
-    requires { g.sig < 65536 }
     ensures { result ≡ G.refreshed i g level vcc }
 {
     let pin = Pin {

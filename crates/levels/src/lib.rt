@@ -1,4 +1,6 @@
 // A pin's level, selected signal and push-pull drive in the lent words: what a driven pin shows is read and stored word by word.
+// A second way of what crate gpio does by value: by value it takes more than the Rust's time.
+// A level (0 or 1) is a plain number: it is compared and stored, and a type would be put together and taken apart at each call.
 #![tactic(auto)]
 
 ghost use Rattle.std.specs.Prelude.{◌≡◌, List, ℕ, ◌<◌, ◌≤◌, Float};
@@ -33,8 +35,8 @@ pub fn is_push_pull(words: &[u64; WORDS], p: PinIndex) -> bool
         && !codec::is_odd(words[GPIO + (p.n * GPIO_WORDS + pin::OPEN_DRAIN)])
 }
 
-// Push-pull pin p at the level of a signal that drives it: the source is the chip, and stands in the level's word. What that leaves as it is is not
-// stored. The words are named once: through the board each store would look up anew where they are.
+// Push-pull pin p at the level of a signal that drives it: the source is the chip, and stands in the level's word. For speed, the words that
+// keep their values are not stored, and the words are named once: through the board each store would look up anew where they are.
 pub fn drive_level(board: &mut LentBoard<'_>, p: PinIndex, level: u8)
     requires { level ≤ 1 }
     ensures same_loan { SameLoan board.old board.new }

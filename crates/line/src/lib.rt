@@ -1,7 +1,7 @@
 // A line of the call list, byte by byte, to an encoded call. The reader is lent, so lines may be of any length.
 #![tactic(auto)]
 
-ghost use Rattle.std.specs.Prelude.{◌≡◌, ◌+◌, ◌/◌, ◌%◌, ◌<◌, ◌≤◌, ◌^◌, slice_set, min, IfOk, IfSome, OnSome, OnOk, OnErr};
+ghost use Rattle.std.specs.Prelude.{◌≡◌, ◌+◌, ◌*◌, ◌/◌, ◌%◌, ◌<◌, ◌≤◌, ◌^◌, slice_set, min, IfOk, IfSome, OnSome, OnOk, OnErr};
 ghost use Rattle.text.specs.Words.{number_of};
 ghost use Rattle.line.specs.Call.{Begins, last_wide, with_last_wide};
 
@@ -98,6 +98,13 @@ fn high(x: u64) -> u32
     ensures { result ≡ x / 2 ^ 32 }
 {
     (x / 4294967296) as u32
+}
+
+// The number of 64 bits that they are. `encoding` joins them too: no plainer as one, since neither crate uses the other.
+pub fn joined(low: u32, high: u32) -> u64
+    ensures { result ≡ 2 ^ 32 * high + low }
+{
+    4294967296 * u64::from(high) + u64::from(low)
 }
 
 impl Parser {
@@ -413,7 +420,7 @@ impl Reader {
         ensures { result ≡ last_wide self.now.parser.call.items }
     {
         match self.words() {
-            [_, .., low, high] => Some(4294967296 * *high as u64 + *low as u64),
+            [_, .., low, high] => Some(joined(*low, *high)),
             _ => None,
         }
     }
@@ -448,11 +455,11 @@ impl Reader {
         ensures at_end { IfOk result (λ told. OnSome told (b ≡ 10)) }
         ensures err { OnErr result (self.new.lines.line ≡ self.old.lines.line) }
     {
-        let (returned, piece) = self.lines.next(b);
-        if returned {
+        // The steps of `shifts`: no plainer as one with them, since here a line's end is a call's, and the promises are told of it.
+        if self.lines.is_returned(b) {
             self.parser.letter(b'\r')?;
         }
-        match piece {
+        match self.lines.next(b) {
             Piece::LineEnd => return self.end(),
             Piece::WordEnd => self.parser.word_end()?,
             Piece::Letter => self.parser.letter(b)?,

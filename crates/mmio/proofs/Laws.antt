@@ -41,7 +41,7 @@ use Rattle.answer.specs.Promise.{answer, Answers}
 use Rattle.answer.proofs.Given.{Passed, passed, timer-passed, turns-away, turns-away-book, serves, serves-book}
 use Rattle.mmio.specs.Leaves.{Leaves, DrivenIf, after}
 
--- the numbers that `book_refusal` looks at
+-- the numbers that `answer::check_timer_and_book` looks at
 abbrev pub asked : ℕ → ℕ → Board → ℕ → ℕ → ℕ
 asked timer size b cycle room = first (no_such_index timer b.counts.timers ∷ bad_size size ∷ clock_astray b cycle ∷ book_full 4 room ∷ [])
 
@@ -60,7 +60,7 @@ loaded-fit w x i t load = rw load ((bounded w x).timer-fit i)
 
 -- ---- reads
 
--- the numbers that `timer_refusal` looks at
+-- the numbers that `answer::check_timer` looks at
 abbrev pub barred : ℕ → ℕ → Board → ℕ → ℕ
 barred timer size b cycle = first (no_such_index timer b.counts.timers ∷ bad_size size ∷ clock_astray b cycle ∷ [])
 

@@ -1,4 +1,6 @@
 // A timer's calls over the lent board (bus.rs, `Mmio`): read, peek, reset, deliver. Crate write has the writes.
+// A cycle below 2^63 and a size of at most 4 bytes are plain numbers: they are compared, summed and stored, and a type would be put together and taken
+// apart at each call.
 #![tactic(auto)]
 
 ghost use Rattle.std.specs.Prelude.{◌≡◌, cond, List, ◌+◌, ◌<◌, ◌≤◌, Float};
@@ -32,7 +34,8 @@ fn value_of(words: &[u64; WORDS], i: TimerIndex, off: u32, cycle: u64) -> u32
     regs::read_reg(t, off, cycle)
 }
 
-// Timer i's counter at a cycle. A reload of 0, which may block it, goes the general way: where it is above 0 the test for the block is gone.
+// Timer i's counter at a cycle: a second way of what lane_of does by value, which takes more than the Rust's time. A reload of 0, which may block the
+// counter, goes the general way: so, for speed, the compiler leaves out the test for the block in what follows.
 pub fn count_of(words: &[u64; WORDS], i: TimerIndex, cycle: u64) -> u32
     requires { cycle < 9223372036854775808 }
     ensures { (x : List Float) → result ≡ cnt_at (timer_at (view words.now x) i.n) cycle }
@@ -55,6 +58,7 @@ pub fn lane_of(words: &[u64; WORDS], i: TimerIndex, offset: u32, size: u32, cycl
 }
 
 // The whole of timer i's register at the offset. The counter has a short way, which is compiled into a read; every other goes the general one.
+// Offsets are such numbers to C and to the manual: crate regs has the table.
 #[inline(always)]
 fn whole_of(words: &[u64; WORDS], i: TimerIndex, offset: u32, cycle: u64) -> u32
     requires { cycle < 9223372036854775808 }
@@ -154,6 +158,7 @@ fn rebook_if(words: &mut [u64; WORDS], on: bool, i: TimerIndex, cycle: u64)
 }
 
 // What follows where timer i was stored: its outputs driven at the count if there is one, its line settled, its next event booked, each if asked for.
+// Seven parameters: what follows a write or a reset, by itself. Made by its two kinds of caller, a struct of them would be taken apart here.
 pub fn follow(
     board: &mut LentBoard<'_>,
     book: &mut LentBook<'_>,

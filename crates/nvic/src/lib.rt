@@ -1,6 +1,6 @@
 // Interrupt lines (arm/nvic.rs), each a word: bit 0 is its level, bit 1 its pending flag, bits 2 to 9 what timers 0 to 7 asked for last. The level
 // follows from the wishes and is kept beside them, where words of older boards, which have no wishes, have it too.
-// A timer's index is below 8, as many as the word has bits for.
+// A timer's index is below 8, as many as the word has bits for, and no type: it is the place of a bit here, and state's `TimerIndex` stands above.
 // Functions of the word and no struct of its bits: it is lent as a word, and each call would take a struct apart and put it together again.
 #![tactic(auto)]
 

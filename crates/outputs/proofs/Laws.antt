@@ -5,7 +5,7 @@ use Prim.Native.Nat.{ℕ, ◌+◌, ◌≤◌, ◌<◌}
 use native.Mathlib.Omega.{arith}
 use lib.Dec.{lit≤}
 use mir.Val.{bool_byte}
-use borrow.Author.Tests.{lt-ltb, le-ltb, lt-leb, le-leb}
+use borrow.Author.Tests.{lt-ltb, le-ltb, le-leb}
 use Rattle.tim.specs.declared.Timer.{Timer}
 use Rattle.tim.specs.Change.{output}
 use Rattle.sig.specs.Signal.{tim_signal}
@@ -98,12 +98,6 @@ outputs-driven b b₁ t u cnt at l l₁ l₂ l₃ k k₁ load e e₁ e₂ e₃ m
 -- the changes put into a book
 drives-append : (d : Drive) (at : ℕ) (b b₁ : Board) (k k₁ : Book) (c : Changes) → Drives d b b₁ c → k₁ ≡ puts k (entries_of at c) → Driven d at b b₁ k k₁
 drives-append d at b b₁ k k₁ c m w = record { board = m.board; entries = w ∙ ap (λ (x : Changes). puts k (entries_of at x)) m.changes }
-
-pub below_two : (n : ℕ) → n < 2 → driver n ≡ false
-below_two n h = rw (lt-leb 2 n h)
-
-pub above-four : (n : ℕ) → 2 ≤ n → 4 < n → driver n ≡ false
-above-four n h k = rw (le-leb 2 n h, lt-leb n 4 k)
 
 -- ---- channels driven and written
 pub one-driven : (m : Move) (at : ℕ) (b b₁ : Board) (k k₁ : Book) (c : Option Edge) → Moves m b b₁ c → k₁ ≡ puts k (entry_of at c) → DrivenOne m at b b₁ k k₁

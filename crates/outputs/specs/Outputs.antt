@@ -1,5 +1,5 @@
 -- What driving a timer's outputs leaves: the board that a definition gives, and its level changes.
-use Rattle.std.specs.Prelude.{◌≡◌, Bool, cond, ℕ, ◌+◌, ltb}
+use Rattle.std.specs.Prelude.{◌≡◌, Bool, cond, ℕ, ltb}
 use Rattle.gpio.specs.Gpio.{bit}
 use Rattle.book.specs.Book.{Book, puts, entry_of, entries_of}
 use Rattle.machine.specs.Board.{Board, Pads, with_pads}

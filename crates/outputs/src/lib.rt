@@ -1,4 +1,5 @@
 // A timer's outputs over the lent state (tim.rs, drive_outputs): its channels' signals at their levels, and the changes into a book.
+// A signal (below 256) and a level (0 or 1) are plain numbers: they are summed and compared, and a type would be put together and taken apart at each call.
 #![tactic(auto)]
 
 ghost use Rattle.std.specs.Prelude.{◌≡◌, ◌+◌, ◌<◌, ◌≤◌};
@@ -12,10 +13,10 @@ ghost use Rattle.outputs.specs.Outputs.{Driven, level_driven, DrivenOne};
 
 use book::LentBook;
 use state::{LentBoard, TimerIndex};
-use tim::Timer;
+use tim::{CH1, CH2, CH3, CH4, Timer};
 
-// Signal s at a level that it has not, and its level change into the book at a cycle. What changed goes from one to the other in registers: it is called, and
-// what it calls is compiled in.
+// Signal s at a level that it has not, and its level change into the book at a cycle. For speed it is a call, and what it calls is compiled into it:
+// so the change stays in registers on its way to the book.
 #[inline(never)]
 fn move_channel(board: &mut LentBoard<'_>, book: &mut LentBook<'_>, s: usize, level: u8, at: u64)
     requires signal { (s < 256) × (level ≤ 1) × (sig_level_at (lent_board board.old) s ≡ level → ⊥) }
@@ -30,7 +31,7 @@ fn move_channel(board: &mut LentBoard<'_>, book: &mut LentBook<'_>, s: usize, le
 }
 
 // Signal s, of channel ch, at a level, if the timer has that channel, and its level change into the book at a cycle. A signal that has its level is
-// looked at where this is compiled in.
+// looked at where this is compiled in. Seven parameters: a struct of them would be put together at each of the four calls and taken apart here.
 #[inline(always)]
 fn drive_channel(
     board: &mut LentBoard<'_>,
@@ -66,18 +67,16 @@ pub fn drive_timer(board: &mut LentBoard<'_>, book: &mut LentBook<'_>, t: Timer,
     ensures driven { Driven (S.drive_outputs t cnt (lent_board board.old).pads) at (lent_board board.old) (lent_board board.new) (filled book.old) (filled book.new) }
     ensures at_most_four { book.new.count ≤ book.old.count + 4 }
 {
-    if t.inst.n < 2 {
-        return;
-    }
-    if t.inst.n > 4 {
+    if !(2..=4).contains(&t.inst.n) {
         return;
     }
     let s = sig::tim(t.inst.n as u8, 0) as usize;
     let channels = t.inst.channels;
-    drive_channel(board, book, channels, 0, s, t.output(0, cnt), at);
-    drive_channel(board, book, channels, 1, s + 1, t.output(1, cnt), at);
-    drive_channel(board, book, channels, 2, s + 2, t.output(2, cnt), at);
-    drive_channel(board, book, channels, 3, s + 3, t.output(3, cnt), at);
+    // Written out: by a loop over the channels an event takes longer.
+    drive_channel(board, book, channels, 0, s, t.output(CH1, cnt), at);
+    drive_channel(board, book, channels, 1, s + 1, t.output(CH2, cnt), at);
+    drive_channel(board, book, channels, 2, s + 2, t.output(CH3, cnt), at);
+    drive_channel(board, book, channels, 3, s + 3, t.output(CH4, cnt), at);
 }
 
 // The same of timer i.

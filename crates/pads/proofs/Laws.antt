@@ -6,7 +6,7 @@ use Prim.Native.Nat.{ℕ, ◌≤◌}
 use native.Mathlib.Omega.{arith}
 use lib.Dec.{ltb, leb, lit≤}
 use lib.Ieee.{Float}
-use borrow.Author.Tests.{ltb-false}
+use borrow.Author.Tests.{ltb-false, le-leb}
 use Rattle.gpio.specs.declared.PinCfg.{PinCfg}
 use Rattle.pins.specs.declared.ExtDrive.{ExtDrive}
 use Rattle.std.specs.Prelude.{Option}
@@ -27,6 +27,12 @@ use Rattle.answer.specs.Promise.{answer, Answers}
 use Rattle.answer.proofs.Given.{refused-step, served-step, away, unbooked, gives}
 
 -- ---- the numbers
+
+-- the first of a pin setting's
+pub no_pin_lem : (b : Board) (pin cycle pl : ℕ) (t : Bool) (count : ℕ) → count ≡ b.counts.pins → count ≤ pin
+    → 2 ≡ first (no_such_index pin b.counts.pins ∷ clock_astray b cycle ∷ (11 when t) ∷ book_full 4 pl ∷ [])
+unfolding first
+no_pin_lem b pin cycle pl t count e l = rw (le-leb b.counts.pins pin (omega arith))
 
 -- those of a pin reset
 pub reset-number : (b : Board) (cycle need pl n : ℕ)

@@ -47,8 +47,7 @@ pub extern "C" fn probe_timer(words: &mut [u64; WORDS], i: u32)
     probe::probe_timer(words, i);
 }
 
-// The call that resets the pins. It is not measured: with it here the others are compiled as in the board, where refresh_any has two
-// callers and stays out of refresh_pin.
+// The call that resets the pins. It is not measured: it stands here so that the others are compiled beside the same callers as in the board.
 #[unsafe(no_mangle)]
 pub extern "C" fn probe_reset_pins(
     words: &mut [u64; WORDS],

@@ -1,2 +1,3 @@
+mod Synced
 pub mod Written
 pub mod Unmoved

@@ -87,10 +87,6 @@ module _ (b : Board) (i v cycle : ℕ) (t : Timer) (new : ℕ) (load : t ≡ tim
   steady-stored b₁ e div =
       e ∙ ap (λ (n : ℕ). with_timer b i (with_cr1 (synced u cycle) n)) kept ∙ ap (with_timer b i) (sym (steady-written u v cycle div stays))
 
--- one answer is not the other
-pub not-served : {A : Type 0} → false ≡ true → A
-not-served h = absurd (false≢true h)
-
 -- the reference moved, then CR1
 pub moved : (b b₁ b₂ : Board) (i cycle new : ℕ) → i < length b.timers → b₁ ≡ with_timer b i (synced (timer_at b i) cycle)
     → b₂ ≡ with_timer b₁ i (with_cr1 (timer_at b₁ i) new) → b₂ ≡ with_timer b i (with_cr1 (synced (timer_at b i) cycle) new)

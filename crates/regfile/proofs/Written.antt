@@ -1,5 +1,5 @@
 -- What the stores of a write do to the board, over any board: each step's equation in, the definition's timer out. Assumes nothing.
-use Rattle.std.specs.Option.{is_some}
+use Rattle.std.specs.Prelude.{Some, None}
 use mathlib.Core.Path.{◌≡◌, refl, ap, sym, ◌∙◌}
 use mathlib.Core.Bool.{Bool, true, false}
 use mathlib.Core.List.{List}
@@ -24,6 +24,8 @@ use Rattle.machine.specs.Board.{Board, timer_at, with_timer}
 use Rattle.state.specs.View.{view}
 use Rattle.state.proofs.InRange.{bounded}
 use Rattle.fields.proofs.Words.{same-timer, changed-twice, held}
+use Rattle.context.proofs.Laws.{stored_there}
+use Rattle.regfile.proofs.Synced.{acts-at}
 
 pub loaded-fit : (w : List ℕ) (x : List Float) (i : ℕ) (t : Timer) → t ≡ timer_at (view w x) i → Fit t
 loaded-fit w x i t h = rw h ((bounded w x).timer-fit i)
@@ -86,16 +88,18 @@ module _ (w : List ℕ) (x : List Float) (i ch v cycle : ℕ) (h : i < 8) (g : c
   preload : (on : Bool) → eqb (mode / 8 % 2) 1 ≡ on → Out.OCxPE (ccmr_byte u ch) ≡ on
   preload on e = ap (λ (n : ℕ). eqb (n / 8 % 2) 1) (sym byte) ∙ e
 
-  pub waits-drive : mode / 8 % 2 ≡ 1 → false ≡ is_some (ccr_written u ch v cycle).drive
+  pub waits-drive : mode / 8 % 2 ≡ 1 → None ≡ (ccr_written u ch v cycle).drive
   unfolding ccr_written
   waits-drive e = rw (preload true (eq-eqb _ _ e))
 
-  pub acts-drive : (mode / 8 % 2 ≡ 1 → ⊥) → true ≡ is_some (ccr_written u ch v cycle).drive
-  unfolding ccr_written
-  acts-drive e = rw (preload false (ne_eqb _ _ e))
-
   n : i < length b.timers
   n = omega (arith, (bounded w x).timers-length)
+
+  pub acts-drive : (mode / 8 % 2 ≡ 1 → ⊥) → (b₁ : Board) → b₁ ≡ with_timer b i (ccr_written u ch v cycle).timer → (cnt : ℕ)
+      → cnt ≡ (timer_at b₁ i).count.cnt0 → Some cnt ≡ (ccr_written u ch v cycle).drive
+  acts-drive e b₁ s cnt c =
+      ap (λ (k : ℕ). Some k) (c ∙ ap (λ (y : Timer). y.count.cnt0) (stored_there b b₁ i (ccr_written u ch v cycle).timer n s))
+      ∙ acts-at u ch v cycle ((bounded w x).timer-fit i).tick-pos (preload false (ne_eqb _ _ e))
 
   module _ (b₁ b₂ : Board) (p : b₁ ≡ with_timer b i (synced u cycle)) (q : b₂ ≡ with_timer b₁ i (with_ccr (timer_at b₁ i) ch (bit_and v m))) where
     stored : b₂ ≡ with_timer b i (with_ccr (synced u cycle) ch (bit_and v m))

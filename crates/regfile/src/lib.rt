@@ -1,4 +1,6 @@
 // The short ways of compares and CR1 in the lent words: the fields that a write changes are stored, and no others.
+// A second way of what regs does by value: by value a write takes more than the Rust's time.
+// A cycle below 2^63 is a plain number: it is compared, summed and stored, and a type would be put together and taken apart at each call.
 #![tactic(auto)]
 
 ghost use Rattle.std.specs.Prelude.{◌≡◌, true, false, List, ℕ, ◌<◌, Float, set, is_some};
@@ -12,6 +14,7 @@ ghost use Rattle.regfile.specs.Course.{same_course};
 
 use fields::Reg;
 use state::{TimerIndex, WORDS};
+use tim::Channel;
 
 // ---- compares
 
@@ -28,20 +31,25 @@ pub fn sync(words: &mut [u64; WORDS], i: TimerIndex, cycle: u64)
 }
 
 // Channel ch is done if its compare ccr lies behind the counter.
-fn settle_done(words: &mut [u64; WORDS], i: TimerIndex, ch: usize, ccr: u32)
-    requires { ch < 4 }
-    ensures { (x : List Float) → view words.new x ≡ with_timer (view words.old x) i.n (with_done (timer_at (view words.old x) i.n) (set (timer_at (view words.old x) i.n).chan.cc_done ch (behind_of (timer_at (view words.old x) i.n) ccr))) }
+fn settle_done(words: &mut [u64; WORDS], i: TimerIndex, ch: Channel, ccr: u32)
+    ensures { (x : List Float) → view words.new x ≡ with_timer (view words.old x) i.n (with_done (timer_at (view words.old x) i.n) (set (timer_at (view words.old x) i.n).chan.cc_done ch.n (behind_of (timer_at (view words.old x) i.n) ccr))) }
 {
     let t = state::load_timer(words, i);
     let done = t.is_past(ccr);
     fields::set_done(words, i, ch, done);
 }
 
-// A write of CCR1 to CCR4, and whether it acts at once: the outputs are then to be driven.
-pub fn write_ccr(words: &mut [u64; WORDS], i: TimerIndex, ch: usize, v: u32, cycle: u64) -> bool
-    requires { (ch < 4) × (cycle < 9223372036854775808) }
-    ensures board { (x : List Float) → view words.new x ≡ with_timer (view words.old x) i.n (R.ccr_written (timer_at (view words.old x) i.n) ch v cycle).timer }
-    ensures acts { (x : List Float) → result ≡ is_some (R.ccr_written (timer_at (view words.old x) i.n) ch v cycle).drive }
+// A write of CCR1 to CCR4, and the count to drive the outputs at if it acts at once: the reference's, since the timer is synced.
+pub fn write_ccr(
+    words: &mut [u64; WORDS],
+    i: TimerIndex,
+    ch: Channel,
+    v: u32,
+    cycle: u64,
+) -> Option<u32>
+    requires { cycle < 9223372036854775808 }
+    ensures board { (x : List Float) → view words.new x ≡ with_timer (view words.old x) i.n (R.ccr_written (timer_at (view words.old x) i.n) ch.n v cycle).timer }
+    ensures drive { (x : List Float) → result ≡ (R.ccr_written (timer_at (view words.old x) i.n) ch.n v cycle).drive }
 {
     let t = state::load_timer(words, i);
     let ccr = v & t.max();
@@ -49,11 +57,11 @@ pub fn write_ccr(words: &mut [u64; WORDS], i: TimerIndex, ch: usize, v: u32, cyc
     sync(words, i, cycle);
     fields::set_ccr(words, i, ch, ccr);
     if mode / 8 % 2 == 1 {
-        return false;
+        return None;
     }
     fields::set_ccr_act(words, i, ch, ccr);
     settle_done(words, i, ch, ccr);
-    true
+    Some(fields::cnt0(words, i))
 }
 
 // ---- CR1
@@ -83,9 +91,9 @@ pub fn write_cr1(words: &mut [u64; WORDS], i: TimerIndex, v: u32, cycle: u64) ->
 {
     let t = state::load_timer(words, i);
     let new = regs::kept_cr1(t, v);
-    if stays(t.regs.cr1, new) {
+    let steady = stays(t.regs.cr1, new);
+    if steady {
         write_steady(words, i, new, cycle);
-        return true;
     }
-    false
+    steady
 }

@@ -4,7 +4,7 @@ use mathlib.Core.Bool.{Bool, true, false, cond}
 use Prim.Native.Nat.{ℕ, zero, suc, ◌+◌, ◌%◌, ◌≤◌, ◌<◌}
 use Rattle.std.proofs.Common.{add-one}
 use native.Mathlib.Nat.{div-one}
-use borrow.Author.Tests.{ne_eqb, le-leb, lt-leb}
+use borrow.Author.Tests.{ne_eqb, le-leb}
 use Rattle.rm0440.specs.Bits.{is_set, CEN}
 use Rattle.tim.specs.declared.Timer.{Timer}
 use Rattle.tim.specs.Count.{synced}
@@ -49,12 +49,6 @@ module _ (t : Timer) (v now div : ℕ) {kept : ℕ} {s u : Timer} (k : kept ≡ 
   pub cr1-stops : {r : Timer} → (kept % 2 ≡ 1 → ⊥) → t.regs.cr1 % 2 ≡ 1 → r ≡ stopped u now → r ≡ cr1_written t v now div
   unfolding cr1_written
   cr1-stops n o e = e ∙ (ap (λ (x : Timer). stopped x now) stored ∙ rw (bit0-clear (kept_cr1 t v) kept k n, bit0-set t.regs.cr1 t.regs.cr1 refl o))
-
-pub ccr-low : (off : ℕ) → off < 0x34 → is_ccr off ≡ false
-ccr-low off h = rw (lt-leb 0x34 off h)
-
-pub ccr-high : (off : ℕ) → 0x34 ≤ off → 0x40 < off → is_ccr off ≡ false
-ccr-high off l h = rw (le-leb 0x34 off l, lt-leb off 0x40 h)
 
 pub ccr-in : (off : ℕ) → 0x34 ≤ off → off ≤ 0x40 → is_ccr off ≡ true
 ccr-in off l h = rw (le-leb 0x34 off l, le-leb off 0x40 h)

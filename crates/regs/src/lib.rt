@@ -7,7 +7,7 @@ ghost use Rattle.rm0440.specs.Registers.{kept_mask};
 ghost use Rattle.tim.specs.Timer.{Fit, Ready};
 ghost use Rattle.regs.specs.Regs as R;
 
-use tim::Timer;
+use tim::{Channel, Divider, Timer};
 
 // What a register write leaves: the next timer, the count at which the outputs are driven if they are, and whether the
 // interrupt line is settled and the next event booked.
@@ -80,6 +80,7 @@ pub fn kept_cr1(timer: Timer, v: u32) -> u32
 }
 
 // A direction change settles again which compares are done.
+#[tactic(auto, unfolding(crate::specs::Regs::turned))]
 fn turn(timer: Timer, old: u32) -> Timer
     ensures { result ≡ R.turned old timer }
 {
@@ -90,9 +91,9 @@ fn turn(timer: Timer, old: u32) -> Timer
 }
 
 // A write of CR1.
-pub fn write_cr1(timer: Timer, v: u32, now: u64, div: u32) -> Timer
-    requires { Ready timer now div }
-    ensures { result ≡ R.cr1_written timer v now div }
+pub fn write_cr1(timer: Timer, v: u32, now: u64, div: Divider) -> Timer
+    requires { Ready timer now div.n }
+    ensures { result ≡ R.cr1_written timer v now div.n }
 {
     let old = timer.regs.cr1;
     let new = kept_cr1(timer, v);
@@ -107,19 +108,19 @@ pub fn write_cr1(timer: Timer, v: u32, now: u64, div: u32) -> Timer
     }
 }
 
-fn egr_match(timer: Timer, v: u32, ch: usize) -> Timer
-    requires { ch < 4 }
-    ensures { result ≡ R.egr_match v ch timer }
+fn egr_match(timer: Timer, v: u32, ch: Channel) -> Timer
+    ensures { result ≡ R.egr_match v ch.n timer }
 {
-    if (v >> (ch + 1)) % 2 == 1 && timer.is_output(ch) {
+    if (v >> (ch.n + 1)) % 2 == 1 && timer.is_output(ch) {
         return timer.matched(ch);
     }
     timer
 }
 
-fn egr_update(timer: Timer, v: u32, now: u64, div: u32) -> Timer
-    requires { Ready timer now div }
-    ensures { result ≡ R.egr_update timer v now div }
+#[tactic(auto, unfolding(crate::specs::Regs::egr_update))]
+fn egr_update(timer: Timer, v: u32, now: u64, div: Divider) -> Timer
+    requires { Ready timer now div.n }
+    ensures { result ≡ R.egr_update timer v now div.n }
 {
     let s = timer.sync(now);
     if v % 2 == 1 {
@@ -128,17 +129,18 @@ fn egr_update(timer: Timer, v: u32, now: u64, div: u32) -> Timer
     s
 }
 
-fn write_egr(timer: Timer, v: u32, now: u64, div: u32) -> Timer
-    requires { Ready timer now div }
-    ensures { result ≡ R.egr_written timer v now div }
+fn write_egr(timer: Timer, v: u32, now: u64, div: Divider) -> Timer
+    requires { Ready timer now div.n }
+    ensures { result ≡ R.egr_written timer v now div.n }
 {
     let mut t = egr_update(timer, v, now, div);
-    for ch in 0..4 {
-        t = egr_match(t, v, ch);
+    for n in 0..4 {
+        t = egr_match(t, v, Channel { n });
     }
     t
 }
 
+#[tactic(auto, unfolding(crate::specs::Regs::cnt_written))]
 fn write_cnt(timer: Timer, v: u32, now: u64) -> Timer
     requires { (Fit timer) × (now < 9223372036854775808) }
     ensures { result ≡ R.cnt_written timer v now }
@@ -149,6 +151,7 @@ fn write_cnt(timer: Timer, v: u32, now: u64) -> Timer
         .recompute_cc_done()
 }
 
+#[tactic(auto, unfolding(crate::specs::Regs::arr_written))]
 fn write_arr(timer: Timer, v: u32, now: u64) -> Written
     requires { (Fit timer) × (now < 9223372036854775808) }
     ensures { result ≡ R.arr_written timer v now }
@@ -166,33 +169,29 @@ fn write_arr(timer: Timer, v: u32, now: u64) -> Written
     }
 }
 
-// An immediate compare settles its own channel. A function and no store in place: the counter is read of the timer before it.
-fn settle(mut timer: Timer, ch: usize) -> Timer
-    requires { ch < 4 }
-    ensures { result ≡ R.settled_channel timer ch }
-{
-    timer.chan.cc_done[ch] = timer.is_behind(ch);
-    timer
-}
-
-fn write_ccr(timer: Timer, ch: usize, v: u32, now: u64) -> Written
-    requires { (Fit timer) × (now < 9223372036854775808) × (ch < 4) }
-    ensures { result ≡ R.ccr_written timer ch v now }
+// An immediate compare settles its own channel.
+#[tactic(auto, unfolding(crate::specs::Regs::ccr_written))]
+fn write_ccr(timer: Timer, ch: Channel, v: u32, now: u64) -> Written
+    requires { (Fit timer) × (now < 9223372036854775808) }
+    ensures { result ≡ R.ccr_written timer ch.n v now }
 {
     let ccr = v & timer.max();
     let mut t = timer.sync(now);
-    t.chan.ccr[ch] = ccr;
+    t.chan.ccr[ch.n] = ccr;
     if timer.ccmr_byte(ch) / 8 % 2 == 1 {
         return Written::only(t);
     }
-    t.chan.ccr_act[ch] = ccr;
+    t.chan.ccr_act[ch.n] = ccr;
+    let cnt = t.cnt_at(now);
+    t.chan.cc_done[ch.n] = t.is_behind(ch);
     Written {
-        drive: Some(t.cnt_at(now)),
+        drive: Some(cnt),
         book: true,
-        ..Written::only(settle(t, ch))
+        ..Written::only(t)
     }
 }
 
+#[tactic(auto, unfolding(crate::specs::Regs::ccmr_written))]
 fn write_ccmr(timer: Timer, i: usize, v: u32, now: u64) -> Written
     requires { (Fit timer) × (now < 9223372036854775808) × (i < 2) }
     ensures { result ≡ R.ccmr_written timer i v now }
@@ -206,6 +205,7 @@ fn write_ccmr(timer: Timer, i: usize, v: u32, now: u64) -> Written
     }
 }
 
+#[tactic(auto, unfolding(crate::specs::Regs::ccer_written))]
 fn write_ccer(mut timer: Timer, v: u32, now: u64) -> Written
     requires { (Fit timer) × (now < 9223372036854775808) }
     ensures { result ≡ R.ccer_written timer v now }
@@ -217,6 +217,7 @@ fn write_ccer(mut timer: Timer, v: u32, now: u64) -> Written
     }
 }
 
+#[tactic(auto, unfolding(crate::specs::Regs::channel_written))]
 fn write_channel(timer: Timer, off: u32, v: u32, now: u64) -> Written
     requires { (Fit timer) × (now < 9223372036854775808) }
     ensures { result ≡ R.channel_written timer off v now }
@@ -230,7 +231,9 @@ fn write_channel(timer: Timer, off: u32, v: u32, now: u64) -> Written
         0x20 => write_ccer(timer, v & kept(8), now),
         0x34..=0x40 => write_ccr(
             timer,
-            ((off - 0x34) / 4) as usize,
+            Channel {
+                n: ((off - 0x34) / 4) as usize,
+            },
             v & kept((off / 4) as usize),
             now,
         ),
@@ -239,9 +242,10 @@ fn write_channel(timer: Timer, off: u32, v: u32, now: u64) -> Written
 }
 
 // A write of the register at off, whose low two bits are clear: the next timer, and what follows.
-pub fn write_reg(mut timer: Timer, off: u32, v: u32, now: u64, div: u32) -> Written
-    requires { Ready timer now div }
-    ensures { result ≡ R.reg_written timer off v now div }
+#[tactic(auto, unfolding(crate::specs::Regs::reg_written))]
+pub fn write_reg(mut timer: Timer, off: u32, v: u32, now: u64, div: Divider) -> Written
+    requires { Ready timer now div.n }
+    ensures { result ≡ R.reg_written timer off v now div.n }
 {
     match off {
         0x00 => Written {
@@ -296,6 +300,7 @@ pub fn write_reg(mut timer: Timer, off: u32, v: u32, now: u64, div: u32) -> Writ
     }
 }
 
+#[tactic(auto, unfolding(crate::specs::Regs::channel_read))]
 fn read_channel(timer: Timer, off: u32) -> u32
     ensures { result ≡ R.channel_read timer off }
 {
@@ -312,6 +317,7 @@ fn read_channel(timer: Timer, off: u32) -> u32
 }
 
 // A register's value at a cycle.
+#[tactic(auto, unfolding(crate::specs::Regs::reg_read))]
 pub fn read_reg(timer: Timer, off: u32, now: u64) -> u32
     requires { (Fit timer) × (now < 9223372036854775808) }
     ensures { result ≡ R.reg_read timer off now }

@@ -34,16 +34,12 @@ fn short_two(call: &[u32]) -> (u32, u32) {
     }
 }
 
-fn joined(low: u32, high: u32) -> u64 {
-    (u64::from(high) << 32) + u64::from(low)
-}
-
 // The number of 64 bits at place i of a call that has no others.
 fn wide(call: &[u32], i: usize) -> u64
     requires { i < 9 }
 {
     match call.get(1 + 2 * i..3 + 2 * i) {
-        Some([low, high]) => joined(*low, *high),
+        Some([low, high]) => line::joined(*low, *high),
         _ => 0,
     }
 }
@@ -111,7 +107,7 @@ impl<'a, R: Print> Session<'a, R> {
         self.tell(p.number, &setting)
     }
 
-    // The writer of records, lent as many of the line's places as a record can need.
+    // The writer of records, lent as many of the line's places as a record can need. By the number that C is given: 0 for a record that was written.
     fn record(&mut self, call: &[u32]) -> Result<(), Failure> {
         let mut places = [0; WRITTEN];
         let asked = at_most(wide(call, 8), WRITTEN);

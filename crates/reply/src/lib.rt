@@ -1,7 +1,12 @@
 // An answer as text, by way of a buffer that is written out when it is nearly full; and what programs share: how an input is taken, and how a run ends.
 #![tactic(auto)]
 
-ghost use Rattle.std.specs.Prelude.{◌≡◌, ◌+◌, ◌<◌, ◌≤◌, ◌++◌, ◌∷◌, [], take, IsErr, OnOk};
+ghost use Rattle.std.specs.Prelude.{◌≡◌, ◌≢◌, ◌+◌, ◌<◌, ◌≤◌, ◌++◌, ◌∷◌, [], take, IsErr, OnOk};
+ghost use Rattle.reply.specs.declared.Failure.{Failure};
+ghost use Rattle.reply.specs.declared.Stop.{Stop};
+ghost use Rattle.reply.specs.Output.{Tells};
+ghost use Rattle.std.specs.IoError.{error_kind};
+ghost use Rattle.std.specs.declared.io.ErrorKind.TheVariants.{BrokenPipe};
 ghost use Rattle.text.specs.Digits.{places_of, digits_of};
 
 use std::io;
@@ -27,6 +32,8 @@ pub enum Failure {
 }
 
 impl From<io::Error> for Failure {
+    ghost from_gives = { λ error failure. (error_kind error ≡ BrokenPipe → failure ≡ Failure.Unread) × (error_kind error ≢ BrokenPipe → failure ≡ Failure.Lost) };
+
     fn from(error: io::Error) -> Failure {
         if error.kind() == ErrorKind::BrokenPipe {
             Failure::Unread
@@ -45,24 +52,31 @@ pub enum Stop {
 }
 
 impl From<Reason> for Stop {
+    ghost from_gives = { λ reason stop. stop ≡ Stop.Malformed reason };
+
     fn from(reason: Reason) -> Stop {
         Stop::Malformed(reason)
     }
 }
 
 impl From<io::Error> for Stop {
+    ghost from_gives = { λ _ stop. stop ≡ Stop.Read };
+
     fn from(_: io::Error) -> Stop {
         Stop::Read
     }
 }
 
 impl From<Failure> for Stop {
+    ghost from_gives = { λ failure stop. stop ≡ Stop.Write failure };
+
     fn from(failure: Failure) -> Stop {
         Stop::Write(failure)
     }
 }
 
-// What an input is given to, by its lines.
+// What an input is given to, by its lines. No laws: that a program reads on is promised no further than that it is safe and ends, which the check of its
+// impl shows; what it writes of a call is `Output`'s to promise.
 pub trait Taker {
     type Lines;
 
@@ -143,8 +157,7 @@ impl<'a, R: Print> Output<'a, R> {
 
     // Writes out what is in the buffer.
     pub fn flush(&mut self) -> Result<(), Failure>
-        ensures told { result ≡ self.new.written }
-        ensures stays { IsErr self.old.written → self.new.written ≡ self.old.written }
+        ensures tells { Tells result self.old.written self.new.written }
         ensures empty { OnOk result (self.new.used ≡ 0) }
     {
         self.written?;
@@ -159,8 +172,7 @@ impl<'a, R: Print> Output<'a, R> {
 
     // Makes room for a piece.
     fn room(&mut self) -> Result<(), Failure>
-        ensures told { result ≡ self.new.written }
-        ensures stays { IsErr self.old.written → self.new.written ≡ self.old.written }
+        ensures tells { Tells result self.old.written self.new.written }
     {
         if self.used <= OUT - PIECE {
             return self.written;
@@ -194,8 +206,7 @@ impl<'a, R: Print> Output<'a, R> {
 
     // A text of few bytes.
     fn words(&mut self, words: &str) -> Result<(), Failure>
-        ensures told { result ≡ self.new.written }
-        ensures stays { IsErr self.old.written → self.new.written ≡ self.old.written }
+        ensures tells { Tells result self.old.written self.new.written }
     {
         self.room()?;
         for b in words.as_bytes() {
@@ -206,8 +217,7 @@ impl<'a, R: Print> Output<'a, R> {
 
     // ` PIN:LEVEL@CYCLE/SOURCE`
     fn entry(&mut self, entry: Entry) -> Result<(), Failure>
-        ensures told { result ≡ self.new.written }
-        ensures stays { IsErr self.old.written → self.new.written ≡ self.old.written }
+        ensures tells { Tells result self.old.written self.new.written }
     {
         self.room()?;
         self.put(b' ');
@@ -223,8 +233,7 @@ impl<'a, R: Print> Output<'a, R> {
 
     // ` NUMBER`
     fn another(&mut self, x: u64) -> Result<(), Failure>
-        ensures told { result ≡ self.new.written }
-        ensures stays { IsErr self.old.written → self.new.written ≡ self.old.written }
+        ensures tells { Tells result self.old.written self.new.written }
     {
         self.room()?;
         self.put(b' ');
@@ -233,8 +242,7 @@ impl<'a, R: Print> Output<'a, R> {
     }
 
     fn hex(&mut self, b: u8) -> Result<(), Failure>
-        ensures told { result ≡ self.new.written }
-        ensures stays { IsErr self.old.written → self.new.written ≡ self.old.written }
+        ensures tells { Tells result self.old.written self.new.written }
     {
         self.room()?;
         self.put(HEX_DIGITS[usize::from(b / 16)]);
@@ -244,8 +252,7 @@ impl<'a, R: Print> Output<'a, R> {
 
     // `NUMBER VALUE COUNT`
     fn head(&mut self, answer: &[u64; 3]) -> Result<(), Failure>
-        ensures told { result ≡ self.new.written }
-        ensures stays { IsErr self.old.written → self.new.written ≡ self.old.written }
+        ensures tells { Tells result self.old.written self.new.written }
     {
         let [number, value, count] = *answer;
         self.room()?;
@@ -258,8 +265,7 @@ impl<'a, R: Print> Output<'a, R> {
     }
 
     fn line_end(&mut self) -> Result<(), Failure>
-        ensures told { result ≡ self.new.written }
-        ensures stays { IsErr self.old.written → self.new.written ≡ self.old.written }
+        ensures tells { Tells result self.old.written self.new.written }
     {
         self.room()?;
         self.put(b'\n');
@@ -273,10 +279,10 @@ impl<'a, R: Print> Output<'a, R> {
         book: Book<'_>,
         entries: usize,
     ) -> Result<(), Failure>
-        ensures told { result ≡ self.new.written }
-        ensures stays { IsErr self.old.written → self.new.written ≡ self.old.written }
+        ensures tells { Tells result self.old.written self.new.written }
     {
         self.head(answer)?;
+        // Tried with `map_while`: the check takes no iterator whose closure holds the book's slices.
         for i in 0..entries {
             match book.entry(i) {
                 Some(entry) => self.entry(entry)?,
@@ -288,8 +294,7 @@ impl<'a, R: Print> Output<'a, R> {
 
     // The line of an answer that is its three numbers.
     pub fn plain(&mut self, answer: &[u64; 3]) -> Result<(), Failure>
-        ensures told { result ≡ self.new.written }
-        ensures stays { IsErr self.old.written → self.new.written ≡ self.old.written }
+        ensures tells { Tells result self.old.written self.new.written }
     {
         self.head(answer)?;
         self.line_end()
@@ -297,8 +302,7 @@ impl<'a, R: Print> Output<'a, R> {
 
     // The line of an answer that has numbers behind its three and no entries.
     pub fn numbers(&mut self, answer: &[u64; 3], more: &[u64]) -> Result<(), Failure>
-        ensures told { result ≡ self.new.written }
-        ensures stays { IsErr self.old.written → self.new.written ≡ self.old.written }
+        ensures tells { Tells result self.old.written self.new.written }
     {
         self.head(answer)?;
         for x in more {
@@ -309,8 +313,7 @@ impl<'a, R: Print> Output<'a, R> {
 
     // The line of an answer whose count is that of the bytes behind its three numbers.
     pub fn bytes(&mut self, answer: &[u64; 3], bytes: &[u8]) -> Result<(), Failure>
-        ensures told { result ≡ self.new.written }
-        ensures stays { IsErr self.old.written → self.new.written ≡ self.old.written }
+        ensures tells { Tells result self.old.written self.new.written }
     {
         self.head(answer)?;
         self.put(b' ');
@@ -322,8 +325,7 @@ impl<'a, R: Print> Output<'a, R> {
 
     // `line N: ` and the reason.
     pub fn malformed(&mut self, line: u64, reason: Reason) -> Result<(), Failure>
-        ensures told { result ≡ self.new.written }
-        ensures stays { IsErr self.old.written → self.new.written ≡ self.old.written }
+        ensures tells { Tells result self.old.written self.new.written }
     {
         self.words("line ")?;
         self.number(line);

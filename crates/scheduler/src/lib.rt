@@ -13,7 +13,8 @@ pub struct Scheduler {
     pub cycles: [u64; 8],
 }
 
-// That an owner is below 8 stands in each contract: it is the length of the array that it indexes, and callers have it as a plain number.
+// That an owner is below 8 stands in each contract: it is the length of the array that it indexes. Its type is state's
+// `TimerIndex`, and state stands above.
 impl Scheduler {
     // No owner has a booking.
     pub fn new() -> Scheduler

@@ -113,18 +113,18 @@ fn within(most: u64, x: u64) -> bool
 }
 
 impl Given {
-    // What a record can hold.
+    // What a record can hold: set-up's limits, and that of the bus and the interrupt.
     #[tactic(auto, unfolding(crate::specs::Record::good))]
     fn is_good(self) -> bool
         ensures { result ≡ good (inst_of self) }
     {
         within(24, self.number)
-            & ((self.width == 16) | (self.width == 32))
-            & (self.channels <= 4)
-            & (self.word <= 8)
-            & (self.bit <= 31)
-            & within(4, self.bus)
-            & (self.irq <= 0xffff_ffff)
+            && (self.width == 16 || self.width == 32)
+            && self.channels <= 4
+            && self.word <= 8
+            && self.bit <= 31
+            && within(4, self.bus)
+            && self.irq <= 0xffff_ffff
     }
 
     // Kind 2 for a manual timer.
@@ -248,7 +248,7 @@ fn cut_short(bytes: &[u8]) -> bool
     ensures { result ≡ cut_short bytes.now }
 {
     let length = two_at(bytes, 0);
-    (bytes.len() < 2) | ((length < 2) | (bytes.len() < 2 + usize::from(length)))
+    bytes.len() < 2 || length < 2 || bytes.len() < 2 + usize::from(length)
 }
 
 #[tactic(auto, unfolding(crate::specs::Record::strange_kind))]
@@ -276,7 +276,7 @@ fn wrong_added(bytes: &[u8]) -> bool
 {
     let kind = two_at(bytes, 2);
     let added = byte_at(bytes, 14);
-    (kind == 2) & (added != 1)
+    kind == 2 && added != 1
 }
 
 // The settings as they stand; a kind-2 record's timer is manual.
@@ -300,7 +300,7 @@ fn settings_in(bytes: &[u8]) -> Settings
 fn wrong_settings(bytes: &[u8]) -> bool
     ensures { result ≡ wrong_settings bytes.now }
 {
-    wrong_added(bytes) | !Given::from(settings_in(bytes)).is_good()
+    wrong_added(bytes) || !Given::from(settings_in(bytes)).is_good()
 }
 
 // The first check that applies.

@@ -1,18 +1,17 @@
 -- The limits, timer by timer and entry by entry: what is left to test gives the same answer. Assumes nothing.
 use mathlib.Core.Path.{◌≡◌, refl, ap, sym, ◌∙◌}
-use mathlib.Core.Bool.{Bool, true, false, ◌&&◌, false≢true}
+use mathlib.Core.Bool.{Bool, true, false, not, ◌&&◌, false≢true}
 use mathlib.Core.List.{List, [], ◌∷◌}
 use Prim.Native.Nat.{ℕ, zero, suc, ◌+◌, ◌-◌, ◌*◌, ◌<◌, ◌≤◌}
 use native.Mathlib.Omega.{arith}
 use lib.Dec.{leb, ltb, eqb}
 use lib.Ieee.{Float}
-use lib.ListN.{length, get_or}
-use borrow.Author.Tests.{eq-eqb, ne_eqb, lt-ltb, le-ltb, le-leb, lt-leb, leb-true, ltb-true, eqb-true}
-use Rattle.std.specs.Bool.{MatchBool}
-use Rattle.std.specs.List.{AllWithin, HoldsAt}
+use lib.ListN.{length, get_or, drop}
+use borrow.Author.Tests.{eq-eqb, ne_eqb, le-leb, lt-leb, leb-true, ltb-true, eqb-true}
+use Rattle.std.specs.List.{slice_range, list_all, range_with_len}
+use Rattle.std.proofs.lemmas.List.{get_or-take, get_or-drop}
 use Rattle.real.specs.Real.{positive}
 use Rattle.rm0440.specs.Bits.{is_set}
-use Rattle.tim.specs.declared.Inst.{Inst}
 use Rattle.machine.specs.Board.{no_inst}
 use Rattle.machine.specs.Step.{fresh, inst_good, insts_good, entries_below, within_limits}
 use Rattle.setup.specs.Setup.{count_of, inst_given, insts_from, insts_of, setup_of, sizes_good}
@@ -39,86 +38,62 @@ module _ (mask : ℕ) (ns : List ℕ) (i : ℕ) where
   unfolding inst_given
   inst-lacking h = rw (lt-leb (i * 7 + 7) (length ns) h)
 
-  pub inst-whole : i * 7 + 7 ≤ length ns
+  cut-at : (k : ℕ) → k < 7 → get_or (slice_range ns (i * 7) (i * 7 + 7)) k 0 ≡ get_or ns (i * 7 + k) 0
+  cut-at k h = get_or-take (i * 7 + 7 - i * 7) (drop (i * 7) ns) k 0 (omega arith) ∙ get_or-drop (i * 7) ns k 0
+
+  pub inst-whole : (cut : List ℕ) → cut ≡ slice_range ns (i * 7) (i * 7 + 7) → i * 7 + 7 ≤ length ns
       → record {
-        n = get_or ns (i * 7) 0;
-        width = get_or ns (i * 7 + 1) 0;
-        channels = get_or ns (i * 7 + 2) 0;
-        apb = get_or ns (i * 7 + 3) 0;
-        en_reg = get_or ns (i * 7 + 4) 0;
-        en_bit = get_or ns (i * 7 + 5) 0;
-        irq = get_or ns (i * 7 + 6) 0;
+        n = get_or cut 0 0;
+        width = get_or cut 1 0;
+        channels = get_or cut 2 0;
+        apb = get_or cut 3 0;
+        en_reg = get_or cut 4 0;
+        en_bit = get_or cut 5 0;
+        irq = get_or cut 6 0;
         manual = is_set i mask;
       } ≡ inst_given mask ns i
   unfolding inst_given
-  inst-whole h = rw (le-leb (i * 7 + 7) (length ns) h)
+  inst-whole cut e h =
+      let first : i * 7 + 0 ≡ i * 7 = omega arith in
+      rw (
+        e,
+        cut-at 0 (omega arith),
+        cut-at 1 (omega arith),
+        cut-at 2 (omega arith),
+        cut-at 3 (omega arith),
+        cut-at 4 (omega arith),
+        cut-at 5 (omega arith),
+        cut-at 6 (omega arith),
+        first,
+        le-leb (i * 7 + 7) (length ns) h,
+      )
 
--- ---- the timers that are left
-module _ (mask : ℕ) (ns : List ℕ) (count i : ℕ) where
-  from_next : i < count → insts_from mask ns (count - i) i ≡ inst_given mask ns i ∷ insts_from mask ns (count - (i + 1)) (i + 1)
-  unfolding insts_from
-  from_next h = let e : count - i ≡ suc (count - (i + 1)) = omega arith in ap (λ (m : ℕ). insts_from mask ns m i) e
+-- ---- the timers from one on
+module _ (mask : ℕ) (ns : List ℕ) where
+  -- timer i has another number
+  abbrev pub other : ℕ → ℕ → Bool
+  other n i = not (eqb (inst_given mask ns i).n n)
 
-  from-none : count ≤ i → insts_from mask ns (count - i) i ≡ []
-  unfolding insts_from
-  from-none h = let e : count - i ≡ 0 = omega arith in ap (λ (m : ℕ). insts_from mask ns m i) e
+  -- timer i keeps the limits, and none of the later ones has its number
+  abbrev pub fits-in : ℕ → ℕ → Bool
+  fits-in count i = inst_good (inst_given mask ns i) && fresh (inst_given mask ns i).n (insts_from mask ns (count - (i + 1)) (i + 1))
 
-  module _ (t : Inst) (q : Bool) (load : t ≡ inst_given mask ns i) (h : i < count) where
-    module _ (n : ℕ) (inv : fresh n (insts_from mask ns (count - i) i) ≡ q) where
-      pub fresh-taken : t.n ≡ n → false ≡ q
-      unfolding fresh
-      fresh-taken e = sym (ap (fresh n) (from_next h) ∙ rw (eq-eqb (inst_given mask ns i).n n (sym (ap (λ (x : Inst). x.n) load) ∙ e))) ∙ inv
+  pub all-other : (n k i : ℕ) → list_all (other n) (range_with_len i k) ≡ fresh n (insts_from mask ns k i)
+  unfolding insts_from fresh
+  all-other n zero i = refl
+  all-other n (suc k) i = ap (λ (b : Bool). other n i && b) (all-other n k (i + 1))
 
-      pub fresh-next : (t.n ≡ n → ⊥) → fresh n (insts_from mask ns (count - (i + 1)) (i + 1)) ≡ q
-      unfolding fresh
-      fresh-next e = sym (ap (fresh n) (from_next h) ∙ rw (ne_eqb (inst_given mask ns i).n n (λ z. e (ap (λ (x : Inst). x.n) load ∙ z)))) ∙ inv
-
-    module _ (inv : insts_good (insts_from mask ns (count - i) i) ≡ q) where
-      pub good-bad : inst_good t ≡ false → false ≡ q
-      unfolding insts_good
-      good-bad e = sym (ap insts_good (from_next h) ∙ rw (sym (ap inst_good load) ∙ e)) ∙ inv
-
-      module _ (g : inst_good t ≡ true) where
-        pub good-twice : fresh t.n (insts_from mask ns (count - (i + 1)) (i + 1)) ≡ false → false ≡ q
-        unfolding insts_good
-        good-twice e = sym (ap insts_good (from_next h) ∙ rw (sym (ap inst_good load) ∙ g, sym (ap (λ (x : Inst). fresh x.n (insts_from mask ns (count - (i + 1)) (i + 1))) load) ∙ e)) ∙ inv
-
-        pub good-next : fresh t.n (insts_from mask ns (count - (i + 1)) (i + 1)) ≡ true → insts_good (insts_from mask ns (count - (i + 1)) (i + 1)) ≡ q
-        unfolding insts_good
-        good-next e = sym (ap insts_good (from_next h) ∙ rw (sym (ap inst_good load) ∙ g, sym (ap (λ (x : Inst). fresh x.n (insts_from mask ns (count - (i + 1)) (i + 1))) load) ∙ e)) ∙ inv
-
-  pub fresh-end : (n : ℕ) (q : Bool) → count ≤ i → fresh n (insts_from mask ns (count - i) i) ≡ q → true ≡ q
-  unfolding fresh
-  fresh-end n q h inv = sym (ap (fresh n) (from-none h)) ∙ inv
-
-  pub good-end : (q : Bool) → count ≤ i → insts_good (insts_from mask ns (count - i) i) ≡ q → true ≡ q
-  unfolding insts_good
-  good-end q h inv = sym (ap insts_good (from-none h)) ∙ inv
-
-pub good_start : (mask : ℕ) (ns : List ℕ) (count : ℕ) → insts_good (insts_from mask ns (count - 0) 0) ≡ insts_good (insts_from mask ns count 0)
-good_start mask ns count = let e : count - 0 ≡ count = omega arith in ap (λ (m : ℕ). insts_good (insts_from mask ns m 0)) e
+  pub all-fit : (count k i : ℕ) → i + k ≡ count → list_all (fits-in count) (range_with_len i k) ≡ insts_good (insts_from mask ns k i)
+  unfolding insts_from insts_good
+  all-fit count zero i e = refl
+  all-fit count (suc k) i e = let m : count - (i + 1) ≡ k = omega (arith, e) in rw (m, all-fit count k (i + 1) (omega (arith, e)))
 
 -- ---- the signal table
 
--- each is below 256, or some entry is not
-pub entries-decide : (l : List ℕ) (r : Bool) → MatchBool r (AllWithin (λ x. x < 256) l 0 (length l)) ((k : ℕ) × (k < length l) × HoldsAt (λ x. 256 ≤ x) l k)
-    → r ≡ entries_below 256 l
+pub all-below : (l : List ℕ) → list_all (λ x. ltb x 256) l ≡ entries_below 256 l
 unfolding entries_below
-entries-decide l true h = sym (all l (λ k g. h k 0 (omega arith) g))
-  where
-    all : (l : List ℕ) → ((k : ℕ) → k < length l → get_or l k 0 < 256) → entries_below 256 l ≡ true
-    all [] h = refl
-    all (x ∷ l) h = rw (lt-ltb x 256 (h 0 (omega arith)), all l (λ k g. h (suc k) (omega arith))) refl
-entries-decide l false h = sym (some l h.0 h.1 (h.2 0))
-  where
-    some : (l : List ℕ) (k : ℕ) → k < length l → 256 ≤ get_or l k 0 → entries_below 256 l ≡ false
-    some [] k g h = absurd (omega arith)
-    some (x ∷ l) zero g h = rw (le-ltb x 256 h) refl
-    some (x ∷ l) (suc k) g h = go (ltb x 256) (some l k (omega arith) h)
-      where
-        go : (b : Bool) → entries_below 256 l ≡ false → (b && entries_below 256 l) ≡ false
-        go true e = e
-        go false e = refl
+all-below [] = refl
+all-below (x ∷ l) = ap (λ (b : Bool). ltb x 256 && b) (all-below l)
 
 pub entry_at : (l : List ℕ) (k : ℕ) → entries_below 256 l ≡ true → k < length l → get_or l k 0 < 256
 unfolding entries_below

@@ -45,6 +45,7 @@ fn no_inst() -> Inst
     }
 }
 
+// The limits of `settings` are these and more: no plainer as one, since a record's numbers are of 64 bits, which no `Inst` holds.
 fn inst_good(i: Inst) -> bool
     ensures { result ≡ S.inst_good i }
 {
@@ -69,57 +70,45 @@ impl SetUp<'_> {
         self.timers.len().div_ceil(7)
     }
 
-    // Timer i, its mode by bit i of the mask. One that lacks numbers has the number 0, which no limit allows.
+    // Timer i, its mode by bit i of the mask. One that lacks numbers is the definition's `no_inst`, whose number 0 no limit allows. It is
+    // asked of the call's numbers, before there is a timer that an index could be of.
     fn inst_at(self, i: usize) -> Inst
         requires { i < 8 }
         ensures { result ≡ inst_given self.entry.manual self.entry.timers.now i }
     {
         let at = i * 7;
-        if at + 7 > self.timers.len() {
+        let Some([n, width, channels, apb, en_reg, en_bit, irq]) = self.timers.get(at..at + 7)
+        else {
             return no_inst();
-        }
+        };
         Inst {
-            n: self.timers[at],
-            width: self.timers[at + 1],
-            channels: self.timers[at + 2],
-            apb: self.timers[at + 3],
-            irq: self.timers[at + 6],
-            en_reg: self.timers[at + 4],
-            en_bit: self.timers[at + 5],
+            n: *n,
+            width: *width,
+            channels: *channels,
+            apb: *apb,
+            irq: *irq,
+            en_reg: *en_reg,
+            en_bit: *en_bit,
             manual: (self.manual >> i) % 2 == 1,
         }
     }
 
-    // Number n is none of the timers' from `from` on. A loop, here and below: the laws go from one timer to the next.
+    // Number n is none of the timers' from `from` on.
     fn is_fresh(self, n: u32, from: usize) -> bool
         requires { (from ≤ count_of self.timers.now) × (count_of self.timers.now ≤ 8) }
         ensures { result ≡ S.fresh n (insts_from self.entry.manual self.entry.timers.now (count_of self.entry.timers.now - from) from) }
     {
-        let count = self.timer_count();
-        for i in from..count {
-            let inst = self.inst_at(i);
-            if inst.n == n {
-                return false;
-            }
-        }
-        true
+        (from..self.timer_count()).all(|i| self.inst_at(i).n != n)
     }
 
     fn timers_good(self) -> bool
         requires { count_of self.timers.now ≤ 8 }
         ensures { result ≡ S.insts_good (insts_of self.entry.manual self.entry.timers.now) }
     {
-        let count = self.timer_count();
-        for i in 0..count {
+        (0..self.timer_count()).all(|i| {
             let inst = self.inst_at(i);
-            if !inst_good(inst) {
-                return false;
-            }
-            if !self.is_fresh(inst.n, i + 1) {
-                return false;
-            }
-        }
-        true
+            inst_good(inst) && self.is_fresh(inst.n, i + 1)
+        })
     }
 
     fn sizes_good(self) -> bool

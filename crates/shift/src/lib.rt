@@ -142,7 +142,8 @@ fn turned(high: u64, rest: u64, level: u64) -> u64
     }
 }
 
-// ---- the kept words. A pin is below 128 wherever it is a place in them; a book's bytes may say any, which `placed` tests.
+// ---- the kept words. A pin is below 128 wherever it is a place in them; a book's bytes may say any, which `placed` tests. No type for it: the words and the
+// bytes are C's, and a loop over the pins counts in plain numbers.
 
 // Field by field, here and in `store`: the names say which word is which.
 fn load(kept: &[u64; KEPT], pin: usize) -> Track

@@ -270,11 +270,10 @@ impl Taker for Shift {
     type Lines = Lines;
 
     fn feed(&mut self, lines: &mut Lines, b: u8) -> Result<(), Stop> {
-        let (returned, piece) = lines.next(b);
-        if returned {
+        if lines.is_returned(b) {
             self.letter(b'\r')?;
         }
-        match piece {
+        match lines.next(b) {
             Piece::Nothing => {}
             Piece::Letter => self.letter(b)?,
             Piece::WordEnd => self.word_end()?,

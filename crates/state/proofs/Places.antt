@@ -184,25 +184,3 @@ module _ (w : List ℕ) (x : List Float) where
   line_read irq h =
       word_at (get_or (parts 0 sizes w) 8 []) (view w x).nvic.nirq irq (lt-ltb _ _ h)
       ∙ ap line_of (part_at 0 sizes 8 irq w (omega (arith, (bounded w x).nirq-le)))
-
--- the test of a line; and its word's place
-module _ (w : List ℕ) (irq : ℕ) (r : Bool) (e : (x : List Float) → r ≡ ltb irq (view w x).nvic.nirq) where
-  pub line-there : (x : List Float) → r ≡ true → irq < (view w x).nvic.nirq
-  line-there x h = ltb-true irq (view w x).nvic.nirq (sym (e x) ∙ h)
-
-  pub line-absent : (x : List Float) → r ≡ false → (view w x).nvic.nirq ≤ irq
-  line-absent x h = ltb-false irq (view w x).nvic.nirq (sym (e x) ∙ h)
-
-  pub line-place : r ≡ true → 860 + irq < 5276
-  line-place h = omega (arith, line-there [] h, (bounded w []).nirq-le)
-
--- a number below a word's count, which the view takes as at most m: below both
-pub none_above : (i k m : ℕ) → m ≤ i → false ≡ ltb i (min k m)
-none_above i k m h = sym (le-ltb i (min k m) (omega (arith, h)))
-
-pub of-lesser : (i k m : ℕ) → i < m → ltb i k ≡ ltb i (min k m)
-of-lesser i k m h = go (ltb i k) refl
-  where
-    go : (b : Bool) → ltb i k ≡ b → ltb i k ≡ ltb i (min k m)
-    go true e = e ∙ sym (lt-ltb i (min k m) (omega (arith, h, ltb-true i k e)))
-    go false e = e ∙ sym (le-ltb i (min k m) (omega (arith, ltb-false i k e)))

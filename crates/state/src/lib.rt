@@ -1,9 +1,11 @@
 // The board's state in lent memory: what a call reads and changes goes through these functions.
+// A signal (below 256) and a level (0 or 1) are plain numbers: they are compared, summed and stored, and a type would be put together and taken apart at
+// each call.
 #![tactic(auto)]
 
 mod index;
 
-ghost use Rattle.std.specs.Prelude.{◌≡◌, true, false, List, [], ◌∷◌, ℕ, ◌+◌, ◌*◌, ◌%◌, ◌<◌, ◌≤◌, ltb, length, drop, Float, MatchOption};
+ghost use Rattle.std.specs.Prelude.{◌≡◌, true, false, List, [], ◌∷◌, ℕ, ◌+◌, ◌*◌, ◌%◌, ◌<◌, ◌≤◌, ltb, length, drop, Float, IfSome, MatchOption};
 ghost use Rattle.std.proofs.Math.Seq.{paste};
 ghost use Rattle.tim.specs.Timer.{Fit};
 ghost use Rattle.gpio.specs.Gpio.{GpioFit};
@@ -105,7 +107,7 @@ impl SeenBoard<'_> {
     pub fn load_gpio(self, p: PinIndex) -> Gpio
         ensures { result ≡ pin_at (seen_board self.entry) p.n }
     {
-        let mut b = [0u64; 16];
+        let mut b = [0u64; codec::GPIO_WORDS];
         get(self.words, GPIO + p.n * codec::GPIO_WORDS, &mut b);
         codec::unpack_gpio(
             b,
@@ -226,11 +228,12 @@ fn put(words: &mut [u64; WORDS], at: usize, b: &[u64])
 pub fn load_timer(words: &[u64; WORDS], i: TimerIndex) -> Timer
     ensures { (x : List Float) → result ≡ timer_at (view words.now x) i.n }
 {
-    let mut b = [0u64; 40];
+    let mut b = [0u64; codec::TIMER_WORDS];
     get(words, TIMERS + i.n * codec::TIMER_WORDS, &mut b);
     codec::unpack_timer(b)
 }
 
+// `Fit` is asked for, here and below: no field of a timer, as tim says.
 pub fn store_timer(words: &mut [u64; WORDS], i: TimerIndex, t: Timer)
     requires { Fit t }
     ensures { (x : List Float) → view words.new x ≡ with_timer (view words.old x) i.n t }
@@ -245,7 +248,11 @@ pub fn store_live(words: &mut [u64; WORDS], i: TimerIndex, t: Timer)
     ensures { (x : List Float) → view words.new x ≡ with_timer (view words.old x) i.n (with_inst t (timer_at (view words.old x) i.n).inst) }
 {
     let b = codec::pack_timer(t);
-    put(words, TIMERS + (i.n * codec::TIMER_WORDS + 7), &b[7..39]);
+    put(
+        words,
+        TIMERS + (i.n * codec::TIMER_WORDS + codec::timer::CR1),
+        &b[codec::timer::CR1..codec::timer::MANUAL],
+    );
 }
 
 // ---- pins
@@ -388,20 +395,22 @@ pub fn next_booked(words: &[u64; WORDS]) -> u64
 
 // ---- interrupt lines
 
-// A line of that number.
-fn has_line(words: &[u64; WORDS], irq: usize) -> bool
-    ensures { (x : List Float) → result ≡ ltb irq (view words.now x).nvic.nirq }
+// The place of line irq's word, if there is such a line.
+fn line_place(words: &[u64; WORDS], irq: u32) -> Option<usize>
+    ensures line { (x : List Float) → MatchOption result ((view words.now x).nvic.nirq ≤ irq) (λ at. (at ≡ 860 + irq) × (irq < (view words.now x).nvic.nirq)) }
+    ensures range { IfSome result (λ at. at < 5276) }
 {
-    irq < 256 && (irq as u64) < words[LINE_COUNT]
+    if irq < 256 && (irq as u64) < words[LINE_COUNT] {
+        return Some(LINES + irq as usize);
+    }
+    None
 }
 
 // Timer i drives line irq; without such a line nothing changes.
 pub fn set_line(words: &mut [u64; WORDS], irq: u32, i: TimerIndex, level: bool)
     ensures { (x : List Float) → view words.new x ≡ with_nvic (view words.old x) (set_line (view words.old x).nvic irq i.n level) }
 {
-    let n = irq as usize;
-    if has_line(words, n) {
-        let at = LINES + n;
+    if let Some(at) = line_place(words, irq) {
         words[at] = nvic::driven(words[at], i.n, level);
     }
 }
@@ -410,9 +419,7 @@ pub fn set_line(words: &mut [u64; WORDS], irq: u32, i: TimerIndex, level: bool)
 pub fn clear_pending(words: &mut [u64; WORDS], irq: u32)
     ensures { (x : List Float) → view words.new x ≡ with_nvic (view words.old x) (clear_pending (view words.old x).nvic irq) }
 {
-    let n = irq as usize;
-    if has_line(words, n) {
-        let at = LINES + n;
+    if let Some(at) = line_place(words, irq) {
         words[at] = nvic::cleared(words[at]);
     }
 }
@@ -421,9 +428,8 @@ pub fn clear_pending(words: &mut [u64; WORDS], irq: u32)
 pub fn line_state(words: &[u64; WORDS], irq: u32) -> u64
     ensures { (x : List Float) → result ≡ state_of (line_at (view words.now x).nvic irq) }
 {
-    let n = irq as usize;
-    if has_line(words, n) {
-        return nvic::state(words[LINES + n]);
+    if let Some(at) = line_place(words, irq) {
+        return nvic::state(words[at]);
     }
     0
 }

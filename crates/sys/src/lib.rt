@@ -1,4 +1,5 @@
 // Pins and routing over the lent state (sys.rs). A level change is a value here; the call that asked writes it to its book.
+// A signal (below 256) and a level (0 or 1) are plain numbers: they are compared and stored, and a type would be put together and taken apart at each call.
 #![tactic(auto)]
 
 ghost use Rattle.std.specs.Prelude.{◌≡◌, true, List, ◌+◌, ◌<◌, ◌≤◌, Float};
@@ -35,7 +36,7 @@ fn is_driven(words: &[u64; WORDS], i: PinIndex) -> bool
     levels::is_push_pull(words, i) && gpio::drives(levels::signal(words, i))
 }
 
-// Such a pin refreshed: only what changes is stored.
+// Such a pin refreshed: only what changes is stored. A second way of what refresh_any does by value, which takes more than the Rust's time.
 #[inline(always)]
 fn refresh_driven(board: &mut LentBoard<'_>, i: PinIndex) -> Option<Edge>
     requires { signal_driven (pin_at (lent_board board.old) i.n) ≡ true }

@@ -9,9 +9,6 @@ ghost use Rattle.text.specs.Lines.{is_returned, next_piece, next_place};
 ghost use Rattle.text.specs.declared.Place.TheVariants as Place;
 ghost use Rattle.text.specs.declared.Reason.TheVariants as Reason;
 
-use std::error::Error;
-use std::fmt;
-
 // Why a word in a number's place is no number of 64 bits.
 #[derive(Clone, Copy, Debug, PartialEq, Eq)]
 pub enum NumberError {
@@ -43,14 +40,6 @@ impl Reason {
         }
     }
 }
-
-impl fmt::Display for Reason {
-    fn fmt<W: fmt::Write>(&self, f: &mut fmt::Formatter<W>) -> fmt::Result {
-        f.write_str(self.words())
-    }
-}
-
-impl Error for Reason {}
 
 impl From<NumberError> for Reason {
     ghost from_gives = { λ e r. r ≡ reason_of e };
@@ -268,15 +257,20 @@ impl Lines {
         self.line
     }
 
-    // What the next byte is, and whether the carriage return before it is a letter.
+    // Whether the carriage return before the next byte is a letter.
+    pub fn is_returned(&self, b: u8) -> bool
+        ensures { result ≡ is_returned self.now.place b }
+    {
+        self.place == Place::CarriageReturn && b != b'\n'
+    }
+
+    // What the next byte is.
     #[tactic(auto, unfolding(crate::specs::Lines::piece_of, crate::specs::Lines::place_of))]
-    pub fn next(&mut self, b: u8) -> (bool, Piece)
-        ensures returned { result.0 ≡ is_returned self.old.place b }
-        ensures piece { result.1 ≡ next_piece self.old.place b }
+    pub fn next(&mut self, b: u8) -> Piece
+        ensures piece { result ≡ next_piece self.old.place b }
         ensures place { self.new.place ≡ next_place self.old.place b }
         ensures line { self.new.line ≡ self.old.line }
     {
-        let returned = self.place == Place::CarriageReturn && b != b'\n';
         let (place, piece) = match (self.place, b) {
             (_, b'\n') => (Place::Words, Piece::LineEnd),
             (Place::Comment, _) => (Place::Comment, Piece::Nothing),
@@ -286,7 +280,7 @@ impl Lines {
             _ => (Place::Words, Piece::Letter),
         };
         self.place = place;
-        (returned, piece)
+        piece
     }
 
     // The line has ended, or the input: the next one begins.

@@ -1,13 +1,13 @@
 -- Bounds of what the timer's definitions give. Assumes nothing.
 use mathlib.Core.Path.{◌≡◌, refl, ap, sym, ◌∙◌}
-use mathlib.Core.Bool.{Bool, true, false, cond, not, ◌&&◌}
+use mathlib.Core.Bool.{beq, Bool, true, false, cond, not, ◌&&◌}
 use mathlib.Core.List.{List, [], ◌∷◌}
 use lib.ListN.{length, get_or}
 use Rattle.std.proofs.Common.{Option, Some, None}
-use Prim.Native.Nat.{ℕ, ◌+◌, ◌-◌, ◌*◌, ◌%◌, ◌^◌, ◌≤◌, ◌<◌}
+use Prim.Native.Nat.{ℕ, ◌+◌, ◌-◌, ◌*◌, ◌^◌, ◌≤◌, ◌<◌}
 use lib.Dec.{ltb, leb, eqb}
 use native.Mathlib.Omega.{arith}
-use native.Mathlib.Nat.{add-zero, le_refl, le_trans, mul-le-mul, mod-lt}
+use native.Mathlib.Nat.{add-zero, le_refl, le_trans, mul-le-mul}
 use borrow.Author.Tests.{eq-eqb, ne_eqb, lt-ltb, le-ltb, ltb-true, leb-true, leb-false, eqb-true, eqb-false}
 use mir.Val.{bool_byte}
 use Rattle.tim.specs.declared.Timer.{Timer}
@@ -67,13 +67,12 @@ pub next-runs : (t : Timer) → counts t ≡ true → At (t.count.base + (next_s
 unfolding next_event
 next-runs t h = sym (ap (λ (b : Bool). cond b (At (t.count.base + (next_steps t).steps * t.count.tick) (next_steps t).next) Stopped) h)
 
--- a bit that is not 0 is 1
-pub odd : (x : ℕ) → (x % 2 ≡ 0 → ⊥) → eqb (x % 2) 1 ≡ true
-odd x h = go (eqb (x % 2) 1) refl
-  where
-    go : (b : Bool) → eqb (x % 2) 1 ≡ b → b ≡ true
-    go true e = refl
-    go false e = absurd (h (omega (arith, mod-lt x {m = 2} (omega arith), eqb-false (x % 2) 1 e)))
+-- two that differ: the one, turned where the other is true
+pub differs : (r p : Bool) → not (beq r p) ≡ cond p (not r) r
+differs true true = refl
+differs true false = refl
+differs false true = refl
+differs false false = refl
 
 -- a list of four is that of its elements
 pub four_of : (xs : List Bool) (a b c d : Bool) → length xs ≡ 4 → get_or xs 0 false ≡ a → get_or xs 1 false ≡ b → get_or xs 2 false ≡ c → get_or xs 3 false ≡ d → xs ≡ a ∷ b ∷ c ∷ d ∷ []

@@ -1,7 +1,13 @@
 // A general-purpose timer by value: the Rust's periph/tim.rs, without its registers (crate regs). It knows nothing of
-// pins, lines or booking. Three facts stand in the contracts of many methods, since callers have plain numbers and a timer of any fields: a channel is
-// below 4, the length of its arrays; a cycle is below 2^63, so that sums of cycles fit; a timer is in its bounds (`Fit`, of which more at `Timer`).
+// pins, lines or booking. Two facts stand in the contracts of many methods: a timer is in its bounds (`Fit`, of which more at `Timer`); a cycle is below
+// 2^63, so that sums of cycles fit. A cycle has no type: a call is checked against 2^62, and a cycle is summed with and compared to plain numbers (the base,
+// an event's cycle, which may lie above), so that each method would take a type apart and each call put it together: no plainer.
+// A bit of a register is a remainder (`cr1 / 16 % 2`) and no mask: the definitions are over numbers (`is_set 4 cr1`), and `&` would want a law more.
+// An output-compare mode is a number: a lent word holds any of the eight, and names would be the manual's numbers again.
 #![tactic(auto)]
+
+mod divider;
+mod index;
 
 ghost use Rattle.std.specs.Prelude.{◌≡◌, Bool, true, false, cond, ◌&&◌, ℕ, ◌+◌, ◌-◌, ◌*◌, ◌/◌, ◌%◌, ◌<◌, ◌≤◌, min, eqb, get_or, set};
 ghost use Rattle.rm0440.specs.Counter.{step_cycles, restart};
@@ -11,6 +17,9 @@ ghost use Rattle.tim.specs.Timer.{Fit, with_count};
 ghost use Rattle.tim.specs.Count.{blocked, counts, up_from, down_from, ticks_at, count_after, cnt_at, synced, at_count};
 ghost use Rattle.tim.specs.Next.{update_steps, waiting, steps_to, nearer, consider, next_steps, next_event};
 ghost use Rattle.tim.specs.Change as C;
+
+pub use divider::Divider;
+pub use index::{CH1, CH2, CH3, CH4, Channel, Index};
 
 // What set-up fixes: the timer's number, width, channel count, bus, interrupt and enable bit, and manual mode (document 02).
 #[derive(Clone, Copy)]
@@ -82,7 +91,7 @@ pub struct Timer {
     pub count: Count,
 }
 
-// What the next event is.
+// What the next event is. A compare's channel is a number: the definitions of every event name it so.
 #[derive(Clone, Copy)]
 pub enum Next {
     Update,
@@ -99,13 +108,13 @@ pub struct Ahead {
 impl Ahead {
     // The nearer of what is nearest so far and channel ch's compare, so many steps ahead. Compiled in as `steps_to` is.
     #[inline(always)]
-    fn or_compare(self, steps: u64, ch: usize) -> Ahead
-        ensures { result ≡ nearer steps ch self }
+    fn or_compare(self, steps: u64, ch: Channel) -> Ahead
+        ensures { result ≡ nearer steps ch.n self }
     {
         if steps < self.steps {
             return Ahead {
                 steps,
-                next: Next::Compare(ch),
+                next: Next::Compare(ch.n),
             };
         }
         self
@@ -146,11 +155,11 @@ fn count_down(reload: u32, cnt: u32, ticks: u64) -> u32
 }
 
 // Cycles per step.
-pub fn step_cycles(psc: u32, div: u32) -> u32
-    requires { (psc < 65536) × (div ≤ 8192) }
-    ensures { result ≡ step_cycles psc div }
+pub fn step_cycles(psc: u32, div: Divider) -> u32
+    requires { psc < 65536 }
+    ensures { result ≡ step_cycles psc div.n }
 {
-    (psc + 1) * div
+    (psc + 1) * div.n
 }
 
 // Cycles of a number of steps: every product of the two is made here, by digits of 16 bits.
@@ -161,11 +170,10 @@ pub fn cycles_of(steps: u64, tick: u32) -> u64
     digits::times(steps, tick)
 }
 
-fn cc_flag(ch: usize) -> u32
-    requires { ch < 4 }
-    ensures { result ≡ C.cc_flag ch }
+fn cc_flag(ch: Channel) -> u32
+    ensures { result ≡ C.cc_flag ch.n }
 {
-    2 << ch
+    2 << ch.n
 }
 
 fn at_match(mode: u32, latched: bool) -> bool
@@ -192,9 +200,8 @@ impl Timer {
 
     pub const CR1_BASIC: u32 = 0x8f;
 
-    fn fresh(inst: Inst, div: u32) -> Timer
-        requires { div ≤ 8192 }
-        ensures { result ≡ C.reset_state inst div }
+    fn fresh(inst: Inst, div: Divider) -> Timer
+        ensures { result ≡ C.reset_state inst div.n }
     {
         let top = inst.max();
         Timer {
@@ -230,12 +237,11 @@ impl Timer {
     pub fn new(inst: Inst) -> Timer
         ensures { result ≡ C.reset_state inst 1 }
     {
-        Timer::fresh(inst, 1)
+        Timer::fresh(inst, Divider { n: 1 })
     }
 
-    pub fn reset(self, div: u32) -> Timer
-        requires { div ≤ 8192 }
-        ensures { result ≡ C.reset_state self.inst div }
+    pub fn reset(self, div: Divider) -> Timer
+        ensures { result ≡ C.reset_state self.inst div.n }
     {
         Timer::fresh(self.inst, div)
     }
@@ -252,7 +258,7 @@ impl Timer {
         self.inst.channels != 0 && self.regs.cr1 / 16 % 2 == 1
     }
 
-    // A reload of 0 in manual mode. The reload comes first: whoever asks counts by it.
+    // A reload of 0 in manual mode. The reload is read first for speed: who asks needs it next.
     fn is_blocked(self) -> bool
         ensures { result ≡ blocked self }
     {
@@ -291,7 +297,8 @@ impl Timer {
         count_up(self.count.arr_act, self.count.cnt0, ticks)
     }
 
-    // Counter value at cycle c. The direction comes first, so that little is alive during the division.
+    // Counter value at cycle c. The direction is asked before the division for speed: fewer values are kept across it.
+    #[tactic(auto, unfolding(crate::specs::Count::cnt_at))]
     pub fn cnt_at(self, c: u64) -> u32
         requires { (Fit self) × (c < 9223372036854775808) }
         ensures { result ≡ cnt_at self c }
@@ -346,26 +353,23 @@ impl Timer {
     }
 
     // Channel ch's byte of CCMR1 or CCMR2.
-    pub fn ccmr_byte(self, ch: usize) -> u32
-        requires { ch < 4 }
-        ensures { result ≡ T.ccmr_byte self ch }
+    pub fn ccmr_byte(self, ch: Channel) -> u32
+        ensures { result ≡ T.ccmr_byte self ch.n }
     {
-        (self.chan.ccmr[ch / 2] >> (8 * (ch % 2))) % 256
+        (self.chan.ccmr[ch.n / 2] >> (8 * (ch.n % 2))) % 256
     }
 
-    pub fn oc_mode(self, ch: usize) -> u32
-        requires { ch < 4 }
-        ensures { result ≡ T.oc_mode self ch }
+    pub fn oc_mode(self, ch: Channel) -> u32
+        ensures { result ≡ T.oc_mode self ch.n }
     {
         self.ccmr_byte(ch) / 16 % 8
     }
 
     // Channel configured as output compare (CCxS = 0).
-    pub fn is_output(self, ch: usize) -> bool
-        requires { ch < 4 }
-        ensures { result ≡ T.is_output self ch }
+    pub fn is_output(self, ch: Channel) -> bool
+        ensures { result ≡ T.is_output self ch.n }
     {
-        ch < self.inst.channels as usize && self.ccmr_byte(ch) % 4 == 0
+        ch.n < self.inst.channels as usize && self.ccmr_byte(ch) % 4 == 0
     }
 
     // Steps to the update event.
@@ -381,15 +385,14 @@ impl Timer {
     }
 
     // Channel ch is an output and not done in this period.
-    fn is_waiting(self, ch: usize) -> bool
-        requires { ch < 4 }
-        ensures { result ≡ waiting self ch }
+    fn is_waiting(self, ch: Channel) -> bool
+        ensures { result ≡ waiting self ch.n }
     {
-        !self.chan.cc_done[ch] && self.is_output(ch)
+        !self.chan.cc_done[ch.n] && self.is_output(ch)
     }
 
-    // Steps to a compare value that lies ahead of the counter: downward at or below it, upward from it to the reload. Compiled in, with `or_compare`, where it is
-    // asked: on its own it is compiled to a number beside a flag, and a delivery with nothing due takes a twentieth longer.
+    // Steps to a compare value that lies ahead of the counter: downward at or below it, upward from it to the reload. Compiled in, with `or_compare`, where
+    // it is asked: on its own it is compiled to a number beside a flag, and a delivery with nothing due takes a twentieth longer.
     #[inline(always)]
     fn steps_to(self, ccr: u32) -> Option<u32>
         ensures { result ≡ steps_to self ccr }
@@ -405,14 +408,13 @@ impl Timer {
 
     // The nearer of what is nearest so far and channel ch's compare.
     #[inline(always)]
-    pub fn consider(self, ch: usize, best: Ahead) -> Ahead
-        requires { ch < 4 }
-        ensures { result ≡ consider self ch best }
+    pub fn consider(self, ch: Channel, best: Ahead) -> Ahead
+        ensures { result ≡ consider self ch.n best }
     {
         if !self.is_waiting(ch) {
             return best;
         }
-        match self.steps_to(self.chan.ccr_act[ch]) {
+        match self.steps_to(self.chan.ccr_act[ch.n]) {
             Some(steps) => best.or_compare(u64::from(steps), ch),
             None => best,
         }
@@ -427,10 +429,10 @@ impl Timer {
             steps: self.update_steps(),
             next: Next::Update,
         };
-        let a = self.consider(0, update);
-        let b = self.consider(1, a);
-        let c = self.consider(2, b);
-        self.consider(3, c)
+        let a = self.consider(CH1, update);
+        let b = self.consider(CH2, a);
+        let c = self.consider(CH3, b);
+        self.consider(CH4, c)
     }
 
     // The next event after the reference: the update and every pending compare. It is compiled into its callers: a booking and the delivery's loop.
@@ -458,32 +460,35 @@ impl Timer {
     }
 
     // Channel ch's compare lies behind the counter.
-    pub fn is_behind(self, ch: usize) -> bool
-        requires { ch < 4 }
-        ensures { result ≡ C.behind self ch }
+    #[tactic(auto, unfolding(crate::specs::Change::behind))]
+    pub fn is_behind(self, ch: Channel) -> bool
+        ensures { result ≡ C.behind self ch.n }
     {
-        self.is_past(self.chan.ccr_act[ch])
+        self.is_past(self.chan.ccr_act[ch.n])
     }
 
-    fn is_done(self, ch: usize) -> bool
-        requires { ch < 4 }
-        ensures { result ≡ C.done_now self ch }
+    fn is_done(self, ch: Channel) -> bool
+        ensures { result ≡ C.done_now self ch.n }
     {
-        ch < self.inst.channels as usize && self.is_behind(ch)
+        ch.n < self.inst.channels as usize && self.is_behind(ch)
     }
 
-    fn is_done_after_update(self, ch: usize) -> bool
-        requires { ch < 4 }
-        ensures { result ≡ C.done_after_update self ch }
+    fn is_done_after_update(self, ch: Channel) -> bool
+        ensures { result ≡ C.done_after_update self ch.n }
     {
-        ch < self.inst.channels as usize && self.count.arr_act < self.chan.ccr_act[ch]
+        ch.n < self.inst.channels as usize && self.count.arr_act < self.chan.ccr_act[ch.n]
     }
 
-    // Marks channels whose compare lies behind the counter as done for this period.
+    // Marks channels whose compare lies behind the counter as done for this period. By a `map` over the four channels an event takes a twenty-fifth more
+    // instructions, here and below.
     pub fn recompute_cc_done(mut self) -> Timer
         ensures { result ≡ C.recomputed self }
     {
-        self.chan.cc_done = std::array::from_fn(|ch: usize| self.is_done(ch));
+        self.chan.cc_done = std::array::from_fn(
+            |n: usize|
+                requires { n < 4 }
+            { self.is_done(Channel { n }) },
+        );
         self
     }
 
@@ -491,51 +496,36 @@ impl Timer {
     pub fn recompute_cc_done_after_update(mut self) -> Timer
         ensures { result ≡ C.recomputed_after_update self }
     {
-        self.chan.cc_done = std::array::from_fn(|ch: usize| self.is_done_after_update(ch));
+        self.chan.cc_done = std::array::from_fn(
+            |n: usize|
+                requires { n < 4 }
+            { self.is_done_after_update(Channel { n }) },
+        );
         self
     }
 
     // The output reference of channel ch at a count. By ranges: an arm for each mode is compiled to a table of jumps, in each of an event's channels.
-    pub fn ocref(self, ch: usize, cnt: u32) -> bool
-        requires { ch < 4 }
-        ensures { result ≡ C.ocref self ch cnt }
+    pub fn ocref(self, ch: Channel, cnt: u32) -> bool
+        ensures { result ≡ C.ocref self ch.n cnt }
     {
         let mode = self.oc_mode(ch);
         match mode {
-            0..=3 => self.chan.oc[ch],
+            0..=3 => self.chan.oc[ch.n],
             4..=5 => mode == 5,
             _ => {
-                let active = pwm1(self.down(), cnt, self.chan.ccr_act[ch]);
+                let active = pwm1(self.down(), cnt, self.chan.ccr_act[ch.n]);
                 if mode == 6 { active } else { !active }
             }
         }
     }
 
     // The level that channel ch drives at a count: OCxREF with CCxE and CCxP.
-    pub fn output(self, ch: usize, cnt: u32) -> bool
-        requires { ch < 4 }
-        ensures { result ≡ C.output self ch cnt }
+    #[tactic(auto, unfolding(crate::specs::Change::output))]
+    pub fn output(self, ch: Channel, cnt: u32) -> bool
+        ensures { result ≡ C.output self ch.n cnt }
     {
-        if !self.is_output(ch) {
-            return false;
-        }
-        let bits = self.regs.ccer >> (4 * ch);
-        if bits % 2 == 0 {
-            return false;
-        }
-        let level = self.ocref(ch, cnt);
-        if bits / 2 % 2 == 1 {
-            return !level;
-        }
-        level
-    }
-
-    // A method and no store in place: it ends three chains.
-    fn with_flag(mut self, flag: u32) -> Timer
-        ensures { result ≡ C.with_flag self flag }
-    {
-        self.regs.sr |= flag;
-        self
+        let bits = self.regs.ccer >> (4 * ch.n);
+        self.is_output(ch) && bits % 2 == 1 && self.ocref(ch, cnt) != (bits / 2 % 2 == 1)
     }
 
     // The active prescaler, reload and compares take the written ones.
@@ -549,13 +539,16 @@ impl Timer {
         self
     }
 
+    #[tactic(auto, unfolding(crate::specs::Change::reloaded))]
     fn reload(self) -> Timer
         ensures { result ≡ C.reloaded self }
     {
         if self.regs.cr1 / 2 % 2 == 1 {
             return self;
         }
-        self.load().with_flag(1)
+        let mut loaded = self.load();
+        loaded.regs.sr |= 1;
+        loaded
     }
 
     // The count at which a period begins.
@@ -568,9 +561,9 @@ impl Timer {
         0
     }
 
-    fn restart(mut self, at: u64, div: u32) -> Timer
-        requires { (self.count.psc_act < 65536) × (div ≤ 8192) }
-        ensures { result ≡ C.restarted self at div }
+    fn restart(mut self, at: u64, div: Divider) -> Timer
+        requires { self.count.psc_act < 65536 }
+        ensures { result ≡ C.restarted self at div.n }
     {
         self.count.cnt0 = self.first_count();
         self.count.tick = step_cycles(self.count.psc_act, div);
@@ -609,6 +602,7 @@ impl Timer {
 
     // What ends at an update: one-pulse, and in manual mode CEN with it. Both fields are always stored: with a return for each case an event takes
     // a quarter longer.
+    #[tactic(auto, unfolding(crate::specs::Change::ended))]
     fn end(mut self) -> Timer
         ensures { result ≡ C.ended self }
     {
@@ -621,9 +615,9 @@ impl Timer {
     // Update event at cycle at: reload shadow registers, restart the period. It is compiled into the delivery's loop whole: with its parts compiled in one by
     // one an event takes a tenth longer.
     #[inline(always)]
-    pub fn update(self, at: u64, div: u32) -> Timer
-        requires { (Fit self) × (div ≤ 8192) }
-        ensures { result ≡ C.updated self at div }
+    pub fn update(self, at: u64, div: Divider) -> Timer
+        requires { Fit self }
+        ensures { result ≡ C.updated self at div.n }
     {
         self.reload()
             .restart(at, div)
@@ -632,21 +626,20 @@ impl Timer {
     }
 
     // A match of channel ch: the reference that its mode latches, and its flag.
-    pub fn matched(mut self, ch: usize) -> Timer
-        requires { ch < 4 }
-        ensures { result ≡ C.matched self ch }
+    pub fn matched(mut self, ch: Channel) -> Timer
+        ensures { result ≡ C.matched self ch.n }
     {
-        self.chan.oc[ch] = at_match(self.oc_mode(ch), self.chan.oc[ch]);
-        self.with_flag(cc_flag(ch))
+        self.chan.oc[ch.n] = at_match(self.oc_mode(ch), self.chan.oc[ch.n]);
+        self.regs.sr |= cc_flag(ch);
+        self
     }
 
     // What a compare event of channel ch does.
-    pub fn compare(self, ch: usize) -> Timer
-        requires { ch < 4 }
-        ensures { result ≡ C.compared self ch }
+    pub fn compare(self, ch: Channel) -> Timer
+        ensures { result ≡ C.compared self ch.n }
     {
         let mut m = self.matched(ch);
-        m.chan.cc_done[ch] = true;
+        m.chan.cc_done[ch.n] = true;
         m
     }
 
@@ -659,9 +652,9 @@ impl Timer {
         self
     }
 
-    pub fn start(self, now: u64, div: u32) -> Timer
-        requires { (Fit self) × (div ≤ 8192) }
-        ensures { result ≡ C.started self now div }
+    pub fn start(self, now: u64, div: Divider) -> Timer
+        requires { Fit self }
+        ensures { result ≡ C.started self now div.n }
     {
         self.run_from(now, step_cycles(self.count.psc_act, div))
             .recompute_cc_done()
@@ -676,9 +669,10 @@ impl Timer {
         t
     }
 
-    pub fn on_clock_change(self, now: u64, div: u32) -> Timer
-        requires { (Fit self) × (now < 9223372036854775808) × (div ≤ 8192) }
-        ensures { result ≡ C.retimed self now div }
+    #[tactic(auto, unfolding(crate::specs::Change::retimed))]
+    pub fn on_clock_change(self, now: u64, div: Divider) -> Timer
+        requires { (Fit self) × (now < 9223372036854775808) }
+        ensures { result ≡ C.retimed self now div.n }
     {
         let mut retimed = self.sync(now);
         retimed.count.tick = step_cycles(self.count.psc_act, div);
@@ -686,9 +680,10 @@ impl Timer {
     }
 
     // The update that EGR's UG makes.
-    pub fn generate_update(self, now: u64, div: u32) -> Timer
-        requires { (Fit self) × (div ≤ 8192) }
-        ensures { result ≡ C.generated self now div }
+    #[tactic(auto, unfolding(crate::specs::Change::generated))]
+    pub fn generate_update(self, now: u64, div: Divider) -> Timer
+        requires { Fit self }
+        ensures { result ≡ C.generated self now div.n }
     {
         self.load()
             .restart(now, div)
@@ -697,12 +692,14 @@ impl Timer {
     }
 
     // UIF, unless URS or UDIS.
-    fn flag_generated(self) -> Timer
+    #[tactic(auto, unfolding(crate::specs::Change::flagged_generated))]
+    fn flag_generated(mut self) -> Timer
         ensures { result ≡ C.flagged_generated self }
     {
         if self.regs.cr1 / 4 % 2 == 1 || self.regs.cr1 / 2 % 2 == 1 {
             return self;
         }
-        self.with_flag(1)
+        self.regs.sr |= 1;
+        self
     }
 }

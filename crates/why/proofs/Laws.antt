@@ -1,6 +1,6 @@
 -- The reasons in the order in which the code asks them, and the query's answer. Assumes nothing.
 use mathlib.Core.Path.{◌≡◌, refl, ap, sym, ◌∙◌}
-use mathlib.Core.Bool.{Bool, true, false, cond, not, ◌&&◌, ◌||◌}
+use mathlib.Core.Bool.{Bool, true, false, cond, not, beq, ◌&&◌, ◌||◌}
 use mathlib.Core.List.{List, [], ◌∷◌, ◌++◌}
 use Prim.Native.Nat.{ℕ, suc, ◌+◌, ◌-◌, ◌*◌, ◌/◌, ◌%◌, ◌^◌, ◌≤◌, ◌<◌}
 use native.Mathlib.Omega.{arith}
@@ -8,17 +8,17 @@ use lib.Dec.{eqb, ltb, leb}
 use lib.Ieee.{Float}
 use lib.ListN.{length}
 use lib.Pow.{shr-shr}
-use borrow.Author.Tests.{le-leb, lt-leb, lt-ltb, le-ltb, ltb-false, eqb-true, eqb-false, eq-eqb, ne_eqb}
+use borrow.Author.Tests.{le-leb, lt-ltb, le-ltb, ltb-false, eq-eqb, ne_eqb}
 use Rattle.tim.specs.declared.Timer.{Timer}
 use Rattle.tim.specs.declared.Inst.{Inst}
 use Rattle.rm0440.specs.Bits.{is_set}
-use Rattle.tim.specs.Timer.{oc_mode}
+use Rattle.rm0440.specs.Output.{level}
+use Rattle.tim.specs.Timer.{oc_mode, Fit}
 use Rattle.tim.specs.Count.{cnt_at}
 use Rattle.tim.specs.Next.{next_event}
 use Rattle.tim.specs.Change.{ocref}
 use Rattle.gpio.specs.declared.Gpio.{Gpio}
 use Rattle.gpio.specs.Gpio.{signal_of}
-use Rattle.sig.specs.Signal.{tim_signal}
 use Rattle.machine.specs.Board.{Board, timer_at, gpio_at, route_of, level_of}
 use Rattle.machine.specs.Call.{query_why}
 use Rattle.machine.specs.Step.{step, cycle_astray}
@@ -33,43 +33,9 @@ use Rattle.std.specs.Prelude.{Option, Some, None, MatchOption}
 use Rattle.std.specs.Option.{unwrap_or}
 use Rattle.why.specs.declared.Reason.{Reason}
 use Rattle.why.specs.declared.Reason.TheVariants.{Unknown}
-use Rattle.why.specs.declared.channel.Feed.{Feed}
+use Rattle.why.specs.declared.Feed.{Feed}
 use Rattle.why.specs.Fed.{index_or, IsFed}
 use Rattle.why.specs.Tests.{number_of, number_or, pin_tests, channel_tests}
-
--- ---- the timer that feeds a signal
-
-module _ (k : Inst) (s : ℕ) where
-  pub feeds-below : k.n < 2 → false ≡ feeds k s
-  unfolding feeds
-  feeds-below h = rw (lt-leb 2 k.n h)
-
-  module _ (low : 2 ≤ k.n) where
-    pub feeds-above : 4 < k.n → false ≡ feeds k s
-    unfolding feeds
-    feeds-above h = rw (le-leb 2 k.n low, lt-leb k.n 4 h)
-
-    module _ (high : k.n ≤ 4) where
-      pub feeds-before : s < 16 * (k.n + 10) + 2 → false ≡ feeds k s
-      unfolding feeds
-      feeds-before h = rw (le-leb 2 k.n low, le-leb k.n 4 high, lt-leb (tim_signal k.n 0) s (omega arith))
-
-      module _ (from : 16 * (k.n + 10) + 2 ≤ s) where
-        offset : s - (16 * (k.n + 10) + 2) ≡ channel_of k s
-        offset = omega arith
-
-        opened : feeds k s ≡ (ltb (channel_of k s) 4 && ltb (channel_of k s) k.channels)
-        unfolding feeds
-        opened = rw (le-leb 2 k.n low, le-leb k.n 4 high, le-leb (tim_signal k.n 0) s (omega arith))
-
-        pub feeds-behind : 4 ≤ s - (16 * (k.n + 10) + 2) → false ≡ feeds k s
-        feeds-behind h = sym (opened ∙ rw (le-ltb (channel_of k s) 4 (omega (arith, offset))))
-
-        pub feeds-at : s - (16 * (k.n + 10) + 2) < 4 → ltb (s - (16 * (k.n + 10) + 2)) k.channels ≡ feeds k s
-        feeds-at h = sym (opened ∙ rw (lt-ltb (channel_of k s) 4 (omega (arith, offset)), sym offset))
-
-pub channel-is : (k : Inst) (s : ℕ) → s - (16 * (k.n + 10) + 2) ≡ channel_of k s
-channel-is k s = omega arith
 
 -- ---- the timers one after the other
 
@@ -94,19 +60,15 @@ module _ (b : Board) (s : ℕ) where
 
 -- ---- a timer's event is due
 
+pub loaded_fit : (w : List ℕ) (n : ℕ) (t : Timer) → ((x : List Float) → t ≡ timer_at (view w x) n) → Fit t
+loaded_fit w n t e = rw (e []) ((bounded w []).timer-fit n)
+
 pub behind : (b : Board) (s cycle : ℕ) (f : Option Feed) (late : Bool) → IsFed b s f
     → MatchOption f (late ≡ false) (λ y. late ≡ due_by (next_event (timer_at b y.timer.n)) cycle) → late ≡ timer_behind b (index_or b.counts.timers f) cycle
 behind b s cycle None late h m = rw (le-ltb b.counts.timers b.counts.timers (omega arith)) m
 behind b s cycle (Some f) late h m = rw (lt-ltb f.timer.n b.counts.timers h.0) m
 
 -- ---- bits and levels
-
-pub even-or-odd : (n : ℕ) → eqb (n % 2) 0 ≡ not (eqb (n % 2) 1)
-even-or-odd n = go (eqb (n % 2) 1) refl
-  where
-    go : (t : Bool) → eqb (n % 2) 1 ≡ t → eqb (n % 2) 0 ≡ not t
-    go true e = let h = eqb-true (n % 2) 1 e in ne_eqb (n % 2) 0 (λ z. omega (arith, h, z))
-    go false e = eq-eqb (n % 2) 0 (omega (arith, eqb-false (n % 2) 1 e))
 
 -- CCxP by the channel's bits
 polarity : (n k : ℕ) → is_set (k + 1) n ≡ eqb (n / 2 ^ k / 2 % 2) 1
@@ -119,92 +81,27 @@ signal-lt g n z h = go (eqb g.cfg.mode 2)
     go true = h
     go false = z
 
-and_none : (a : Bool) → (a && false) ≡ false
-and_none true = refl
-and_none false = refl
-
 -- ---- the counter's side
 
-module _ (t : Timer) (ch cycle mode : ℕ) (is : mode ≡ oc_mode t ch) where
-  pub low-mode : mode < 6 → false ≡ counts_low t ch cycle
-  unfolding counts_low
-  low-mode h = rw (lt-leb 6 (oc_mode t ch) (omega (arith, is, h)))
+alike : (p r : Bool) → beq p r ≡ not (level true p r)
+alike true true = refl
+alike true false = refl
+alike false r = refl
 
-  module _ (pwm : 6 ≤ mode) (cnt : ℕ) (counted : cnt ≡ cnt_at t cycle) (active : Bool) (ref : active ≡ ocref t ch cnt) where
-    there : active ≡ ocref t ch (cnt_at t cycle)
-    there = ref ∙ ap (ocref t ch) counted
-
-    twice : (a : Bool) → a ≡ not (not a)
-    twice true = refl
-    twice false = refl
-
-    pub low-inverted : t.regs.ccer / 2 ^ (4 * ch) / 2 % 2 ≡ 1 → active ≡ counts_low t ch cycle
-    unfolding counts_low
-    low-inverted h =
-        rw (le-leb 6 (oc_mode t ch) (omega (arith, is, pwm)), polarity t.regs.ccer (4 * ch), eq-eqb (t.regs.ccer / 2 ^ (4 * ch) / 2 % 2) 1 h)
-        (there ∙ twice (ocref t ch (cnt_at t cycle)))
-
-    pub low-plain : (t.regs.ccer / 2 ^ (4 * ch) / 2 % 2 ≡ 1 → ⊥) → not active ≡ counts_low t ch cycle
-    unfolding counts_low
-    low-plain h =
-        rw (le-leb 6 (oc_mode t ch) (omega (arith, is, pwm)), polarity t.regs.ccer (4 * ch), ne_eqb (t.regs.ccer / 2 ^ (4 * ch) / 2 % 2) 1 h)
-        (ap not there)
+pub low-pwm : (t : Timer) (ch cycle mode : ℕ) → mode ≡ oc_mode t ch → 6 ≤ mode → (cnt : ℕ) → cnt ≡ cnt_at t cycle → (active : Bool) → active ≡ ocref t ch cnt
+    → beq (eqb (t.regs.ccer / 2 ^ (4 * ch) / 2 % 2) 1) active ≡ counts_low t ch cycle
+unfolding counts_low
+low-pwm t ch cycle mode is pwm cnt counted active ref =
+    rw (le-leb 6 (oc_mode t ch) (omega (arith, is, pwm)), polarity t.regs.ccer (4 * ch), sym (ref ∙ ap (ocref t ch) counted))
+    (alike (eqb (t.regs.ccer / 2 ^ (4 * ch) / 2 % 2) 1) active)
 
 -- ---- the first true of a list
 
--- of five tests
-module _ (a b c d e : Bool) where
-  abbrev five : List Bool
-  five = a ∷ b ∷ c ∷ d ∷ e ∷ []
-
-  pub five-0 : a ≡ true → 0 ≡ first_true five
-  unfolding first_true
-  five-0 h = rw h
-
-  pub five-1 : a ≡ false → b ≡ true → 1 ≡ first_true five
-  unfolding first_true
-  five-1 h i = rw (h, i)
-
-  pub five-2 : a ≡ false → b ≡ false → c ≡ true → 2 ≡ first_true five
-  unfolding first_true
-  five-2 h i j = rw (h, i, j)
-
-  pub five-3 : a ≡ false → b ≡ false → c ≡ false → d ≡ true → 3 ≡ first_true five
-  unfolding first_true
-  five-3 h i j k = rw (h, i, j, k)
-
-  pub five-4 : a ≡ false → b ≡ false → c ≡ false → d ≡ false → e ≡ true → 4 ≡ first_true five
-  unfolding first_true
-  five-4 h i j k l = rw (h, i, j, k, l)
-
-  pub five-5 : a ≡ false → b ≡ false → c ≡ false → d ≡ false → e ≡ false → 5 ≡ first_true five
-  unfolding first_true
-  five-5 h i j k l = rw (h, i, j, k, l)
-
--- of the channel's three
-module _ (t : Timer) (ch level cycle : ℕ) where
-  pub channel-off : is_off t ch ≡ true → 0 ≡ first_true (channel_tests t ch level cycle)
-  unfolding first_true
-  channel-off h = rw h
-
-  module _ (on : is_off t ch ≡ false) where
-    pub channel-high : (level ≡ 0 → ⊥) → 3 ≡ first_true (channel_tests t ch level cycle)
-    unfolding first_true
-    channel-high h = rw (on, ne_eqb level 0 h, and_none (is_held t ch), and_none (counts_low t ch cycle))
-
-    module _ (low : level ≡ 0) (mode : ℕ) (is : mode ≡ oc_mode t ch) where
-      pub channel-held : mode ≤ 5 → 1 ≡ first_true (channel_tests t ch level cycle)
-      unfolding first_true
-      channel-held h = rw (on, le-leb (oc_mode t ch) 5 (omega (arith, is, h)), eq-eqb level 0 low)
-
-      module _ (pwm : 5 < mode) (r : Bool) (counts : r ≡ counts_low t ch cycle) where
-        pub channel-counts : r ≡ true → 2 ≡ first_true (channel_tests t ch level cycle)
-        unfolding first_true
-        channel-counts h = rw (on, lt-leb (oc_mode t ch) 5 (omega (arith, is, pwm)), sym counts ∙ h, eq-eqb level 0 low)
-
-        pub channel-none : r ≡ false → 3 ≡ first_true (channel_tests t ch level cycle)
-        unfolding first_true
-        channel-none h = rw (on, lt-leb (oc_mode t ch) 5 (omega (arith, is, pwm)), sym counts ∙ h)
+-- of an output that its mode holds low: held
+pub channel-held : (t : Timer) (ch level cycle : ℕ) → is_off t ch ≡ false → level ≡ 0 → (mode : ℕ) → mode ≡ oc_mode t ch → mode ≤ 5
+    → 1 ≡ first_true (channel_tests t ch level cycle)
+unfolding first_true
+channel-held t ch level cycle on low mode is h = rw (on, le-leb (oc_mode t ch) 5 (omega (arith, is, h)), eq-eqb level 0 low)
 
 -- no reason of the channel's is the last of all
 pub unwrapped : (o : Option Reason) → number_of (unwrap_or o Unknown) ≡ number_or 10 o

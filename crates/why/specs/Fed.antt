@@ -2,7 +2,7 @@
 use Rattle.std.specs.Prelude.{◌≡◌, ◌<◌, ℕ, Option, Some, None, IfSome}
 use Rattle.machine.specs.Board.{Board, timer_at}
 use Rattle.machine.specs.Why.{channel_of}
-use Rattle.why.specs.declared.channel.Feed.{Feed}
+use Rattle.why.specs.declared.Feed.{Feed}
 
 -- the timer's index, and n where there is none
 abbrev pub index_or : ℕ → Option Feed → ℕ
@@ -11,4 +11,4 @@ index_or n (Some f) = f.timer.n
 
 -- it is one of the board's, and the signal is its channel's
 abbrev pub IsFed : Board → ℕ → Option Feed → Type 0
-IsFed b s f = IfSome f (λ y. (y.timer.n < b.counts.timers) × (y.channel ≡ channel_of (timer_at b y.timer.n).inst s))
+IsFed b s f = IfSome f (λ y. (y.timer.n < b.counts.timers) × (y.channel.n ≡ channel_of (timer_at b y.timer.n).inst s))

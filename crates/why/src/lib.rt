@@ -1,7 +1,6 @@
-// Why a pin is low (document 02, F-12): the first true of the reasons of crates/machine/specs/Why.antt. A query: nothing changes.
+// Why a pin is low (document 02, F-12): the first true of the reasons of crates/machine/specs/Why.antt. A query: nothing changes. A cycle below 2^63, a
+// signal below 256 and a timer in its bounds (`Fit`) are asked for as in state and tim, which say why they are no types.
 #![tactic(auto)]
-
-mod channel;
 
 ghost use Rattle.std.specs.Prelude.{◌≡◌, true, false, List, ◌+◌, ◌<◌, eqb, ltb, Float, IfSome, MatchOption};
 ghost use Rattle.tim.specs.Timer.{Fit};
@@ -19,10 +18,9 @@ ghost use Rattle.why.specs.Fed.{index_or, IsFed};
 ghost use Rattle.why.specs.Tests.{number_of, number_or, pin_tests, channel_tests};
 
 use answer::{Answer, Refusal};
-use channel::Feed;
 use gpio::{Gpio, PinCfg};
 use state::{PinIndex, SeenBoard, TimerIndex, WORDS};
-use tim::{Due, Inst, Timer};
+use tim::{Channel, Due, Inst, Timer};
 
 // ---- the reasons
 
@@ -53,31 +51,30 @@ impl Reason {
 
 // ---- the timer
 
-// The channel of a timer that drives whose signal s is, if it is one's.
-fn channel_of(k: Inst, s: u32) -> Option<usize>
-    ensures { MatchOption result (W.feeds k s ≡ false) (λ ch. (W.feeds k s ≡ true) × ((ch ≡ W.channel_of k s) × (ch < 4))) }
-{
-    if k.n < 2 {
-        return None;
-    }
-    if k.n > 4 {
-        return None;
-    }
-    let first = 16 * (k.n + 10) + 2;
-    if s < first {
-        return None;
-    }
-    let ch = s - first;
-    if ch >= 4 {
-        return None;
-    }
-    if ch >= k.channels {
-        return None;
-    }
-    Some(ch as usize)
+// The channel of a timer that feeds a signal.
+#[derive(Clone, Copy)]
+struct Feed {
+    timer: TimerIndex,
+    channel: Channel,
 }
 
-// The timer that feeds signal s, if one does.
+// The channel of a timer that drives whose signal s is, if it is one's.
+#[tactic(auto, unfolding(machine::specs::Why::feeds))]
+fn channel_of(k: Inst, s: u32) -> Option<Channel>
+    ensures { MatchOption result (W.feeds k s ≡ false) (λ ch. (W.feeds k s ≡ true) × (ch.n ≡ W.channel_of k s)) }
+{
+    if !(2..=4).contains(&k.n) {
+        return None;
+    }
+    let ch = s.checked_sub(16 * (k.n + 10) + 2)?;
+    if ch < 4 && ch < k.channels {
+        Some(Channel { n: ch as usize })
+    } else {
+        None
+    }
+}
+
+// The timer that feeds signal s, if one does. No `find_map`: tried, and its closure is not told that i is below the count, which the index asks for.
 fn feeder(words: &[u64; WORDS], s: u32) -> Option<Feed>
     ensures timer { (x : List Float) → index_or (view words.now x).counts.timers result ≡ W.feeder (view words.now x) s }
     ensures channel { (x : List Float) → IsFed (view words.now x) s result }
@@ -93,6 +90,7 @@ fn feeder(words: &[u64; WORDS], s: u32) -> Option<Feed>
 }
 
 // An event of the timer is due at or before a cycle.
+#[tactic(auto, unfolding(machine::specs::Deliver::due_by))]
 fn is_due(t: Timer, cycle: u64) -> bool
     requires { Fit t }
     ensures { result ≡ due_by (next_event t) cycle }
@@ -104,13 +102,11 @@ fn is_due(t: Timer, cycle: u64) -> bool
 }
 
 // The timer that feeds a signal, if there is one, has an event due.
+#[tactic(auto, using(crate::proofs::Laws::loaded_fit))]
 fn is_behind(words: &[u64; WORDS], feeder: Option<Feed>, cycle: u64) -> bool
     ensures { (x : List Float) → MatchOption feeder (result ≡ false) (λ f. result ≡ due_by (next_event (timer_at (view words.now x) f.timer.n)) cycle) }
 {
-    match feeder {
-        Some(f) => is_due(state::load_timer(words, f.timer), cycle),
-        None => false,
-    }
+    feeder.is_some_and(|f| is_due(state::load_timer(words, f.timer), cycle))
 }
 
 // ---- the pin
@@ -118,7 +114,7 @@ fn is_behind(words: &[u64; WORDS], feeder: Option<Feed>, cycle: u64) -> bool
 fn drives_nothing(c: PinCfg) -> bool
     ensures { result ≡ W.drives_nothing c }
 {
-    c.mode != 1 && c.mode != 2
+    !matches!(c.mode, 1 | 2)
 }
 
 fn outputs_zero(c: PinCfg) -> bool
@@ -134,25 +130,21 @@ fn selects_none(g: Gpio) -> bool
 }
 
 // An open-drain 1: the output bit, or the level of the signal.
+#[tactic(auto, unfolding(machine::specs::Why::is_released))]
 fn is_released(g: Gpio, level: u8) -> bool
-    requires { g.sig < 65536 }
     ensures { result ≡ W.is_released g level }
 {
-    if !g.cfg.open_drain {
-        return false;
-    }
-    if g.cfg.mode == 1 {
-        return g.cfg.odr == 1;
-    }
-    if gpio::drives(gpio::signal_of(g)) {
-        return level == 1;
-    }
-    false
+    g.cfg.open_drain
+        && if g.cfg.mode == 1 {
+            g.cfg.odr == 1
+        } else {
+            gpio::drives(gpio::signal_of(g)) && level == 1
+        }
 }
 
 // The first of the pin's own reasons, 0 to 4.
+#[tactic(auto, unfolding(machine::specs::Why::first_true))]
 fn of_pin(g: Gpio, level: u8) -> Option<Reason>
-    requires { g.sig < 65536 }
     ensures value { number_or 5 result ≡ W.first_true (pin_tests g level) }
     ensures below { IfSome result (λ r. number_of r < 5) }
 {
@@ -176,39 +168,29 @@ fn of_pin(g: Gpio, level: u8) -> Option<Reason>
 
 // ---- the channel
 
-// CCxS says input, or CCxE is clear.
-fn is_off(t: Timer, ch: usize) -> bool
-    requires { ch < 4 }
-    ensures { result ≡ W.is_off t ch }
+// No output, or CCxE is clear.
+#[tactic(auto, unfolding(machine::specs::Why::is_off))]
+fn is_off(t: Timer, ch: Channel) -> bool
+    ensures { result ≡ W.is_off t ch.n }
 {
-    if !t.is_output(ch) {
-        return true;
-    }
-    let bits = t.regs.ccer >> (4 * ch);
-    bits % 2 == 0
+    !(t.is_output(ch) && (t.regs.ccer >> (4 * ch.n)) % 2 == 1)
 }
 
 // In mode 6 or 7, what the count at a cycle drives is low.
-fn counts_low(t: Timer, ch: usize, cycle: u64) -> bool
-    requires { (Fit t) × ((ch < 4) × (cycle < 9223372036854775808)) }
-    ensures { result ≡ W.counts_low t ch cycle }
+#[tactic(auto, unfolding(machine::specs::Why::counts_low))]
+fn counts_low(t: Timer, ch: Channel, cycle: u64) -> bool
+    requires { (Fit t) × (cycle < 9223372036854775808) }
+    ensures { result ≡ W.counts_low t ch.n cycle }
 {
-    if t.oc_mode(ch) < 6 {
-        return false;
-    }
-    let cnt = t.cnt_at(cycle);
-    let active = t.ocref(ch, cnt);
-    let bits = t.regs.ccer >> (4 * ch);
-    if bits / 2 % 2 == 1 {
-        return active;
-    }
-    !active
+    let bits = t.regs.ccer >> (4 * ch.n);
+    t.oc_mode(ch) >= 6 && (bits / 2 % 2 == 1) == t.ocref(ch, t.cnt_at(cycle))
 }
 
 // The first of the channel's reasons, 7 to 9.
-fn of_channel(t: Timer, ch: usize, level: u8, cycle: u64) -> Option<Reason>
-    requires { (Fit t) × ((ch < 4) × (cycle < 9223372036854775808)) }
-    ensures { number_or 10 result ≡ 7 + W.first_true (channel_tests t ch level cycle) }
+#[tactic(auto, unfolding(machine::specs::Why::first_true))]
+fn of_channel(t: Timer, ch: Channel, level: u8, cycle: u64) -> Option<Reason>
+    requires { (Fit t) × (cycle < 9223372036854775808) }
+    ensures { number_or 10 result ≡ 7 + W.first_true (channel_tests t ch.n level cycle) }
 {
     if is_off(t, ch) {
         return Some(Reason::Off);
@@ -244,7 +226,7 @@ fn first_reason(
     feeder: Option<Feed>,
     cycle: u64,
 ) -> Reason
-    requires bounds { (g.sig < 65536) × (s < 256) × (cycle < 9223372036854775808) }
+    requires bounds { (s < 256) × (cycle < 9223372036854775808) }
     requires fed { (x : List Float) → IsFed (view words.now x) s feeder }
     ensures { (x : List Float) → number_of result ≡ W.first_true (W.tests g (level_of (view words.now x).pads s) (ltb (index_or (view words.now x).counts.timers feeder) (view words.now x).counts.timers) (eqb (route_of (view words.now x).pads s) p.n) (timer_at (view words.now x) (index_or (view words.now x).counts.timers feeder)) (W.channel_of (timer_at (view words.now x) (index_or (view words.now x).counts.timers feeder)).inst s) cycle) }
 {

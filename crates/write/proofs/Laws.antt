@@ -4,7 +4,7 @@ use Rattle.std.proofs.Common.{Option, Some, None}
 use mathlib.Core.Path.{◌≡◌, refl, ap, sym, subst, ◌∙◌}
 use mathlib.Core.Bool.{Bool, true, false, cond, ◌&&◌, false≢true}
 use mathlib.Core.List.{List, [], ◌∷◌}
-use Prim.Native.Nat.{ℕ, zero, suc, ◌+◌, ◌*◌, ◌/◌, ◌%◌, ◌≤◌, ◌<◌}
+use Prim.Native.Nat.{ℕ, zero, suc, ◌+◌, ◌/◌, ◌≤◌, ◌<◌}
 use native.Mathlib.Omega.{arith}
 use lib.Bits.{bit_and}
 use lib.Dec.{leb, eqb}
@@ -15,17 +15,15 @@ use Rattle.tim.specs.declared.Timer.{Timer}
 use Rattle.regs.specs.declared.Written.{Written}
 use Rattle.tim.specs.declared.Inst.{Inst}
 use Rattle.tim.specs.Timer.{Ready, ccmr_byte}
-use Rattle.tim.specs.Count.{cnt_at}
 use Rattle.rm0440.specs.Output as Out
 use Rattle.rm0440.specs.Registers.{kept_mask, mask, bits}
 use Rattle.regs.specs.Regs as R
 use Rattle.tim.proofs.Fit.{either}
 use Rattle.regs.proofs.Fixed.{inst-written}
 use Rattle.periph.specs.Lane.{lane_write}
-use Rattle.book.specs.Book.{Entry, Book, book, Holds, Lent, Room, puts}
+use Rattle.book.specs.Book.{Book, book, Holds, Lent, Room, puts}
 use Rattle.book.proofs.Laws.{holds}
 use Rattle.machine.specs.Board.{Board, timer_at, with_timer, with_last}
-use Rattle.machine.specs.Sys.{drive_outputs}
 use Rattle.machine.specs.Deliver.{divider_of, line_settled, rebooked}
 use Rattle.machine.specs.Call.{Call, Outcome, write, served}
 use Rattle.machine.specs.Step.{step, refuse_if, clock_on, register, present, written, counter_astray, followed}
@@ -40,8 +38,7 @@ use Rattle.answer.specs.Promise.{answer, Answers}
 use Rattle.machine.proofs.NumberLaws.{given, passing}
 use Rattle.answer.proofs.Given.{first-front, away, gives, turns-away, turns-away-book, unbooked}
 use Rattle.mmio.specs.Leaves.{Leaves, after}
-use Rattle.mmio.proofs.Laws.{asked, after-stored, drives-on, follows}
-use Rattle.outputs.specs.Outputs as O
+use Rattle.mmio.proofs.Laws.{asked, after-stored}
 use Rattle.fields.specs.Field.{with_reg}
 use Rattle.fields.proofs.Words.{same-timer}
 use Rattle.write.specs.Writes.{written_by, written_on}
@@ -213,16 +210,6 @@ module _ (w w₀ : List ℕ) (same : w₀ ≡ w) (x : List Float) (i off v cycle
 
 -- ---- compares
 
--- where it acts the outputs are driven at the counter: a compare does not move it
-compare-drive : (t : Timer) (ch v cycle cnt : ℕ) (on : Bool) → on ≡ is_some (R.ccr_written t ch v cycle).drive
-    → (is_some (R.ccr_written t ch v cycle).drive ≡ true → cnt ≡ cnt_at (R.ccr_written t ch v cycle).timer cycle)
-    → cond on (Some cnt) None ≡ (R.ccr_written t ch v cycle).drive
-unfolding R.ccr_written cnt_at
-compare-drive t ch v cycle cnt on =
-    either (λ (w : Written). on ≡ is_some w.drive → (is_some w.drive ≡ true → cnt ≡ cnt_at w.timer cycle) → cond on (Some cnt) None ≡ w.drive) (Out.OCxPE (ccmr_byte t ch))
-    (λ o n. ap (λ (z : Bool). cond z (Some cnt) None) o)
-    (λ o n. ap (λ (z : Bool). cond z (Some cnt) None) o ∙ ap (λ (z : ℕ). Some z) (n refl))
-
 -- where they are driven the next event is booked
 compare-booked : (t : Timer) (ch v cycle : ℕ) → is_some (R.ccr_written t ch v cycle).drive ≡ (R.ccr_written t ch v cycle).book
 unfolding R.ccr_written
@@ -244,16 +231,13 @@ pub waits-follow : (b b₁ : Board) (i cycle : ℕ) (k : Book) → b₁ ≡ with
 unfolding followed puts
 waits-follow b b₁ i cycle k e = record { board = e ∙ ap (λ (y : Board). with_last y cycle) (sym (same-timer b i)); entries = refl }
 
-pub compare-follows : (b b₁ : Board) (i ch v cycle cnt : ℕ) (on : Bool) → i < length b.timers
-    → b₁ ≡ with_timer b i (R.ccr_written (timer_at b i) ch v cycle).timer → on ≡ is_some (R.ccr_written (timer_at b i) ch v cycle).drive
-    → (is_some (R.ccr_written (timer_at b i) ch v cycle).drive ≡ true → cnt ≡ cnt_at (timer_at b₁ i) cycle)
-    → after b₁ i cycle (cond on (Some cnt) None) false on ≡ followed b i cycle (R.ccr_written (timer_at b i) ch v cycle)
-unfolding followed
-compare-follows b b₁ i ch v cycle cnt on l e o n =
+pub compare-follows : (b b₁ : Board) (i ch v cycle : ℕ) (drive : Option ℕ) → i < length b.timers
+    → b₁ ≡ with_timer b i (R.ccr_written (timer_at b i) ch v cycle).timer → drive ≡ (R.ccr_written (timer_at b i) ch v cycle).drive
+    → after b₁ i cycle drive false (is_some drive) ≡ followed b i cycle (R.ccr_written (timer_at b i) ch v cycle)
+compare-follows b b₁ i ch v cycle drive l e o =
     let w = R.ccr_written (timer_at b i) ch v cycle in
-    let there : timer_at b₁ i ≡ w.timer = stored_there b b₁ i w.timer l e in
-    ap (λ (z : Option ℕ). after b₁ i cycle z false on) (compare-drive (timer_at b i) ch v cycle cnt on o (λ h. n h ∙ ap (λ (y : Timer). cnt_at y cycle) there))
-    ∙ ap (λ (z : Bool). after b₁ i cycle w.drive false z) (o ∙ compare-booked (timer_at b i) ch v cycle)
+    ap (λ (z : Option ℕ). after b₁ i cycle z false (is_some z)) o
+    ∙ ap (λ (z : Bool). after b₁ i cycle w.drive false z) (compare-booked (timer_at b i) ch v cycle)
     ∙ ap (λ (z : Bool). after b₁ i cycle w.drive z w.book) (sym (compare-line (timer_at b i) ch v cycle))
     ∙ after-stored b b₁ i cycle w.timer w.drive w.line w.book l e
 

@@ -1,5 +1,7 @@
 // A write of a timer's register over the lent board (bus.rs, tim.rs write_reg): one general way by value, and short ways of DIER, SR, CR1 and the
-// compares.
+// compares. A call's offset, size and value are numbers, as C gives them; offsets are such numbers to C and to the manual: crate regs has the table.
+// A cycle below 2^63 and a size of at most 4 bytes are plain numbers: they are compared, summed and stored, and a type would be put together and taken
+// apart at each call.
 #![tactic(auto)]
 
 ghost use Rattle.std.specs.Prelude.{◌≡◌, true, List, ◌<◌, ◌≤◌, Float};
@@ -20,7 +22,7 @@ use answer::{Answer, Refusal};
 use book::LentBook;
 use fields::Reg;
 use state::{LentBoard, TimerIndex, WORDS};
-use tim::Timer;
+use tim::{Channel, Timer};
 
 // The register's present value, 0 for EGR.
 fn present(words: &[u64; WORDS], i: TimerIndex, off: u32, cycle: u64) -> u32
@@ -139,8 +141,7 @@ fn write_sr(words: &mut [u64; WORDS], i: TimerIndex, v: u32, cycle: u64)
     state::set_last(words, cycle);
 }
 
-// CCR1 to CCR4, of which the table keeps alike: CCR1's entry serves all, and is a constant here. What the outputs are driven at is the
-// reference's counter: a written compare left the timer synced.
+// CCR1 to CCR4, of which the table keeps alike: CCR1's entry serves all, and is a constant here.
 #[inline(always)]
 fn write_compare(
     board: &mut LentBoard<'_>,
@@ -165,14 +166,12 @@ fn write_compare(
         state::set_last(board.words, cycle);
         return Ok(());
     }
-    let ch = ((off - 0x34) / 4) as usize;
+    let n = ((off - 0x34) / 4) as usize;
     let kept = v & regs::kept(13);
-    let on = regfile::write_ccr(board.words, i, ch, kept, cycle);
-    if !on {
+    let Some(cnt) = regfile::write_ccr(board.words, i, Channel { n }, kept, cycle) else {
         state::set_last(board.words, cycle);
         return Ok(());
-    }
-    let cnt = fields::cnt0(board.words, i);
+    };
     mmio::follow(board, book, i, Some(cnt), false, true, cycle);
     Ok(())
 }

@@ -1,5 +1,5 @@
-// The writer of the lent book: it holds the slice of cycles, with the fill count. Each method is thin, over a covered function;
-// who appends calls `append`, whose parameters are plain, and needs no walk.
+// The writer of the lent book: it holds the slice of cycles, with the fill count. A crate of its own, since what a struct that holds a lent slice leaves in
+// it is known only where it is made and ended by one call: `book` appends by such a call, whose parameters are plain.
 #![tactic(auto)]
 
 ghost use Rattle.std.specs.Prelude.{◌≡◌, ◌<◌, ◌+◌, length, set};

@@ -3,8 +3,8 @@ use Rattle.delivery.specs.Delivery.{OfFour}
 use mathlib.Core.Path.{subst}
 use Rattle.delivery.proofs.apply.Goals as goal
 
-pub compare-requires : goal.compare-requires
-compare-requires c = subst OfFour c.in-Compare.is c.requires.0
+pub invariant_of-compare : goal.invariant_of-compare
+invariant_of-compare c = record { below = subst OfFour c.in-Compare.is c.requires.0 }
 
 pub returns-in-Update : goal.returns-in-Update
 returns-in-Update c = rw c.in-Update.is c.update.ensures

@@ -5,7 +5,7 @@ use Rattle.delivery.proofs.deliver.Goals as goal
 
 pub run-r-requires : goal.run-r-requires
 run-r-requires c = record {
-  timer = (loaded-fit c.args.board.now.words.now c.args.board.now.reals.now c.args.i.n _ (c.load_timer-t.ensures c.args.board.now.reals.now), c.divider-div.ensures.range.0, c.divider-div.ensures.range.1, c.requires);
+  timer = (loaded-fit c.args.board.now.words.now c.args.board.now.reals.now c.args.i.n _ (c.load_timer-t.ensures c.args.board.now.reals.now), c.divider-div.ensures.positive, c.requires);
   empty = refl;
 }
 

@@ -31,7 +31,7 @@ returns-in-Some-clause-fit c =
     (h.fit, sym c.in-At.is ∙ c.next_event-due.ensures, (omega (arith, h.within, c.places-room.ensures), omega (arith, h.within, c.places-room.ensures), omega (arith, h.within, c.places-room.ensures), omega (arith, h.within, c.places-room.ensures)), omega (arith, h.few, h.small))
 
 pub apply-t-requires : goal.apply-t-requires
-apply-t-requires c = (of_four _ _ _ _ c.next_event-due.ensures c.in-At.is, c.loop-at.invariant.0.fit, c.requires.timer.2)
+apply-t-requires c = (of_four _ _ _ _ c.next_event-due.ensures c.in-At.is, c.loop-at.invariant.0.fit)
 
 pub count_at-cnt-requires : goal.count_at-cnt-requires
 count_at-cnt-requires c = of_four _ _ _ _ c.next_event-due.ensures c.in-At.is
@@ -50,7 +50,7 @@ loop-at-smaller c = let d = goes _ _ _ _ _ c.verdict.ensures c.in_default-verdic
 
 pub loop-at-preserved : goal.loop-at-preserved
 loop-at-preserved c = (
-  going_on _ _ _ _ _ _ _ _ _ _ _ c.loop-at.invariant.0 c.next_event-due.ensures _ _ c.in-At.is _ c.verdict.ensures c.in_default-verdict.is c.requires.timer.3 c.requires.timer.1 c.requires.timer.2 _ _ _ c.apply-t.ensures
+  going_on _ _ _ _ _ _ _ _ _ _ _ c.loop-at.invariant.0 c.next_event-due.ensures _ _ c.in-At.is _ c.verdict.ensures c.in_default-verdict.is c.requires.timer.2 c.requires.timer.1 c.args.div.below _ _ _ c.apply-t.ensures
       (driven _ _ _ _ _ _ _ _ c.count_at-cnt.ensures c.drive_timer.ensures.driven) c.drive_timer.ensures.at_most_four,
   search rules,
   search rules,

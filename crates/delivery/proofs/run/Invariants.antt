@@ -8,7 +8,7 @@ use Rattle.delivery.proofs.run.Given as goal
 
 abbrev pub invariant-loop-at : goal.invariant-loop-at
 invariant-loop-at l =
-    Going l.cycle l.div l.room (handled most_events l.cycle l.div l.room l.initial.t (lent_board l.initial.board).pads) (lent_board l.initial.board) (filled l.initial.book) l.t (lent_board l.board) (filled l.book) l.events
+    Going l.cycle l.fn.div.n l.room (handled most_events l.cycle l.fn.div.n l.room l.initial.t (lent_board l.initial.board).pads) (lent_board l.initial.board) (filled l.initial.book) l.t (lent_board l.board) (filled l.book) l.events
     × SameLoan l.initial.board l.board × SameSlices l.initial.book l.book
 
 abbrev pub decreases-loop-at : goal.decreases-loop-at

@@ -4,4 +4,4 @@ use native.Mathlib.Omega.{arith}
 use Rattle.fields.proofs.set_ccr.Goals as goal
 
 pub returns : goal.returns
-returns c = ccr-set c.args.words.now c.args.i.n c.told-words c.args.i.below c.args.ch c.args.v c.requires (omega arith)
+returns c = ccr-set c.args.words.now c.args.i.n c.told-words c.args.i.below c.args.ch.n c.args.v c.args.ch.below (omega arith)

@@ -5,4 +5,4 @@ use Rattle.regfile.proofs.settle_done.Goals as goal
 
 pub returns : goal.returns
 returns c =
-    λ x. done-set (view c.args.words.now x) _ c.args.i.n c.args.ch c.args.ccr _ _ (c.load_timer-t.ensures x) c.is_past-done.ensures (c.set_done.ensures x)
+    λ x. done-set (view c.args.words.now x) _ c.args.i.n c.args.ch.n c.args.ccr _ _ (c.load_timer-t.ensures x) c.is_past-done.ensures (c.set_done.ensures x)

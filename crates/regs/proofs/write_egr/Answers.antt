@@ -5,13 +5,13 @@ use mathlib.Core.Path.{◌≡◌, ◌∙◌, ap, sym}
 use native.Mathlib.Omega.{arith}
 use Rattle.regs.proofs.write_egr.Goals as goal
 
-pub loop-ch-init : goal.loop-ch-init
-loop-ch-init c = c.egr_update-t.ensures ∙ egr-none _ _
+pub loop-n-init : goal.loop-n-init
+loop-n-init c = c.egr_update-t.ensures ∙ egr-none _ _
 
-pub loop-ch-preserved : goal.loop-ch-preserved
-loop-ch-preserved c = c.egr_match-t.ensures ∙ ap (egr_match c.args.v c.loop-ch.ch) c.loop-ch.invariant ∙ sym (egr-step _ _ _)
+pub loop-n-preserved : goal.loop-n-preserved
+loop-n-preserved c = c.egr_match-t.ensures ∙ ap (egr_match c.args.v c.loop-n.n) c.loop-n.invariant ∙ sym (egr-step _ _ _)
 
 pub returns : goal.returns
 returns c =
-    let e : c.loop-ch.ch ≡ 4 = omega arith in
-    c.loop-ch.invariant ∙ ap (egr_matches c.args.v (egr_update c.args.timer c.args.v c.args.now c.args.div)) e ∙ egr-four _ _ _ _
+    let e : c.loop-n.n ≡ 4 = omega arith in
+    c.loop-n.invariant ∙ ap (egr_matches c.args.v (egr_update c.args.timer c.args.v c.args.now c.args.div.n)) e ∙ egr-four _ _ _ _

@@ -1,17 +1,11 @@
 -- A word stored for a line that there is; else nothing.
 use Rattle.nvic.specs.Nvic.{line_cleared}
-use Rattle.state.proofs.Places.{line-absent, line-place, line-there}
 use Rattle.state.proofs.Stores.{line-none, line_set_lem}
 use Rattle.state.proofs.clear_pending.Goals as goal
 
-pub bounds-words-at : goal.bounds-words-at
-bounds-words-at c = line-place c.args.words.now c.args.irq c.has_line.result c.has_line.ensures c.if-has_line.true
+pub returns-in-Some : goal.returns-in-Some
+returns-in-Some c =
+    λ x. let p = c.in-Some.ensures.line x in rw p.0 (line_set_lem c.args.words.now x c.told-words line_cleared c.args.irq c.cleared.result p.1 (rw p.0 at c.cleared.ensures))
 
-pub bounds-words-at-then-has_line : goal.bounds-words-at-then-has_line
-bounds-words-at-then-has_line c = line-place c.args.words.now c.args.irq c.has_line.result c.has_line.ensures c.if-has_line.true
-
-pub returns-then-has_line : goal.returns-then-has_line
-returns-then-has_line c = λ x. line_set_lem c.args.words.now x c.told-words line_cleared c.args.irq c.cleared.result (line-there c.args.words.now c.args.irq c.has_line.result c.has_line.ensures x c.if-has_line.true) c.cleared.ensures
-
-pub returns-else-has_line : goal.returns-else-has_line
-returns-else-has_line c = λ x. line-none c.args.words.now x c.told-words line_cleared c.args.irq (line-absent c.args.words.now c.args.irq c.has_line.result c.has_line.ensures x c.if-has_line.false)
+pub returns-in_default : goal.returns-in_default
+returns-in_default c = λ x. line-none c.args.words.now x c.told-words line_cleared c.args.irq (c.in_default.ensures.line x)

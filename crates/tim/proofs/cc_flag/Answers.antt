@@ -14,4 +14,4 @@ of-four (suc (suc (suc zero))) h = refl
 of-four (suc (suc (suc (suc n)))) h = absurd (omega arith)
 
 pub returns : goal.returns
-returns c = of-four c.args.ch c.requires
+returns c = of-four c.args.ch.n c.args.ch.below

@@ -31,7 +31,7 @@ returns-then-not-is_routed c =
 
 pub of_channel-requires : goal.of_channel-requires
 of_channel-requires c =
-    (rw (c.load_timer-t.ensures []) ((bounded c.args.words.now []).timer-fit c.in-Some-feeder.f.timer.n), (c.in-Some-feeder.f.below, c.requires.bounds.2))
+    (rw (c.load_timer-t.ensures []) ((bounded c.args.words.now []).timer-fit c.in-Some-feeder.f.timer.n), c.requires.bounds.1)
 
 pub returns : goal.returns
 returns c =

@@ -29,7 +29,7 @@ pub first_reason-r-requires-clause-bounds : goal.first_reason-r-requires-clause-
 first_reason-r-requires-clause-bounds c =
     let a = c.args in
     let small = gpio-small a.board.words.now a.board.reals.now _ _ c.load_gpio-g.ensures in
-    (omega (arith, small), rw c.signal_of-s.ensures (signal-lt c.load_gpio-g.result 256 (omega arith) small), in-time (view a.board.words.now a.board.reals.now) a.cycle _ (c.is_astray.ensures a.board.reals.now) c.if-is_astray.false)
+    (rw c.signal_of-s.ensures (signal-lt c.load_gpio-g.result 256 (omega arith) small), in-time (view a.board.words.now a.board.reals.now) a.cycle _ (c.is_astray.ensures a.board.reals.now) c.if-is_astray.false)
 
 pub returns : goal.returns
 returns c =

@@ -1,6 +1,5 @@
 -- Refused with 7, or stored, and what follows.
-use Rattle.book.specs.Lent.{slices_of, filled}
-use Rattle.book.specs.Book.{book}
+use Rattle.book.specs.Lent.{slices_of}
 use native.Mathlib.Omega.{arith}
 use mathlib.Core.Path.{refl}
 use Rattle.regs.proofs.Fit.{fit_written}
@@ -10,7 +9,7 @@ use Rattle.write.proofs.write_timer.Goals as goal
 
 pub write_reg-w-requires : goal.write_reg-w-requires
 write_reg-w-requires c =
-    loaded-ready c.args.board.now.words.now c.args.board.now.reals.now c.args.i.n c.args.cycle _ _ (c.load_timer-t.ensures c.args.board.now.reals.now) c.requires.cycle c.divider-div.ensures.range.0 c.divider-div.ensures.range.1
+    loaded-ready c.args.board.now.words.now c.args.board.now.reals.now c.args.i.n c.args.cycle _ _ (c.load_timer-t.ensures c.args.board.now.reals.now) c.requires.cycle c.divider-div.ensures.positive c.divider-div.result.below
 
 pub returns-then-counter_astray-clause-answers : goal.returns-then-counter_astray-clause-answers
 returns-then-counter_astray-clause-answers c = write-astray c.args.board.now.words.now c.args.board.now.reals.now c.args.i.n c.args.off c.args.v c.args.cycle _ _ _ (c.load_timer-t.ensures c.args.board.now.reals.now) (rw (c.seen.ensures.words, c.seen.ensures.reals) at c.divider-div.ensures.divider) c.write_reg-w.ensures _ c.counter_astray.ensures c.if-counter_astray.true _ refl
@@ -20,7 +19,7 @@ returns-then-counter_astray-clause-holds c = write-astray-book c.args.board.now.
 
 pub store_live-requires : goal.store_live-requires
 store_live-requires c =
-    rw c.write_reg-w.ensures (fit_written _ _ _ _ _ (loaded-ready c.args.board.now.words.now c.args.board.now.reals.now c.args.i.n c.args.cycle _ _ (c.load_timer-t.ensures c.args.board.now.reals.now) c.requires.cycle c.divider-div.ensures.range.0 c.divider-div.ensures.range.1))
+    rw c.write_reg-w.ensures (fit_written _ _ _ _ _ (loaded-ready c.args.board.now.words.now c.args.board.now.reals.now c.args.i.n c.args.cycle _ _ (c.load_timer-t.ensures c.args.board.now.reals.now) c.requires.cycle c.divider-div.ensures.positive c.divider-div.result.below))
 
 pub follow-requires : goal.follow-requires
 follow-requires c = record { room = omega (arith, c.requires.empty, c.requires.room) }

@@ -1,13 +1,13 @@
-use Rattle.setup.proofs.Limits.{fresh-taken, fresh-next, fresh-end}
-use Rattle.setup.specs.Setup.{count_of}
-use native.Mathlib.Omega.{arith}
+use Rattle.std.proofs.Common.{rules}
+use Rattle.std.proofs.lemmas.Iterator.{YieldsList-from_range}
+use Rattle.std.proofs.lemmas.Iterator.Search.{all_from_yields_List}
+use mathlib.Core.Path.{◌∙◌, refl, sym}
+use borrow.Author.Tests.{tests}
+use Rattle.setup.proofs.Limits.{other, all-other}
 use Rattle.setup.proofs.SetUp.is_fresh.Goals as goal
 
-pub returns-then-inst-n : goal.returns-then-inst-n
-returns-then-inst-n c = fresh-taken c.args.self.manual c.args.self.timers.now (count_of c.args.self.timers.now) c.loop-i.i _ _ c.inst_at-inst.ensures (omega (arith, c.loop-i-test.true, c.timer_count-count.ensures)) c.args.n c.loop-i.invariant c.if-inst-n.true
-
-pub loop-i-preserved : goal.loop-i-preserved
-loop-i-preserved c = fresh-next c.args.self.manual c.args.self.timers.now (count_of c.args.self.timers.now) c.loop-i.i _ _ c.inst_at-inst.ensures (omega (arith, c.loop-i-test.true, c.timer_count-count.ensures)) c.args.n c.loop-i.invariant c.if-inst-n.false
-
 pub returns : goal.returns
-returns c = fresh-end c.args.self.manual c.args.self.timers.now (count_of c.args.self.timers.now) c.loop-i.i c.args.n _ (omega (arith, c.loop-i-test.false, c.timer_count-count.ensures)) c.loop-i.invariant
+returns c =
+    let mask = c.args.self.manual in
+    let ns = c.args.self.timers.now in
+    rw (sym c.timer_count.ensures) (all_from_yields_List (other mask ns c.args.n) _ _ c.all.result c.all.ensures.ran (YieldsList-from_range c.args.from c.timer_count.result _ refl refl) (λ x b q k. search (rules, tests)) ∙ all-other mask ns c.args.n _ _)

@@ -24,5 +24,5 @@ returns-then-mode-eq6 c = rw (sym c.oc_mode-mode.ensures ∙ c.if-mode-eq6.true,
 pub returns-else-mode-eq6 : goal.returns-else-mode-eq6
 unfolding ocref
 returns-else-mode-eq6 c =
-    let e : c.oc_mode-mode.result ≡ 7 = omega (arith, c.oc_mode-mode.ensures, mod-lt (ccmr_byte c.args.self c.args.ch / 16) {m = 8} (omega arith)) in
+    let e : c.oc_mode-mode.result ≡ 7 = omega (arith, c.oc_mode-mode.ensures, mod-lt (ccmr_byte c.args.self c.args.ch.n / 16) {m = 8} (omega arith)) in
     rw (sym c.oc_mode-mode.ensures ∙ e, ← c.down.ensures) (ap not c.pwm1-active.ensures)

@@ -6,8 +6,8 @@ use Rattle.tim.proofs.Laws.{reloaded-psc}
 use Rattle.tim.proofs.Timer.update.Goals as goal
 
 pub restart-requires : goal.restart-requires
-restart-requires c = (rw c.reload.ensures (reloaded-psc c.args.self c.requires.0), c.requires.1)
+restart-requires c = rw c.reload.ensures (reloaded-psc c.args.self c.requires)
 
 pub returns : goal.returns
 unfolding updated
-returns c = c.end.ensures ∙ ap ended (c.recompute_cc_done_after_update.ensures ∙ ap recomputed_after_update (c.restart.ensures ∙ ap (λ (t : Timer). restarted t c.args.at c.args.div) c.reload.ensures))
+returns c = c.end.ensures ∙ ap ended (c.recompute_cc_done_after_update.ensures ∙ ap recomputed_after_update (c.restart.ensures ∙ ap (λ (t : Timer). restarted t c.args.at c.args.div.n) c.reload.ensures))
