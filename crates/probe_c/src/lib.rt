@@ -1,4 +1,5 @@
 // Functions below the calls, exported for measurement alone (bench/): each is `probe`'s function of the same name, with the same promise.
+// A crate of its own: rt has a crate as a library or as a static library, not both; so each signature and clause stands here again.
 #![tactic(auto)]
 
 ghost use Rattle.std.specs.Prelude.{◌≡◌, List, ◌%◌, Float};

@@ -1,4 +1,5 @@
 // A timer's settings as a record of bytes, exported for C and Rust: each is the function of the same name in `settings`, with the same promise.
+// A crate of its own: rt has a crate as a library or as a static library, not both; so each signature and clause stands here again.
 #![tactic(auto)]
 
 ghost use Rattle.std.specs.Prelude.{◌≡◌};
