@@ -12,7 +12,7 @@ ghost use Rattle.machine.specs.Deliver.{divider_of, line_settled, booking_of, re
 ghost use Rattle.machine.specs.Step.{clock_on, timer_retimed, all_retimed, tree_set};
 
 use clk::ClockTree;
-use state::{LentBoard, SeenBoard, TimerIndex, WORDS};
+use state::{LentBoard, REALS, SeenBoard, TimerIndex, WORDS};
 use tim::{Divider, Due, Timer};
 
 // Timer i's clock is on: its bit of its enable word. Past the ninth word and past bit 31 there is none.
@@ -83,17 +83,16 @@ pub fn rebook(words: &mut [u64; WORDS], i: TimerIndex, cycle: u64)
 }
 
 // Timer i takes the tree's divider; a running one is booked anew.
-fn retime(board: &mut LentBoard<'_>, i: TimerIndex, cycle: u64)
+pub fn retime(words: &mut [u64; WORDS], reals: &[f64; REALS], i: TimerIndex, cycle: u64)
     requires { cycle < 9223372036854775808 }
-    ensures same_loan { SameLoan board.old board.new }
-    ensures board { lent_board board.new ≡ timer_retimed i.n cycle (lent_board board.old) }
+    ensures { view words.new reals.now ≡ timer_retimed i.n cycle (view words.old reals.now) }
 {
-    let t = state::load_timer(board.words, i);
-    let div = divider(board.seen(), t);
+    let t = state::load_timer(words, i);
+    let div = divider(SeenBoard { words, reals }, t);
     let s = t.on_clock_change(cycle, div);
-    state::store_timer(board.words, i, s);
+    state::store_timer(words, i, s);
     if s.count.running {
-        rebook(board.words, i, cycle);
+        rebook(words, i, cycle);
     }
 }
 
@@ -105,7 +104,7 @@ fn retime_all(board: &mut LentBoard<'_>, cycle: u64)
     let n = state::timer_count(board.words);
     for i in 0..n {
         let timer = TimerIndex { n: i };
-        retime(board, timer, cycle);
+        retime(board.words, board.reals, timer, cycle);
     }
 }
 

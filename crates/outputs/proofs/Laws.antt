@@ -9,7 +9,7 @@ use borrow.Author.Tests.{lt-ltb, le-ltb, le-leb}
 use Rattle.tim.specs.declared.Timer.{Timer}
 use Rattle.tim.specs.Change.{output}
 use Rattle.sig.specs.Signal.{tim_signal}
-use Rattle.std.specs.Prelude.{Option}
+use Rattle.std.specs.Prelude.{Option, None}
 use Rattle.gpio.specs.declared.Edge.{Edge}
 use Rattle.gpio.specs.Gpio.{bit}
 use Rattle.book.specs.Book.{Changes, Book, puts, entry_of, entries_of}
@@ -41,6 +41,11 @@ pub channel-drives : (b b₁ : Board) (channels ch s k : ℕ) (l : Bool) (r : Op
     → Moves (sig_out b.pads s k) b b₁ r → Moves (level_driven channels ch s l b.pads) b b₁ r
 unfolding level_driven
 channel-drives b b₁ channels ch s k l r h q m = simp (lt-ltb ch channels h, ← q) m
+
+-- a channel that the timer has not
+pub no-channel : (b : Board) (channels ch s : ℕ) (l : Bool) → channels ≤ ch → Moves (level_driven channels ch s l b.pads) b b None
+unfolding level_driven
+no-channel b channels ch s l h = simp (le-ltb ch channels h) (record { board = refl; change = refl })
 
 -- `as u8` gives a level's bit
 pub byte-bit : (l : Bool) → bool_byte l ≡ bit l

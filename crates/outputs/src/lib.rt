@@ -9,9 +9,11 @@ ghost use Rattle.machine.specs.Board.{timer_at};
 ghost use Rattle.machine.specs.Sys as S;
 ghost use Rattle.state.specs.Board.{sig_level_at};
 ghost use Rattle.state.specs.Lent.{lent_board, SameLoan};
+ghost use Rattle.sys.specs.Moves.{Moves};
 ghost use Rattle.outputs.specs.Outputs.{Driven, level_driven, DrivenOne};
 
 use book::LentBook;
+use gpio::Edge;
 use state::{LentBoard, TimerIndex};
 use tim::{CH1, CH2, CH3, CH4, Timer};
 
@@ -30,10 +32,28 @@ fn move_channel(board: &mut LentBoard<'_>, book: &mut LentBook<'_>, s: usize, le
     book.append(change, at);
 }
 
-// Signal s, of channel ch, at a level, if the timer has that channel, and its level change into the book at a cycle. A signal that has its level is
-// looked at where this is compiled in. Seven parameters: a struct of them would be put together at each of the four calls and taken apart here.
+// Signal s, of channel ch, at a level, if the timer has that channel.
+pub fn drive_channel(
+    board: &mut LentBoard<'_>,
+    channels: u32,
+    ch: u32,
+    s: usize,
+    level: bool,
+) -> Option<Edge>
+    requires { s < 256 }
+    ensures same_loan { SameLoan board.old board.new }
+    ensures moves { Moves (level_driven channels ch s level (lent_board board.old).pads) (lent_board board.old) (lent_board board.new) result }
+{
+    if ch >= channels {
+        return None;
+    }
+    sys::sig_out(board, s, level as u8)
+}
+
+// The same, and the level change into the book at a cycle. For speed a signal that has its level is looked at where this is compiled in.
+// Seven parameters: a struct of them would be put together at each of the four calls and taken apart here.
 #[inline(always)]
-fn drive_channel(
+fn enter_channel(
     board: &mut LentBoard<'_>,
     book: &mut LentBook<'_>,
     channels: u32,
@@ -73,10 +93,10 @@ pub fn drive_timer(board: &mut LentBoard<'_>, book: &mut LentBook<'_>, t: Timer,
     let s = sig::tim(t.inst.n as u8, 0) as usize;
     let channels = t.inst.channels;
     // Written out: by a loop over the channels an event takes longer.
-    drive_channel(board, book, channels, 0, s, t.output(CH1, cnt), at);
-    drive_channel(board, book, channels, 1, s + 1, t.output(CH2, cnt), at);
-    drive_channel(board, book, channels, 2, s + 2, t.output(CH3, cnt), at);
-    drive_channel(board, book, channels, 3, s + 3, t.output(CH4, cnt), at);
+    enter_channel(board, book, channels, 0, s, t.output(CH1, cnt), at);
+    enter_channel(board, book, channels, 1, s + 1, t.output(CH2, cnt), at);
+    enter_channel(board, book, channels, 2, s + 2, t.output(CH3, cnt), at);
+    enter_channel(board, book, channels, 3, s + 3, t.output(CH4, cnt), at);
 }
 
 // The same of timer i.

@@ -1,3 +1,3 @@
-mod Synced
+pub mod Synced
 pub mod Written
 pub mod Unmoved

@@ -47,8 +47,8 @@ fn wide(call: &[u32], i: usize) -> u64
 // The board, the four arrays of the book that its calls are lent, since C lends a book so, and the answers on their way out.
 #[derive(Drop)]
 struct Session<'a, R: Print> {
-    words: [u64; WORDS],
-    reals: [f64; REALS],
+    words: &'a mut [u64; WORDS],
+    reals: &'a mut [f64; REALS],
     pins: &'a mut [u8; PLACES],
     levels: &'a mut [u8; PLACES],
     cycles: &'a mut [u64; PLACES],
@@ -71,8 +71,8 @@ impl<'a, R: Print> Session<'a, R> {
         let sources = &mut *self.sources;
         let sources = &mut sources[..places];
         let mut board = LentBoard {
-            words: &mut self.words,
-            reals: &mut self.reals,
+            words: &mut *self.words,
+            reals: &mut *self.reals,
         };
         let mut lent = LentBook {
             pins: &mut *pins,
@@ -130,7 +130,8 @@ impl<'a, R: Print> Session<'a, R> {
         }
     }
 
-    // A reader of records: the bytes are the call's words behind its number.
+    // A reader of records: the bytes are the call's words behind its number. Not compiled into `call`, which would clear its 64 KiB of stack at each line.
+    #[inline(never)]
     fn unrecord<F: Fn(&[u8]) -> Record>(&mut self, call: &[u32], read: F) -> Result<(), Failure>
         requires { F.IsAlwaysCallable read }
     {
@@ -207,8 +208,8 @@ fn main(rt: HostRuntime) -> ExitCode {
     blank::clear(&mut board, 1.0, 1.0);
     let mut list = Reader::new();
     let mut session = Session {
-        words,
-        reals,
+        words: &mut words,
+        reals: &mut reals,
         pins: &mut [0; PLACES],
         levels: &mut [0; PLACES],
         cycles: &mut [0; PLACES],

@@ -331,7 +331,9 @@ impl<'a, R: Print> Output<'a, R> {
         self.number(line);
         self.words(": ")?;
         self.words(reason.words())?;
-        self.line_end()
+        // In the room that was made for the reason: it goes out with its line's end.
+        self.put(b'\n');
+        Ok(())
     }
 }
 

@@ -270,6 +270,11 @@ impl Taker for Shift {
     type Lines = Lines;
 
     fn feed(&mut self, lines: &mut Lines, b: u8) -> Result<(), Stop> {
+        match lines.unmoved(b) {
+            Some(Piece::Letter) => return Ok(self.letter(b)?),
+            Some(_) => return Ok(()),
+            None => {}
+        }
         if lines.is_returned(b) {
             self.letter(b'\r')?;
         }

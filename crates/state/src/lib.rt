@@ -6,6 +6,7 @@
 mod index;
 
 ghost use Rattle.std.specs.Prelude.{◌≡◌, true, false, List, [], ◌∷◌, ℕ, ◌+◌, ◌*◌, ◌%◌, ◌<◌, ◌≤◌, ltb, length, drop, Float, IfSome, MatchOption};
+ghost use Rattle.std.specs.Option.{option_map_or};
 ghost use Rattle.std.proofs.Math.Seq.{paste};
 ghost use Rattle.tim.specs.Timer.{Fit};
 ghost use Rattle.gpio.specs.Gpio.{GpioFit};
@@ -293,11 +294,15 @@ pub fn route(words: &[u64; WORDS], s: usize) -> Option<PinIndex>
     Some(PinIndex { n: word as usize })
 }
 
-pub fn set_route(words: &mut [u64; WORDS], s: usize, p: PinIndex)
+// Pin p routes signal s, or none does.
+pub fn set_route(words: &mut [u64; WORDS], s: usize, p: Option<PinIndex>)
     requires { s < 256 }
-    ensures { (x : List Float) → view words.new x ≡ route_set (view words.old x) s p.n }
+    ensures { (x : List Float) → view words.new x ≡ route_set (view words.old x) s (option_map_or (λ i. i.n) p 128) }
 {
-    words[ROUTE + s] = p.n as u64;
+    words[ROUTE + s] = match p {
+        Some(i) => i.n as u64,
+        None => 128,
+    };
 }
 
 // No pin routes signal s.
@@ -305,7 +310,7 @@ pub fn clear_route(words: &mut [u64; WORDS], s: usize)
     requires { s < 256 }
     ensures { (x : List Float) → view words.new x ≡ route_set (view words.old x) s 128 }
 {
-    words[ROUTE + s] = 128;
+    set_route(words, s, None);
 }
 
 pub fn sig_level(words: &[u64; WORDS], s: usize) -> u8

@@ -93,7 +93,7 @@ fn take(words: &mut [u64; WORDS], i: PinIndex, s: u32)
     ensures { (x : List Float) → view words.new x ≡ with_pads (view words.old x) (S.take (view words.old x).pads i.n s) }
 {
     if s != 0 {
-        state::set_route(words, s as usize, i);
+        state::set_route(words, s as usize, Some(i));
     }
 }
 

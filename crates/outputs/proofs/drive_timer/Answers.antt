@@ -8,4 +8,4 @@ returns-then-not-contains-clause-driven c = none-driven c.args.t c.args.cnt c.ar
 pub returns-clause-driven : goal.returns-clause-driven
 returns-clause-driven c =
     four-driven c.args.t c.args.cnt c.args.at _ _ _ _ _ _ _ _ _ _ _ _ _ _ _ (search rules) (search rules) c.tim-s.ensures c.output.ensures c.output-2.ensures c.output-3.ensures c.output-4.ensures
-    c.drive_channel.ensures.driven c.drive_channel-2.ensures.driven c.drive_channel-3.ensures.driven c.drive_channel-4.ensures.driven
+    c.enter_channel.ensures.driven c.enter_channel-2.ensures.driven c.enter_channel-3.ensures.driven c.enter_channel-4.ensures.driven
