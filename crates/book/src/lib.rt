@@ -3,7 +3,7 @@
 
 ghost use Rattle.std.specs.Prelude.{◌≡◌};
 ghost use Prim.Native.Nat.{◌+◌, ◌≤◌};
-ghost use Rattle.book.specs.Book.{puts, entry_of, places, Room};
+ghost use Rattle.book.specs.Book.{put, puts, entry_of, places, Room};
 ghost use Rattle.book.specs.Lent.{slices_of, filled, SameSlices};
 
 use gpio::Edge;
@@ -31,6 +31,20 @@ impl LentBook<'_> {
             .min(self.sources.len())
     }
 
+    // Writes the next entry. Its source may be any byte: `append` gives those that a level has.
+    #[inline(always)]
+    pub fn enter(&mut self, pin: u8, level: u8, source: u8, cycle: u64)
+        requires { Room (self.old.count + 1) (slices_of self.old) }
+        ensures same_slices { SameSlices self.old self.new }
+        ensures entered { filled self.new ≡ put (filled self.old) (record { pin = pin; level = level; cycle = cycle; source = source }) }
+    {
+        let n = self.count;
+        self.pins[n] = pin;
+        self.levels[n] = level;
+        self.sources[n] = source;
+        self.count = writer::append(self.cycles, n, cycle);
+    }
+
     // Writes a level change as the next entry.
     #[tactic(auto, unfolding(crate::specs::Book::entry_of, crate::specs::Book::puts))]
     #[inline(always)]
@@ -41,11 +55,7 @@ impl LentBook<'_> {
         ensures at_most_one { self.new.count ≤ self.old.count + 1 }
     {
         if let Some(edge) = change {
-            let n = self.count;
-            self.pins[n] = edge.pin;
-            self.levels[n] = edge.level;
-            self.sources[n] = edge.source.number();
-            self.count = writer::append(self.cycles, n, cycle);
+            self.enter(edge.pin, edge.level, edge.source.number(), cycle);
         }
     }
 }
