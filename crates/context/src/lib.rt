@@ -82,7 +82,7 @@ pub fn rebook(words: &mut [u64; WORDS], i: TimerIndex, cycle: u64)
     book_due(words, i, due, cycle);
 }
 
-// Timer i takes the tree's divider; a running one is booked anew.
+// Timer i takes the tree's divider; a running one is booked anew. The reals are only read: no bit of them changes.
 pub fn retime(words: &mut [u64; WORDS], reals: &[f64; REALS], i: TimerIndex, cycle: u64)
     requires { cycle < 9223372036854775808 }
     ensures { view words.new reals.now ≡ timer_retimed i.n cycle (view words.old reals.now) }

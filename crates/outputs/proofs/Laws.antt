@@ -110,8 +110,8 @@ one-driven m at b b₁ k k₁ c h w = record { board = h.board; entries = w ∙ 
 
 -- a channel that the timer has not
 pub channel-still : (b : Board) (k : Book) (channels ch s at : ℕ) (l : Bool) → channels ≤ ch → DrivenOne (level_driven channels ch s l b.pads) at b b k k
-unfolding level_driven entry_of puts
-channel-still b k channels ch s at l h = simp (le-ltb ch channels h) (record { board = refl; entries = refl })
+unfolding entry_of puts
+channel-still b k channels ch s at l h = one-driven _ at b b k k None (no-channel b channels ch s l h) refl
 
 -- a signal that moved
 pub channel-driven : (b b₁ : Board) (k k₁ : Book) (channels ch s l₁ at : ℕ) (l : Bool) → ch < channels → l₁ ≡ bit l

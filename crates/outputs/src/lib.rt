@@ -32,7 +32,7 @@ fn move_channel(board: &mut LentBoard<'_>, book: &mut LentBook<'_>, s: usize, le
     book.append(change, at);
 }
 
-// Signal s, of channel ch, at a level, if the timer has that channel.
+// Signal s, of channel ch, at a level, if the timer has that channel; its level change is handed back. A whole timer goes by `enter_channel`.
 pub fn drive_channel(
     board: &mut LentBoard<'_>,
     channels: u32,

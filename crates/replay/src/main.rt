@@ -130,7 +130,7 @@ impl<'a, R: Print> Session<'a, R> {
         }
     }
 
-    // A reader of records: the bytes are the call's words behind its number. Not compiled into `call`, which would clear its 64 KiB of stack at each line.
+    // A reader of records: the bytes are the call's words behind its number. Not compiled into `call`, which would go through its 64 KiB of stack at each line.
     #[inline(never)]
     fn unrecord<F: Fn(&[u8]) -> Record>(&mut self, call: &[u32], read: F) -> Result<(), Failure>
         requires { F.IsAlwaysCallable read }

@@ -1,7 +1,7 @@
 // The call list as text (docs/CALLS.md): numbers read and written digit by digit, words, and the numbers of each call.
 #![tactic(auto)]
 
-ghost use Rattle.std.specs.Prelude.{◌≡◌, ◌+◌, ◌-◌, ◌*◌, ◌≤◌, ◌<◌, ◌^◌, length, min, slice_index_or, [], IfSome, SomeIff, MatchResult};
+ghost use Rattle.std.specs.Prelude.{◌≡◌, ◌≢◌, ◌+◌, ◌-◌, ◌*◌, ◌≤◌, ◌<◌, ◌^◌, length, min, slice_index_or, [], Some, IfSome, SomeIff, MatchResult};
 ghost use Rattle.text.specs.Numbers.{digit_of, next_of, more_of, large_of, first_of, second_of, told_of, start};
 ghost use Rattle.text.specs.Words.{is_space, same_word, call_of, field_of, shapes, number_of, word_of, words_of, reason_of};
 ghost use Rattle.text.specs.Digits.{places_of, last_digits, over, Wrote};
@@ -139,7 +139,7 @@ impl Reading {
         Reading::Empty
     }
 
-    // A byte more of the word. Compiled into the readers: handed on through memory, a digit takes half as long again.
+    // A byte more of the word. Compiled into the readers: handed on through memory, a list of calls takes half as long again.
     #[inline(always)]
     pub fn next(self, b: u8) -> Reading
         ensures { result ≡ next_of self b }
@@ -258,12 +258,13 @@ impl Lines {
         self.line
     }
 
-    // What the next byte is, where it leaves the place as it is: a letter behind a letter, a comment's byte. A reader asks for it first, for speed: these are
-    // most bytes, and without it a comment takes twice and a list of short lines a quarter longer. What parts words, begins a comment or ends a line is at or
-    // below `#`.
+    // What the next byte is, where it leaves the place as it is: a letter among words, a comment's byte. A reader asks for it first, for speed: these are
+    // most bytes, and without it a comment takes up to twice as long. What parts words, begins a comment or ends a line is at or below `#`.
     #[tactic(auto, unfolding(crate::specs::Lines::piece_of, crate::specs::Lines::place_of, crate::specs::Words::is_space))]
     pub fn unmoved(&self, b: u8) -> Option<Piece>
-        ensures { IfSome result (λ piece. (next_piece self.now.place b ≡ piece) × (next_place self.now.place b ≡ self.now.place)) }
+        ensures unmoved { IfSome result (λ piece. (next_piece self.now.place b ≡ piece) × (next_place self.now.place b ≡ self.now.place)) }
+        ensures letter { self.now.place ≡ Place.Words → 35 < b → result ≡ Some Piece.Letter }
+        ensures comment { self.now.place ≡ Place.Comment → b ≢ 10 → result ≡ Some Piece.Nothing }
     {
         match self.place {
             Place::Words if b'#' < b => Some(Piece::Letter),
